@@ -25,7 +25,8 @@
  * than C asks. A `metronome` that was never set is answered with BAD_HANDLE, unless it has by chance the one value that the
  * library leaves in an open one. What a call writes through a pointer needs no value before.
  *
- * MEMORY comes from malloc by metronome_create and goes back by metronome_destroy; no other call asks for any.
+ * MEMORY comes from malloc by metronome_create and goes back by metronome_destroy; no other call asks for any. A page is cleared
+ * when an object is first made on it, or by metronome_touch.
  *
  * Slots can be managed by frames, and the collector by a pace: both are in metronome_over_calls.h, which this header includes
  * unless METRONOME_CALLS_ALONE is defined.
@@ -65,13 +66,13 @@ typedef struct metronome {
 
 /* The settings of a heap, each with its range. METRONOME_SETTINGS fills in the defaults of the others. */
 typedef struct metronome_settings {
-    int64_t pages;           /* 1 to 4096: pages of 2048 words of 8 bytes */
+    int64_t pages;           /* 1 to 1048576: pages of 2048 words of 8 bytes. A configuration file goes up to 4096 */
     int64_t mutators;        /* 1 to 64 */
     int64_t slots;           /* 1 to 256: slots of each mutator */
     int64_t statics;         /* 0 to 256; default 0 */
     int64_t identities;      /* 1 to INT64_MAX, the default: the greatest identity that is given */
-    int64_t defrag_below;    /* 0 to 4097: a sweep that leaves fewer free pages is followed by moving; default 0 */
-    int64_t defrag_pages;    /* 0 to 4096: pages that a cycle empties at most; default 0 */
+    int64_t defrag_below;    /* 0 to 1048577: a sweep that leaves fewer free pages is followed by moving; default 0 */
+    int64_t defrag_pages;    /* 0 to 1048576: pages that a cycle empties at most; default 0 */
     int64_t collector_ticks; /* 1 to 1000000; default 10. This and the next two only go into a schedule: nothing but their */
     int64_t mutator_ticks;   /* 1 to 1000000; default 12. ranges and metronome_cycle_limit use them here */
     int64_t rate;            /* 1 to 1000000; default 100. collector_ticks * rate is 256 to 1000000 */
@@ -190,6 +191,14 @@ uint32_t metronome_create_for(metronome *heap, const metronome_settings *setting
 METRONOME_NONNULL static inline uint32_t metronome_create(metronome *heap, const metronome_settings *settings) {
     return metronome_create_for(heap, settings, METRONOME_VERSION);
 }
+
+/* Touches the first `pages` pages, or all where there are fewer: it clears those that were neither used nor touched before.
+ * Nothing else changes, and no unit is spent. A page that wasn't touched is cleared, 16 KB, by the call that makes the first
+ * object on it, and that call takes the operating system's page faults too. The lowest free page is used first, so freed pages
+ * are used again before new ones. A program that can't have this in a metronome_new touches its pages once, at its start. So
+ * does one that wants to know there whether the memory is to be had: malloc may grant more than the machine has, and the system
+ * then ends the program that uses it. It takes time by the pages. OK, NO_HEAP. */
+uint32_t metronome_touch(metronome *heap, size_t pages) METRONOME_NONNULL;
 
 /* Gives the memory of a heap back. The handle is closed then, and may be used for another. Where it holds none nothing is
  * done. */

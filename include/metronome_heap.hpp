@@ -125,6 +125,9 @@ public:
         return METRONOME_OK;
     }
 
+    // Clears the first pages, this many or all, before they are used.
+    std::uint32_t try_touch(std::size_t pages) noexcept { return metronome_touch(handle(), pages); }
+
     // BUSY where a cycle is running already.
     std::uint32_t try_begin() noexcept { return metronome_begin(handle()); }
     std::uint32_t try_quantum(std::uint32_t budget, metronome_spent &spent) noexcept {
@@ -148,6 +151,8 @@ public:
 
 #ifdef __cpp_exceptions
     explicit Heap(const metronome_settings &settings) { detail::need(try_open(settings)); }
+
+    void touch(std::size_t pages) { detail::need(try_touch(pages)); }
 
     // Whether a cycle began: none was running.
     bool begin() {

@@ -78,17 +78,24 @@ typedef struct metronome_pacing {
 
 #define METRONOME_PACING(begin_below, words, budget) { (begin_below), (words), (budget), 0 }
 
-/* Tells the pace that `words` words are about to be made; an object of n cells takes n + 4. Each time that the pace's number of
- * words is reached, it begins a cycle if none is running and too few pages are free, and spends a quantum of the cycle that is
- * running. A program calls it before each new object. It takes no longer than a quantum, but where more words come at once than
- * the pace has for one: an array of many words owes many quanta.
+/* Tells the pace that `words` words are about to be made; an object of n cells takes n + 4, and an array 4 more for each 252 of
+ * its cells, and its spines (docs/MANUAL.md). Each time that the pace's number of words is reached, it begins a cycle if none
+ * is running and too few pages are free, and spends a quantum of the cycle that is running. A program calls it before each new
+ * object. It takes no longer than a quantum, but where more words come at once than the pace has for one: an array of many
+ * words owes many quanta.
  *
- * HOW TO CHOOSE THE NUMBERS. The budget is the longest pause of the collector: a unit takes some 5 to 10 ns on a processor of
- * 2.5 GHz. A cycle takes at most Q quanta of it, as metronome.h says. Of blocks of one size at most B are made between two
- * quanta: those for which `words` have room, and one more. No object is refused for lack of space where begin_below pages have
- * room for L + (2 * Q + 1) * B blocks of each size, of which live objects need L, and for 1 + defrag_pages pages of each size
- * besides. In short, with a budget of 1000 or more, a few sizes, no moving, and half of the pages live:
- * words = (budget - 255) / 20 and begin_below = pages.
+ * HOW TO CHOOSE THE NUMBERS. The budget is the longest pause of the collector, in units; what mutators recorded since the last
+ * quantum, at most 64 references each, comes before these. No time of a unit is promised. In the longest quantum of 256 units
+ * on each of some heaps made for it, at commit 100eeb26 on a loaded Xeon of 2.5 GHz, one took 137 ns where 512 pages of large
+ * objects were marked, 60 ns where 64 mutators had 64 records each, 29 ns where pages with an object each were emptied, 14 ns
+ * where large blocks were freed, and 1 to 8 ns on the others (docs/PERFORMANCE.md, "The worst quantum"). A cycle takes at most
+ * Q quanta, as metronome.h says. Of blocks of one size at most B are made between two quanta: those for which `words` have
+ * room, and those of one object more, which of an array are all its pieces. No object is refused for lack of space where
+ * begin_below pages have room for L + (2 * Q + 1) * B blocks of each size, of which live objects need L, and for 1 +
+ * defrag_pages pages of each size besides. In short, with a budget of 1000 or more, a few sizes, no moving, and half of the
+ * pages live: words = (budget - 255) / 20 and begin_below = pages. That is reckoned for the worst program, and dear: GCBench of
+ * depth 13 on 4096 pages took 1,351 ns a node with it, and 62 ns with (budget - 255) / 8 and pages / 2, both with a budget of
+ * 1000.
  *
  * For a program's own numbers, record a run (metronome_record.h) of settings whose collector_ticks * rate is the budget.
  * `metronome pages --pace` tells Q, and of each size L, B and what was made between two cycles, and whether the pages suffice;

@@ -154,6 +154,29 @@ static void a_cycle_frees_what_is_dropped(void) {
     metronome_destroy(&h);
 }
 
+/* Pages are touched before and while they are used, and each object reads as it was made. */
+static void touched_pages_are_the_same(void) {
+    static const size_t pages[] = { 0, 1, 3, 4, 5, SIZE_MAX };
+    metronome_settings settings = small();
+    settings.pages = 4;
+    metronome h = opened(settings);
+    for (size_t i = 0; i < sizeof pages / sizeof *pages; i++) {
+        uint64_t free_pages = 7, units = 7;
+        IS(METRONOME_OK, metronome_touch(&h, pages[i]));
+        ANSWERS(MADE, 2 * i + 1, new_plain, 0, 0, 0, 252);
+        ANSWERS(DONE, 0, put, 0, 0, 251, 42);
+        IS(METRONOME_OK, metronome_touch(&h, pages[i]));
+        ANSWERS(WORD, 42, get, 0, 0, 251);
+        ANSWERS(MADE, 2 * i + 2, new_plain, 0, 1, 0, 1);
+        ANSWERS(WORD, 0, get, 0, 1, 0);
+        IS(METRONOME_OK, metronome_free_pages(&h, &free_pages));
+        IS(2, free_pages);
+        IS(METRONOME_OK, metronome_units(&h, &units));
+        IS(0, units);
+    }
+    metronome_destroy(&h);
+}
+
 static void budgets_are_tested(void) {
     static const uint32_t budgets[] = { 0, 255, 1000001 };
     metronome h = opened(small());
@@ -184,12 +207,39 @@ static void objects_are_counted(void) {
 
 /* Each setting out of its range, with the place that tells it, in the order of the settings. */
 static void settings_are_refused_in_turn(void) {
-    static const int64_t faulty[] = { 4097, 65, 257, 257, 0, 4098, 4097, 1000001, 1000001, 1000001, 3 };
+    static const int64_t faulty[] = { 1048577, 65, 257, 257, 0, 1048578, 1048577, 1000001, 1000001, 1000001, 3 };
     metronome h = METRONOME_CLOSED;
     for (uint32_t place = 0; place <= 10; place++) {
         metronome_settings settings = small();
         (&settings.pages)[place] = faulty[place];
         IS(METRONOME_BAD_SETTING + place, metronome_create(&h, &settings));
+        ANSWERS(REFUSED, METRONOME_NO_HEAP, get, 0, 0, 0);
+    }
+}
+
+/* More pages than a configuration file may ask for: arrays of 4000000 words, of 1985 pages and more each, fill most of
+ * them, and are still there after a cycle with moving. */
+static void large_heaps_are_made_and_used(void) {
+    static const int64_t pages[] = { 4097, 8192 };
+    for (size_t row = 0; row < sizeof pages / sizeof *pages; row++) {
+        metronome_settings settings = small();
+        settings.pages = pages[row];
+        settings.defrag_below = pages[row] + 1;
+        settings.defrag_pages = pages[row];
+        metronome h = opened(settings);
+        const uint32_t arrays = (uint32_t)pages[row] / 2048;
+        for (uint32_t slot = 0; slot < arrays; slot++) {
+            ANSWERS(MADE, slot + 1, new_words, 0, slot, 4000000);
+            ANSWERS(DONE, 0, put, 0, slot, 3999999, 40 + slot);
+        }
+        metronome_counts counts = { 7, 7, 7, 7, 7, 7, 7 };
+        IS(METRONOME_OK, metronome_count(&h, &counts));
+        check(counts.pages == (uint64_t)pages[row] && counts.free_pages < 256, __LINE__);
+        IS(METRONOME_OK, metronome_whole_cycle(&h, 1000000));
+        for (uint32_t slot = 0; slot < arrays; slot++) {
+            ANSWERS(WORD, 40 + slot, get, 0, slot, 3999999);
+        }
+        metronome_destroy(&h);
         ANSWERS(REFUSED, METRONOME_NO_HEAP, get, 0, 0, 0);
     }
 }
@@ -237,6 +287,7 @@ static void nothing_is_told_of_a_closed_handle(void) {
     metronome_spent spent = { 7, 7 };
     const metronome_counts before = { 7, 7, 7, 7, 7, 7, 7 };
     metronome_counts counts = before;
+    IS(METRONOME_NO_HEAP, metronome_touch(&h, 1));
     IS(METRONOME_NO_HEAP, metronome_begin(&h));
     IS(METRONOME_NO_HEAP, metronome_quantum(&h, 256, &spent));
     IS(METRONOME_NO_HEAP, metronome_phase(&h, &phase));
@@ -270,9 +321,11 @@ int main(void) {
     mutators_join_and_leave();
     sizes_are_tested();
     a_cycle_frees_what_is_dropped();
+    touched_pages_are_the_same();
     budgets_are_tested();
     objects_are_counted();
     settings_are_refused_in_turn();
+    large_heaps_are_made_and_used();
     a_destroyed_heap_may_be_made_anew();
     commands_of_a_closed_handle_are_refused();
     nothing_is_told_of_a_closed_handle();

@@ -83,6 +83,7 @@ static uint64_t cycles;
 static void open_memory(void) {
     metronome_settings settings = METRONOME_SETTINGS(PAGES, 1, SLOTS);
     need(metronome_create(&heap, &settings) == METRONOME_OK, "no heap");
+    need(metronome_touch(&heap, PAGES) == METRONOME_OK, "pages not touched");
     need(metronome_new_refs(&heap, 0, CELLS, LIVE).kind == METRONOME_MADE, "no room for the array");
 }
 

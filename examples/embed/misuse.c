@@ -50,11 +50,11 @@ static int refused_commands(metronome *h, uint32_t status, struct told *told) {
     return refused;
 }
 
-/* How many of the other calls tell a status: they are 8. */
+/* How many of the other calls tell a status: they are 9. */
 static int refused_calls(metronome *h, uint32_t status, struct told *told) {
     metronome_pacing pacing = METRONOME_PACING(1, 1, 256);
     metronome_row row = METRONOME_ROW(0, 1, 2);
-    return (metronome_begin(h) == status) + (metronome_quantum(h, 256, &told->spent) == status)
+    return (metronome_touch(h, 1) == status) + (metronome_begin(h) == status) + (metronome_quantum(h, 256, &told->spent) == status)
         + (metronome_phase(h, &told->phase) == status) + (metronome_units(h, &told->number) == status)
         + (metronome_free_pages(h, &told->number) == status) + (metronome_count(h, &told->counts) == status)
         + (metronome_page(h, 0, &told->page) == status)
@@ -70,7 +70,7 @@ static void nothing_is_done(metronome *h, uint32_t status) {
     memset(&told, 7, sizeof told);
     memset(&stood, 7, sizeof stood);
     check(refused_commands(h, status, &told) == 18, __LINE__);
-    check(refused_calls(h, status, &told) == 8, __LINE__);
+    check(refused_calls(h, status, &told) == 9, __LINE__);
     check(memcmp(&told, &stood, sizeof told) == 0, __LINE__);
     metronome_destroy(h);
     check(memcmp(&before, h, sizeof before) == 0, __LINE__);

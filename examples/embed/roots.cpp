@@ -29,6 +29,7 @@ static void check_heaps() {
     Heap heap;
     std::optional<Mutator> mutator;
     std::uint64_t pages = 7;
+    IS(METRONOME_NO_HEAP, heap.try_touch(4));
     IS(METRONOME_NO_HEAP, heap.try_begin());
     IS(METRONOME_NO_HEAP, heap.try_free_pages(pages));
     IS(METRONOME_NO_HEAP, Mutator::try_join(heap, 0, mutator));
@@ -45,6 +46,7 @@ static void check_heaps() {
     IS(METRONOME_OPEN, heap.try_open(SETTINGS));
     Heap moved = std::move(heap);
     IS(METRONOME_NO_HEAP, heap.try_free_pages(pages)); // NOLINT: what was moved away is closed
+    IS(METRONOME_OK, moved.try_touch(4));
     IS(METRONOME_OK, moved.try_free_pages(pages));
     CHECK(pages == 4);
 }
@@ -186,6 +188,7 @@ static void check_throwing() {
     mutator.store_static(0, list);
     CHECK(mutator.load_static(0).same(list) && !mutator.compare_static(0, mutator.null(), list));
     CHECK(heap.begin() && !heap.begin() && heap.quantum(256).units > 0 && heap.phase() != METRONOME_IDLE && heap.units() > 0);
+    heap.touch(5);
     heap.whole_cycle(1000);
     CHECK(heap.free_pages() == 3 && heap.count().objects == 3);
     CHECK(heap.page(0).size == 6 && heap.page(0).held == 3 && heap.page(1).size == 0);

@@ -17,7 +17,7 @@ CODE = [
     ("include", ("",)),
 ]
 # (a folder of tests/, but for the cases)
-TESTS = ("runner", "traces")
+TESTS = ("runner", "traces", "work")
 
 
 def sources(top):

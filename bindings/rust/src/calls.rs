@@ -24,7 +24,7 @@ impl Handle {
 #[repr(C)]
 #[derive(Clone, Copy, Debug, PartialEq, Eq)]
 pub struct Settings {
-    /// 1 to 4096: pages of 2048 words of 8 bytes.
+    /// 1 to 1048576: pages of 2048 words of 8 bytes. A configuration file goes up to 4096.
     pub pages: i64,
     /// 1 to 64.
     pub mutators: i64,
@@ -34,9 +34,9 @@ pub struct Settings {
     pub statics: i64,
     /// 1 to `i64::MAX`: the greatest identity that is given to an object.
     pub identities: i64,
-    /// 0 to 4097: a sweep that leaves fewer free pages is followed by moving.
+    /// 0 to 1048577: a sweep that leaves fewer free pages is followed by moving.
     pub defrag_below: i64,
-    /// 0 to 4096: pages that a cycle empties at most.
+    /// 0 to 1048576: pages that a cycle empties at most.
     pub defrag_pages: i64,
     /// 1 to 1000000. This and the next two only go into a schedule.
     pub collector_ticks: i64,
@@ -176,6 +176,7 @@ pub struct CycleLimit {
 
 extern "C" {
     pub(crate) fn metronome_create_for(heap: *mut Handle, settings: *const Settings, version: u32) -> u32;
+    pub(crate) fn metronome_touch(heap: *mut Handle, pages: usize) -> u32;
     pub(crate) fn metronome_destroy(heap: *mut Handle);
     pub(crate) fn metronome_new_plain(heap: *mut Handle, mutator: u32, dst: u32, refs: u32, words: u32) -> Answer;
     pub(crate) fn metronome_new_refs(heap: *mut Handle, mutator: u32, dst: u32, refs: u32) -> Answer;

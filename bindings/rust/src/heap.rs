@@ -66,13 +66,20 @@ impl Pacing {
 }
 
 impl Heap {
-    /// Makes a heap, with all the memory that it will ever use. Refused: `BadSetting`, `BadSchedule`, `NoMemory`,
-    /// `OtherVersion`.
+    /// Makes a heap, with all the memory that it will ever use; a page is cleared when it is first used, or by `touch`.
+    /// Refused: `BadSetting`, `BadSchedule`, `NoMemory`, `OtherVersion`.
     pub fn new(settings: &Settings) -> Result<Heap> {
         let mut handle = Handle::CLOSED;
         // SAFETY: both live through the call, and the handle is closed.
         done(unsafe { calls::metronome_create_for(&mut handle, settings, calls::VERSION) })?;
         Ok(Heap { handle: UnsafeCell::new(handle), slots: settings.slots as u32, used: Cell::new(0) })
+    }
+
+    /// Clears the first `pages` pages, or all where there are fewer, so that no later call has to: `usize::MAX` for all. Nothing
+    /// else changes.
+    pub fn touch(&self, pages: usize) {
+        // SAFETY: the heap is open, and lives through the call.
+        unsafe { calls::metronome_touch(self.handle(), pages) };
     }
 
     /// Mutator `number`, which is live until it goes out of scope. Refused: `AlreadyLive` where there is one of that number,

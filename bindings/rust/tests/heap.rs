@@ -118,6 +118,8 @@ fn refusals_are_told() -> Result<()> {
 #[test]
 fn cycles_go_by_quanta() -> Result<()> {
     let heap = Heap::new(&SMALL)?;
+    heap.touch(2);
+    heap.touch(usize::MAX);
     assert_eq!((heap.phase(), heap.units(), heap.free_pages()), (Phase::Idle, 0, 4));
     assert!(heap.begin() && !heap.begin());
     let spent = heap.quantum(256)?;

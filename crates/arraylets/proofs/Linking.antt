@@ -22,10 +22,10 @@ use Rattle.arraylets.specs.Made.{LinksPart}
 
 -- the links stay where nothing is done, and after two steps, each of which keeps them
 pub links_same : (s : Store) → KeepsLinks s s
-links_same s = record { len = refl; each = λ b h. refl }
+links_same s = record { len = omega arith; each = λ b h. refl }
 
 pub links_then : (s t u : Store) → ((b : ℕ) → is_allocated s b ≡ true → is_allocated t b ≡ true) → KeepsLinks s t → KeepsLinks t u → KeepsLinks s u
-links_then s t u still x y = record { len = y.len ∙ x.len; each = λ b h. y.each b (still b h) ∙ x.each b h }
+links_then s t u still x y = record { len = omega (arith, x.len, y.len); each = λ b h. y.each b (still b h) ∙ x.each b h }
 
 -- a block stays allocated where another is added
 pub added_allocated : (s t : Store) (a : ℕ) (block : BlockRecord) → Adds s t a block → (b : ℕ) → is_allocated s b ≡ true → is_allocated t b ≡ true
@@ -237,10 +237,10 @@ module _ (old s t : Store) (shape : Shape) (colour : Bool) (id : ℕ) (spines sp
     }
 
 pub first_within : (spines spines' : List ℕ) (part address : ℕ) → (part < 64 → get_or spines' part 0 ≡ address) → ((p : ℕ) → p ≢ part → get_or spines' p 0 ≡ get_or spines p 0)
-    → get_or spines 0 0 ≤ 8388608 → address ≤ 8388608 → get_or spines' 0 0 ≤ 8388608
+    → get_or spines 0 0 ≤ 2147483648 → address ≤ 2147483648 → get_or spines' 0 0 ≤ 2147483648
 first_within spines spines' part address here others first this = elim (same_or 0 part) [
-  | inl e ↦ subst (λ z. z ≤ 8388608) (sym (subst (λ k. get_or spines' k 0 ≡ address) (sym e) (here (omega arith)))) this
-  | inr d ↦ subst (λ z. z ≤ 8388608) (sym (others 0 d)) first
+  | inl e ↦ subst (λ z. z ≤ 2147483648) (sym (subst (λ k. get_or spines' k 0 ≡ address) (sym e) (here (omega arith)))) this
+  | inr d ↦ subst (λ z. z ≤ 2147483648) (sym (others 0 d)) first
 ]
 
 -- all parts are made

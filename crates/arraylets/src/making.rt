@@ -45,7 +45,7 @@ fn make_part(
         × TakesBlock nodes.old.pages class (result / 2048) index nodes.new.pages }
     ensures room { has_room nodes.new.pages (needed_from (cells_of shape) (part + 1) (parts_in (cells_of shape)))
         ≡ true }
-    ensures within { result ≤ 8388608 }
+    ensures within { result ≤ 2147483648 }
     ensures links { KeepsLinks nodes.old nodes.new }
 {
     let words = parts.words(part);
@@ -60,7 +60,7 @@ fn make_part(
 fn link(nodes: &mut Nodes, parts: &Parts, spines: &Spines, part: u32, block: usize)
     requires few { parts.now ≤ ARRAY_CELLS }
     requires part { part < parts_in parts.now }
-    requires within { block ≤ 8388608 }
+    requires within { block ≤ 2147483648 }
     requires allocated { 0 < part → is_allocated nodes.old (slice_index spines.now (spine_of parts.now part)) ≡ true }
     requires cells { 0 < part → length (record_of nodes.old (slice_index spines.now (spine_of parts.now part))).cells
         ≡ part_cells parts.now (spine_of parts.now part) }
@@ -96,7 +96,7 @@ fn make_parts(nodes: &mut Nodes, shape: Shape, parts: &Parts, colour: bool, iden
     requires room { has_room nodes.old.pages (needed_from (cells_of shape) 0 (parts_in (cells_of shape))) ≡ true }
     ensures made { (at : ℕ → ℕ) × (at 0 ≡ result) × MakesObject nodes.old shape colour identity at nodes.new
         × Takes (cells_of shape) at nodes.old.pages (parts_in (cells_of shape)) nodes.new.pages }
-    ensures within { result ≤ 8388608 }
+    ensures within { result ≤ 2147483648 }
     ensures links { KeepsLinks nodes.old nodes.new }
 {
     let mut spines: Spines = [0; SPINES];
@@ -116,7 +116,7 @@ pub fn new_object(nodes: &mut Nodes, shape: Shape, colour: bool, identity: u64) 
     requires room { has_room nodes.old.pages (needed shape) ≡ true }
     ensures made { (at : ℕ → ℕ) × (at 0 ≡ result) × MakesObject nodes.old shape colour identity at nodes.new
         × Takes (cells_of shape) at nodes.old.pages (parts_in (cells_of shape)) nodes.new.pages }
-    ensures within { result ≤ 8388608 }
+    ensures within { result ≤ 2147483648 }
     ensures links { KeepsLinks nodes.old nodes.new }
 {
     let parts = parts_of(&shape).unwrap();

@@ -1,7 +1,7 @@
 //! What the tests share: settings, and commands.
 use graph_heap::{Command, Shape};
 use machine::Event;
-use settings::{Config, Settings};
+use settings::{Config, Ranges, Settings};
 use std::process::Abort;
 
 mod heaps;
@@ -36,7 +36,7 @@ const MANY_SLOTS: Settings = Settings {
 
 /// The configuration of settings.
 fn config_of(rt: &impl Abort, settings: &Settings) -> Config {
-    let Ok(config) = Config::check(settings) else {
+    let Ok(config) = Config::check(Ranges::Library, settings) else {
         panic!(rt; "the settings are good");
     };
     config

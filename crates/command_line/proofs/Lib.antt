@@ -3,3 +3,4 @@ mod Faults
 mod Members
 mod Values
 mod Found
+mod Subcommands

@@ -4,6 +4,7 @@ use Rattle.std.specs.Option.{unwrap_or}
 use Rattle.std.specs.List.{list_any}
 use Rattle.std.specs.Str.{bytes_eq}
 use Rattle.settings.specs.declared.config.Config.{Config}
+use Rattle.settings.specs.declared.ranges.Ranges.TheVariants.{File}
 use Rattle.settings.specs.declared.key.Key.{Key}
 use Rattle.settings.specs.declared.key.Key.TheVariants as keys_of_files
 use Rattle.settings.specs.declared.key.TheConstants.Key.{ALL}
@@ -27,7 +28,7 @@ has_unknown_key document = any_member (λ name value. not (is_known name)) docum
 
 -- the number at a key, or its default, in a file with this number of mutators
 abbrev pub number_in : ℤ → Key → Option Data → ℤ
-number_in mutators key None = unwrap_or (row_of mutators key).default (pos 0)
+number_in mutators key None = unwrap_or (row_of File mutators key).default (pos 0)
 number_in mutators key (Some value) = unwrap_or (as_integer value) (pos 0)
 
 -- the document's number of mutators, or 0 where it has none; the row of this key doesn't ask for it
@@ -37,11 +38,11 @@ mutators_of document = number_in (pos 0) keys_of_files.Mutators (get_member (nam
 -- what is wrong with a whole number at a key, or with what is none
 abbrev pub number_fault : ℤ → Key → Option ℤ → Option ConfigFault
 number_fault mutators key None = Some (faults.NotWhole key)
-number_fault mutators key (Some n) = if is_allowed mutators key n then None else Some (faults.OutOfRange key)
+number_fault mutators key (Some n) = if is_allowed File mutators key n then None else Some (faults.OutOfRange key)
 
 -- what is wrong with what stands at a key
 abbrev pub value_fault : ℤ → Key → Option Data → Option ConfigFault
-value_fault mutators key None = if is_some (row_of mutators key).default then None else Some (faults.Missing key)
+value_fault mutators key None = if is_some (row_of File mutators key).default then None else Some (faults.Missing key)
 value_fault mutators key (Some value) = number_fault mutators key (as_integer value)
 
 -- what is wrong with a key of a document
@@ -54,7 +55,7 @@ number_for document key = number_in (mutators_of document) key (get_member (name
 
 -- some number is in the range of a key; of `live`, there is no negative number of mutators
 abbrev pub HasRange : Members → Key → Type 0
-HasRange document key = pos (row_of (mutators_of document) key).least ≤ℤ (row_of (mutators_of document) key).greatest
+HasRange document key = pos (row_of File (mutators_of document) key).least ≤ℤ (row_of File (mutators_of document) key).greatest
 
 -- the settings that a document asks for
 abbrev pub settings_of : Members → Settings

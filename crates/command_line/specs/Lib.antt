@@ -1,4 +1,5 @@
 pub mod Document
 pub mod Job
+pub mod Program
 pub mod TomlTable
 pub mod Words

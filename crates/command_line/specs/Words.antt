@@ -1,15 +1,19 @@
--- Which job a subcommand and the values of its arguments ask for. Which these are in the words of a command line is what
--- clap finds.
-use Rattle.std.specs.Prelude.{◌≡◌, ℕ, Bool, true, false, List, [], Option, Some, None, Ok, Err, unwrap_or, codes}
+-- Which job a subcommand and the values of its arguments ask for. Which these are in the words of a command line, is what
+-- clap says of the program's rows.
+use Rattle.std.specs.Prelude.{◌≡◌, ◌⊎◌, ℕ, Bool, true, false, List, [], Option, Some, None, Ok, Err, unwrap_or, codes}
 use Rattle.std.specs.List.{AllZip}
 use Rattle.std.specs.Str.Parse.{ParsesUnsigned}
-use Rattle.clap.specs.Words.{Text, Row, first_of, one_of, all_of}
+use Rattle.clap.specs.Words.{Text, Row, first_of, one_of, all_of, subcommand_of, fault_of, IsAmong}
+use Rattle.clap.specs.declared.error.kind.ErrorKind.TheVariants.{DisplayHelp, DisplayVersion}
 use Rattle.command_line.specs.declared.job.Job.{Job}
 use Rattle.command_line.specs.declared.job.Job.TheVariants.{Play, Check, Threads, Inspect, Cycles, Path, Mmu, Pages}
 use Rattle.command_line.specs.declared.job.Request.{Request}
 use Rattle.command_line.specs.declared.job.Sizing.{Sizing}
 use Rattle.command_line.specs.declared.job.Sizing.TheVariants.{Demand, Pace, Load}
+use Rattle.command_line.specs.declared.fault.WordsFault.{WordsFault}
+use Rattle.command_line.specs.declared.fault.WordsFault.TheVariants.{Help}
 use Rattle.command_line.specs.Job.{IsDrawing, report_name}
+use Rattle.command_line.specs.Program.{metronome}
 
 -- the number below 2 ^ bits in a text, where there is a text with one
 abbrev pub IsNumber : ℕ → Option Text → Option ℕ → Type 0
@@ -71,6 +75,25 @@ pub record AsksFor (name : Text) (rows : List Row) (request : Request) : Type 0 
   pub job : Asks name rows request.job
   pub progress : IsFlag (one_of (codes "progress") rows) request.progress
 
--- some subcommand and some values of its arguments ask for a request
+-- The words of a command line ask for a request: what they give of the program's subcommands and their arguments asks for
+-- it.
+abbrev pub IsAskedForBy : List Text → Request → Type 0
+IsAskedForBy words request = (name : Text) × (rows : List Row) × (subcommand_of metronome words ≡ Some (name, rows))
+    × AsksFor name rows request
+
+-- some words ask for a request
 abbrev pub IsAskedFor : Request → Type 0
-IsAskedFor request = (name : Text) × (rows : List Row) × AsksFor name rows request
+IsAskedFor request = (words : List Text) × IsAskedForBy words request
+
+-- the words of a command line ask for help, or for the version
+abbrev pub AsksForHelp : List Text → Type 0
+AsksForHelp words = IsAmong DisplayHelp (fault_of metronome words) ⊎ IsAmong DisplayVersion (fault_of metronome words)
+
+-- why words give no request is that help is given
+abbrev pub IsHelp : WordsFault → Type 0
+IsHelp (Help text) = Unit {0}
+IsHelp fault = ⊥
+
+-- help is given only to words that ask for it
+abbrev pub HelpIsAskedFor : List Text → WordsFault → Type 0
+HelpIsAskedFor words fault = IsHelp fault → AsksForHelp words

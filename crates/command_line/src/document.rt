@@ -1,6 +1,7 @@
 //! The configuration file.
 ghost use Rattle.std.specs.Prelude.{◌≡◌, true, None, IfOk};
 ghost use Rattle.std.specs.Result.{result_err};
+ghost use Rattle.settings.specs.declared.ranges.Ranges.TheVariants.{File};
 ghost use Rattle.settings.specs.Keys.{is_allowed};
 ghost use Rattle.settings.specs.Config.{first_outside, IsOf};
 ghost use Rattle.toml.specs.View.{table_view};
@@ -8,7 +9,7 @@ ghost use Rattle.command_line.specs.Document.{IsRead, is_known, has_unknown_key,
 ghost use Rattle.command_line.specs.TomlTable.{first_some};
 
 use crate::toml_table::{ReadFault, any_member, open_document};
-use settings::{Config, ConfigFault, Key, Settings};
+use settings::{Config, ConfigFault, Key, Ranges, Settings};
 use std::alloc::Global;
 use toml::Table;
 
@@ -54,7 +55,7 @@ fn is_known(name: &str) -> bool
 fn settings_in(document: &Table) -> Result<Settings, ConfigFault>
     ensures fault { result_err result ≡ first_some (keys_faults (table_view document.now)) }
     ensures values { IfOk result (λ s. s ≡ settings_of (table_view document.now)) }
-    ensures ranges { IfOk result (λ s. first_outside s ≡ None) }
+    ensures ranges { IfOk result (λ s. first_outside File s ≡ None) }
 {
     Ok(Settings {
         pages: number_at(document, Key::Pages)?,
@@ -86,14 +87,17 @@ fn number_at(document: &Table, key: Key) -> Result<i64, ConfigFault>
     ensures fault { result_err result ≡ key_fault (table_view document.now) key }
     ensures value { IfOk result (λ n. n ≡ number_for (table_view document.now) key) }
     ensures within { HasRange (table_view document.now) key
-        → IfOk result (λ n. is_allowed (mutators_of (table_view document.now)) key n ≡ true) }
+        → IfOk result (λ n. is_allowed File (mutators_of (table_view document.now)) key n ≡ true) }
 {
     let mutators = mutators_in(document);
     let Some(value) = document.get(key.name()) else {
-        return key.row(mutators).default.ok_or(ConfigFault::Missing(key));
+        return key
+            .row(Ranges::File, mutators)
+            .default
+            .ok_or(ConfigFault::Missing(key));
     };
     match value.as_integer() {
-        Some(number) if key.allows(mutators, number) => Ok(number),
+        Some(number) if key.allows(Ranges::File, mutators, number) => Ok(number),
         Some(_) => Err(ConfigFault::OutOfRange(key)),
         None => Err(ConfigFault::NotWhole(key)),
     }

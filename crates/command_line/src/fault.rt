@@ -1,6 +1,15 @@
 //! Why a command line is refused.
 use thiserror::Error;
 
+/// Why the words of a subcommand give no job.
+#[derive(Drop)]
+pub enum Refusal {
+    /// They are refused: the text for the user.
+    Refused(String),
+    /// Memory was refused while they were read.
+    NoMemory,
+}
+
 /// Why words give no job.
 #[derive(Debug, PartialEq, Eq, Drop, Error)]
 pub enum WordsFault {
@@ -13,4 +22,17 @@ pub enum WordsFault {
     /// Memory was refused while the words were read.
     #[error("no memory")]
     NoMemory,
+}
+
+impl From<Refusal> for WordsFault {
+    ghost use Rattle.command_line.specs.Words.{IsHelp};
+
+    ghost from_gives = { λ why fault. IsHelp fault → ⊥ };
+
+    fn from(why: Refusal) -> WordsFault {
+        match why {
+            Refusal::Refused(text) => WordsFault::Refused(text),
+            Refusal::NoMemory => WordsFault::NoMemory,
+        }
+    }
 }

@@ -1,14 +1,14 @@
 //! The words of the command line.
-ghost use Rattle.std.specs.Prelude.{◌≡◌, ◌<◌, ◌≤◌, None, IfOk, OnOk, length};
+ghost use Rattle.std.specs.Prelude.{◌≡◌, ◌≢◌, ◌⊎◌, ◌<◌, ◌≤◌, None, IfOk, IfErr, OnOk, length};
 ghost use Rattle.std.specs.List.{All, Any};
 ghost use Rattle.std.specs.Prelude.{[], Some, codes, map, option_map, unwrap_or};
 ghost use Rattle.std.specs.List.{AllZip};
-ghost use Rattle.clap.specs.Words.{found_of, rows_of, first_of, one_of, all_of};
+ghost use Rattle.clap.specs.Words.{found_of, rows_of, first_of, one_of, all_of, kind_of};
 ghost use Rattle.command_line.specs.Job.{IsDrawing, IsInRange, IsWindow, picture_name, report_name};
-ghost use Rattle.command_line.specs.Words.{Asks, AsksFor, file_argument, IsFlag, IsNumber, IsSizing, IsAskedFor};
+ghost use Rattle.command_line.specs.Words.{Asks, AsksFor, file_argument, IsFlag, IsNumber, IsSizing, IsAskedFor, IsAskedForBy, HelpIsAskedFor, IsHelp};
 
 use crate::commands::program;
-use crate::fault::WordsFault;
+use crate::fault::{Refusal, WordsFault};
 use crate::job::{Job, Picture, Report, Request, Sizing};
 use clap::ArgMatches;
 use clap::error::ErrorKind;
@@ -22,6 +22,8 @@ use std::fmt::Display;
 pub fn read_words<'a, S: AsStr>(alloc: Global, words: &'a [S]) -> Result<Request<'a>, WordsFault>
     ensures range { IfOk result (λ request. IsInRange request.job) }
     ensures asked { IfOk result IsAskedFor }
+    ensures by { IfOk result (IsAskedForBy (map S.text words.now)) }
+    ensures help { IfErr result (HelpIsAskedFor (map S.text words.now)) }
 {
     let Ok(command) = program(alloc) else {
         return Err(WordsFault::NoMemory);
@@ -31,17 +33,13 @@ pub fn read_words<'a, S: AsStr>(alloc: Global, words: &'a [S]) -> Result<Request
         Err(error) => return Err(fault_of(alloc, &error)),
     };
     let Some((name, found)) = matches.subcommand() else {
-        return Err(refused(alloc, "a subcommand is missing"));
+        return Err(WordsFault::from(refused(alloc, "a subcommand is missing")));
     };
-    request_of(alloc, name, found)
+    Ok(request_of(alloc, name, found)?)
 }
 
 /// What the words of a subcommand ask for, with the names of its files.
-fn request_of<'a>(
-    alloc: Global,
-    name: &str,
-    found: &ArgMatches<'a>,
-) -> Result<Request<'a>, WordsFault>
+fn request_of<'a>(alloc: Global, name: &str, found: &ArgMatches<'a>) -> Result<Request<'a>, Refusal>
     ensures range { IfOk result (λ request. IsInRange request.job) }
     ensures asked { IfOk result (AsksFor name.now (rows_of (found_of found.now))) }
 {
@@ -66,7 +64,7 @@ fn file_argument(job: &Job) -> &'static str
 }
 
 /// What the words of a subcommand ask for.
-fn job_of<'a>(alloc: Global, name: &str, found: &ArgMatches<'a>) -> Result<Job<'a>, WordsFault>
+fn job_of<'a>(alloc: Global, name: &str, found: &ArgMatches<'a>) -> Result<Job<'a>, Refusal>
     ensures range { IfOk result IsInRange }
     ensures asked { IfOk result (Asks name.now (rows_of (found_of found.now))) }
 {
@@ -79,7 +77,9 @@ fn job_of<'a>(alloc: Global, name: &str, found: &ArgMatches<'a>) -> Result<Job<'
 }
 
 /// What an error of `clap` tells the user.
-fn fault_of(alloc: Global, error: &clap::Error) -> WordsFault {
+fn fault_of(alloc: Global, error: &clap::Error) -> WordsFault
+    ensures { IsHelp result → (kind_of error.now ≡ ErrorKind.DisplayHelp) ⊎ (kind_of error.now ≡ ErrorKind.DisplayVersion) }
+{
     if error.kind() == ErrorKind::OutOfMemory {
         return WordsFault::NoMemory;
     }
@@ -91,15 +91,15 @@ fn fault_of(alloc: Global, error: &clap::Error) -> WordsFault {
 }
 
 /// A refusal in the form of those of `clap`.
-fn refused<T: Display + Drop>(alloc: Global, why: T) -> WordsFault {
+fn refused<T: Display + Drop>(alloc: Global, why: T) -> Refusal {
     match format!(in alloc; "error: {why}\n\nFor more information, try '--help'.\n") {
-        Ok(text) => WordsFault::Refused(text),
-        Err(_) => WordsFault::NoMemory,
+        Ok(text) => Refusal::Refused(text),
+        Err(_) => Refusal::NoMemory,
     }
 }
 
 /// What the words of `threads` ask for.
-fn threads<'a>(alloc: Global, found: &ArgMatches<'a>) -> Result<Job<'a>, WordsFault>
+fn threads<'a>(alloc: Global, found: &ArgMatches<'a>) -> Result<Job<'a>, Refusal>
     ensures range { IfOk result IsInRange }
     ensures asked { IfOk result (Asks (codes "threads") (rows_of (found_of found.now))) }
 {
@@ -113,7 +113,7 @@ fn threads<'a>(alloc: Global, found: &ArgMatches<'a>) -> Result<Job<'a>, WordsFa
 }
 
 /// What a subcommand over a whole trace asks for.
-fn run_job<'a>(alloc: Global, name: &str, found: &ArgMatches<'a>) -> Result<Job<'a>, WordsFault>
+fn run_job<'a>(alloc: Global, name: &str, found: &ArgMatches<'a>) -> Result<Job<'a>, Refusal>
     ensures range { IfOk result IsInRange }
     ensures asked { IfOk result (Asks name.now (rows_of (found_of found.now))) }
 {
@@ -135,7 +135,7 @@ fn run_job<'a>(alloc: Global, name: &str, found: &ArgMatches<'a>) -> Result<Job<
 }
 
 /// What a subcommand over the heap after some event lines, or all, asks for.
-fn heap_job<'a>(alloc: Global, name: &str, found: &ArgMatches<'a>) -> Result<Job<'a>, WordsFault>
+fn heap_job<'a>(alloc: Global, name: &str, found: &ArgMatches<'a>) -> Result<Job<'a>, Refusal>
     ensures range { IfOk result IsInRange }
     ensures asked { IfOk result (Asks name.now (rows_of (found_of found.now))) }
 {
@@ -166,7 +166,7 @@ fn chosen<T: Copy>(
     choices: &[(&str, T)],
     argument: &str,
     expected: &str,
-) -> Result<T, WordsFault>
+) -> Result<T, Refusal>
     ensures { IfOk result (λ choice. Any (λ row. (row.0.now ≡ word.now) × (row.1 ≡ choice)) choices.now) }
 {
     for (name, choice) in choices {
@@ -179,7 +179,7 @@ fn chosen<T: Copy>(
 }
 
 /// The report of a heap of a name.
-fn report(alloc: Global, name: &str) -> Result<Report, WordsFault>
+fn report(alloc: Global, name: &str) -> Result<Report, Refusal>
     ensures { IfOk result (λ report. name.now ≡ report_name report) }
 {
     let reports = [("page", Report::Pages), ("size", Report::Sizes)];
@@ -199,7 +199,7 @@ fn drawing<'a>(
     name: &str,
     after: Option<u32>,
     most: Option<u32>,
-) -> Result<Job<'a>, WordsFault>
+) -> Result<Job<'a>, Refusal>
     ensures range { IfOk result IsInRange }
     ensures named { IfOk result (IsDrawing name.now after most) }
 {
@@ -218,7 +218,7 @@ fn drawing<'a>(
 }
 
 /// Refuses a number that isn't for the picture of a name, as `clap` does.
-fn without(alloc: Global, number: Option<u32>, argument: &str, name: &str) -> Result<(), WordsFault>
+fn without(alloc: Global, number: Option<u32>, argument: &str, name: &str) -> Result<(), Refusal>
     ensures { OnOk result (number ≡ None) }
 {
     if number.is_none() {
@@ -229,7 +229,7 @@ fn without(alloc: Global, number: Option<u32>, argument: &str, name: &str) -> Re
 }
 
 /// What the pages are reckoned from: one way at most is asked for.
-fn sizing<'a>(alloc: Global, pace: bool, load: Option<&'a str>) -> Result<Sizing<'a>, WordsFault>
+fn sizing<'a>(alloc: Global, pace: bool, load: Option<&'a str>) -> Result<Sizing<'a>, Refusal>
     ensures { IfOk result (IsSizing pace (option_map (λ file. file.now) load.entry)) }
 {
     match (pace, load) {
@@ -244,7 +244,7 @@ fn sizing<'a>(alloc: Global, pace: bool, load: Option<&'a str>) -> Result<Sizing
 }
 
 /// The picture of a heap of a name.
-fn picture(alloc: Global, name: &str) -> Result<Picture, WordsFault>
+fn picture(alloc: Global, name: &str) -> Result<Picture, Refusal>
     ensures { IfOk result (λ picture. name.now ≡ picture_name picture) }
 {
     let pictures = [
@@ -256,7 +256,7 @@ fn picture(alloc: Global, name: &str) -> Result<Picture, WordsFault>
 }
 
 /// The ticks of each window: there is at least one.
-fn windows_of(alloc: Global, words: &[&str]) -> Result<Vec<u64>, WordsFault>
+fn windows_of(alloc: Global, words: &[&str]) -> Result<Vec<u64>, Refusal>
     ensures range { IfOk result (λ windows. (0 < length windows.items) × All IsWindow windows.items) }
     ensures each { IfOk result (λ windows. AllZip (λ word ticks. IsNumber 64 (Some word) (Some ticks))
         (map (λ word. word.now) words.now) windows.items) }
@@ -268,7 +268,7 @@ fn windows_of(alloc: Global, words: &[&str]) -> Result<Vec<u64>, WordsFault>
         };
         within(alloc, "<WINDOW>...", ticks, 1, 1099511627776)?;
         let Ok(()) = windows.push(ticks) else {
-            return Err(WordsFault::NoMemory);
+            return Err(Refusal::NoMemory);
         };
     }
     if windows.is_empty() {
@@ -278,7 +278,7 @@ fn windows_of(alloc: Global, words: &[&str]) -> Result<Vec<u64>, WordsFault>
 }
 
 /// The name of a file.
-fn file<'a>(alloc: Global, found: &ArgMatches<'a>, name: &str) -> Result<&'a str, WordsFault>
+fn file<'a>(alloc: Global, found: &ArgMatches<'a>, name: &str) -> Result<&'a str, Refusal>
     ensures { IfOk result (λ file. first_of name.now (rows_of (found_of found.now)) ≡ Some file.now) }
 {
     match word(found, name) {
@@ -316,13 +316,7 @@ fn long_number(found: &ArgMatches, name: &str) -> Option<u64>
 }
 
 /// Refuses a number outside its range, as `clap` does.
-fn within(
-    alloc: Global,
-    name: &str,
-    number: u64,
-    least: u64,
-    greatest: u64,
-) -> Result<(), WordsFault>
+fn within(alloc: Global, name: &str, number: u64, least: u64, greatest: u64) -> Result<(), Refusal>
     ensures { OnOk result ((least ≤ number) × (number ≤ greatest)) }
 {
     if least <= number && number <= greatest {

@@ -1,5 +1,5 @@
 //! One look of a pass.
-ghost use Rattle.std.specs.Prelude.{◌≡◌, ◌-◌, ◌<◌, ◌≤◌, ◌^◌, length, Some};
+ghost use Rattle.std.specs.Prelude.{◌≡◌, ◌-◌, ◌<◌, ◌≤◌, length, Some};
 ghost use Rattle.size_classes.specs.declared.class.TheConstants.{CLASSES};
 ghost use Rattle.heap_model.specs.Action.{candidate_after, emptier, is_chosen};
 ghost use Rattle.heap_model.specs.Action.{Action, AtPass};
@@ -62,7 +62,7 @@ pub fn look_next(
     requires pass { AtPass (state_of heap.old) class page candidate chosen }
     requires class { class < CLASSES }
     requires page { page < length heap.old.nodes.pages }
-    requires chosen { chosen < 2 ^ 31 }
+    requires chosen { chosen < heap.old.config.defrag_pages }
     ensures acts { Action (state_of heap.old) LOOK (state_of heap.new) }
     ensures grey { heap.new.grey ≡ heap.old.grey }
 {
@@ -116,8 +116,11 @@ fn look_on(
     requires within { end ≤ length nodes.now.pages }
     ensures { result ≡ candidate_after_pages nodes.now.pages class from best (end - from) }
 {
+    // No page behind those that were touched is of a class, so it is no candidate.
+    let touched = end.min(nodes.pages_touched() as u32);
+    let last = touched.max(from);
     let mut candidate = best;
-    for page in from..end {
+    for page in from..last {
         candidate = consider(nodes, class, page, candidate);
     }
     candidate

@@ -1,23 +1,20 @@
 -- The laws, in a configuration's numbers.
-use Rattle.std.proofs.Common.{◌≡◌, ℕ, ◌+◌, ◌*◌, ◌/◌, ◌<◌, ◌≤◌, inl, inr, List, length, ap, ◌∙◌, sym, subst, arith, refl}
-use Rattle.std.proofs.lemmas.List.{length-replicate}
-use Rattle.graph_heap.specs.Graph.{root_cells}
-use Rattle.size_classes.specs.declared.class.TheConstants.{CLASSES, MOST_BLOCKS, PAGE_WORDS}
+use Rattle.std.proofs.Common.{◌≡◌, ℕ, ◌+◌, ◌*◌, ◌<◌, ◌≤◌, inl, inr, List, length, sym, subst, arith}
+use Rattle.size_classes.specs.declared.class.TheConstants.{CLASSES}
 use Rattle.settings.specs.declared.config.TheConstants.{LEAST_BUDGET}
-use Rattle.size_classes.specs.Sizes.{size_of, blocks_in}
 use Rattle.settings.specs.declared.config.Config.{Config}
 use Rattle.heap_model.specs.State.{HeapState}
-use Rattle.heap_model.specs.Settings.{HeapSettings, settings_of, settings_by}
+use Rattle.heap_model.specs.Settings.{settings_of, settings_by}
 use Rattle.heap_model.specs.Opening.{IsOpening}
 use Rattle.heap_model.specs.Event.{Course, Event, Runs}
 use Rattle.heap_model.specs.ReachedFrom.{opened}
 use Rattle.space.specs.Space.{pages_for, spare_of, below_of}
-use Rattle.space.specs.Fitting.{spare_in, below_in, swept_at, unmoved_quanta_at}
+use Rattle.space.specs.Fitting.{spare_in, below_in, unmoved_quanta_at}
 use Rattle.space.specs.Pace.{unmoved_quanta}
 use Rattle.space.specs.Tally.{EveryNewFindsRoom}
 use Rattle.space.specs.Room.{AllHaveRoom}
 use Rattle.space.proofs.Rooms.{all_have_room}
-use Rattle.space.proofs.Fittings.Configured.{pages as same_pages, below as same_limit, defrag as same_defrag, some as has_some, same_spare, same_below}
+use Rattle.space.proofs.Fittings.Configured.{pages as same_pages, below as same_limit, defrag as same_defrag, some as has_some, same_spare, same_below, same_unmoved}
 use Rattle.fragmentation.specs.Season.{Lives, opening_season, AllKeep}
 use Rattle.fragmentation.specs.Suffice.{GathersAll, WithinPages, WithinBlocks, pages_of, PageDemand, demand_pages, WithinPageDemand}
 use Rattle.fragmentation.specs.Flow.{Flow, opening_meter, KeepsFlow, AllMetered, traced_words, flow_pages, FlowFits}
@@ -27,18 +24,6 @@ use Rattle.fragmentation.proofs.Suffice.Sparses.{sparse_suffices}
 use Rattle.fragmentation.proofs.Suffice.Moving.{moving_suffices}
 use Rattle.fragmentation.proofs.Suffice.PageDemands.{page_demand_suffices}
 use Rattle.fragmentation.proofs.Flows.Suffices.{flow_suffices}
-
--- a page of the smallest class has the most blocks
-most : blocks_in 0 ≡ MOST_BLOCKS
-unfolding size_of blocks_in
-most = refl
-
-swept_by : (roots pages : ℕ) (config : Config) → roots ≡ config.mutators * config.slots + config.statics → pages ≡ config.pages
-    → roots + PAGE_WORDS * pages + (MOST_BLOCKS + 1) * pages + (MOST_BLOCKS + 4) ≡ swept_at config config.pages
-swept_by roots pages config r p =
-    ap (λ z. z + PAGE_WORDS * pages + (MOST_BLOCKS + 1) * pages + (MOST_BLOCKS + 4)) r
-    ∙ ap (λ z. config.mutators * config.slots + config.statics + PAGE_WORDS * z + (MOST_BLOCKS + 1) * z + (MOST_BLOCKS + 4)) p
-    ∙ ap (λ b. config.mutators * config.slots + config.statics + PAGE_WORDS * config.pages + (b + 1) * config.pages + (b + 4)) (sym most)
 
 module _ (config : Config) (h : HeapState) (o : IsOpening h) (same : settings_of h ≡ settings_by config) (one : 1 ≤ config.pages) (es : List Event) (new : Course) (live : Lives) (runs : Runs (opened h) es new) where
   some : 0 < length h.store.pages
@@ -74,17 +59,14 @@ module _ (config : Config) (h : HeapState) (o : IsOpening h) (same : settings_of
   pub page_demand_configured : (b : PageDemand) → MovesAll config → ((n : ℕ) → pages_of (live n) ≤ b.live) → AllKeep (WithinPageDemand b) live (opening_season h.limits) es → demand_pages b ≤ config.pages → AllHaveRoom es
   page_demand_configured b moves lives keeps fits = all_have_room es (opened h) new runs (page_demand_suffices h es new b live o some (gathers moves) runs lives keeps (omega (arith, fits, pages)))
 
-  same_unmoved : unmoved_quanta h (config.collector_ticks * config.rate) ≡ unmoved_quanta_at config config.pages
-  same_unmoved = ap (λ z. z / (config.collector_ticks * config.rate) + 1) (swept_by (length h.roots) (length h.store.pages) config roots pages)
-    where
-      roots : length h.roots ≡ config.mutators * config.slots + config.statics
-      roots = ap length o.roots ∙ length-replicate (root_cells h.limits) 0 ∙ ap (λ (s : HeapSettings). root_cells s.limits) same
+  quanta : unmoved_quanta h (config.collector_ticks * config.rate) ≡ unmoved_quanta_at config config.pages
+  quanta = same_unmoved config h o same
 
   pub flow_configured : (f : Flow) → MovesAll config → LEAST_BUDGET ≤ config.collector_ticks * config.rate → AllMetered (KeepsFlow f (config.collector_ticks * config.rate)) (opening_meter h.limits) es → FlowFitsIn config f → AllHaveRoom es
   flow_configured f moves great keeps fits = all_have_room es (opened h) new runs (flow_suffices h es new f (config.collector_ticks * config.rate) (omega (arith, great)) o some (gathers moves) runs keeps fit)
     where
       fit : FlowFits f (config.collector_ticks * config.rate) h
       fit = record {
-        traced = subst (λ z. traced_words f z ≤ f.cycle_words) (sym same_unmoved) fits.traced;
-        enough = subst (λ z. flow_pages f z ≤ length h.store.pages) (sym same_unmoved) (let a = fits.enough in omega (arith, a, pages));
+        traced = subst (λ z. traced_words f z ≤ f.cycle_words) (sym quanta) fits.traced;
+        enough = subst (λ z. flow_pages f z ≤ length h.store.pages) (sym quanta) (let a = fits.enough in omega (arith, a, pages));
       }

@@ -30,7 +30,8 @@ use Rattle.heap_model.proofs.Agreements.Implied.{consistent_agrees}
 use Rattle.heap_model.proofs.Left.{change_left}
 use Rattle.heap_model.proofs.Event.Kept.{enters_graph, enters_present, enters_snapshot, begins_present, collects_limits, collects_present, does_course, opening_course}
 use Rattle.space.specs.Demand.{LiveWithin, blocks_of, asked_for, asked_by}
-use Rattle.space.specs.Tally.{awaits_sweep_end, FindsRoom, NewFindsRoom, EveryNewFindsRoom}
+use Rattle.heap_model.specs.Phases.{awaits_sweep_end}
+use Rattle.space.specs.Tally.{FindsRoom, NewFindsRoom, EveryNewFindsRoom}
 use Rattle.space.specs.Counts.{stays, main_blocks}
 use Rattle.space.specs.Placement.{IsTidy, KeepsOnly, KeepsShapes}
 use Rattle.space.proofs.Counts.{one_if}

@@ -8,7 +8,7 @@ use Rattle.size_classes.specs.Sizes.{size_of}
 use Rattle.heap_model.specs.State.{HeapState}
 use Rattle.heap_model.specs.Event.{Event, Command_done, Cycle_begun, Begin_refused, Quantum_done, Quantum_refused}
 use Rattle.space.specs.Demand.{LiveWithin, asked_for}
-use Rattle.space.specs.Tally.{awaits_sweep_end}
+use Rattle.heap_model.specs.Phases.{awaits_sweep_end}
 use Rattle.space.specs.Space.{class_sum}
 use Rattle.space.specs.Pace.{unmoved_quanta}
 use Rattle.fragmentation.specs.declared.flow.TheConstants.{LEAST_PAGE_FILL, PARTLY_FILLED_PAGES}

@@ -5,7 +5,7 @@ use Rattle.graph_heap.specs.Graph.{Graph, opening}
 use Rattle.graph_heap.specs.History.{after_entry}
 use Rattle.heap_model.specs.Event.{Event, Command_done, Cycle_begun, Begin_refused, Quantum_done, Quantum_refused}
 use Rattle.space.specs.Demand.{LiveWithin, blocks_of, asked_for}
-use Rattle.space.specs.Tally.{awaits_sweep_end}
+use Rattle.heap_model.specs.Phases.{awaits_sweep_end}
 
 -- The graph heap to which the events lead; how many cycles began; whether one runs whose sweep hasn't ended; how many
 -- objects there were when the last cycle began, when that one began whose sweep ended last, and at that sweep's end;

@@ -3,7 +3,7 @@ ghost use Rattle.std.specs.Prelude.{true, ◌≡◌, ◌↔◌, IfOk, IsOkAnd, O
 ghost use Rattle.graph_heap.specs.Shape as shapes;
 ghost use Rattle.graph_heap.specs.Graph.{changed, opening};
 ghost use Rattle.graph_heap.specs.Effect as effect;
-ghost use Rattle.graph_heap.specs.Effect.{admitted_effect, effect_of, fitting, reply_of, next_of, AddsObject, TellsMade};
+ghost use Rattle.graph_heap.specs.Effect.{admitted_effect, effect_of, fitting, settled, reply_of, next_of, AddsObject, TellsMade};
 ghost use Rattle.graph_heap.specs.Reference.{referent_at};
 ghost use Rattle.graph_heap.specs.History as history;
 ghost use Rattle.graph_heap.specs.History.{IsEntryOf, after_entry};
@@ -128,6 +128,7 @@ impl Reference {
     /// The reply, and what changes.
     #[tactic(auto, unfolding(crate::specs::Effect::reply_of, crate::specs::Effect::next_of))]
     fn reply_and_change(&self, room: bool, mutator: u32, command: &Command) -> (Reply, Change)
+        ensures settled { result ≡ settled (effect_of room self.now mutator command.now) }
         ensures reply { result.0 ≡ reply_of room self.now mutator command.now }
         ensures change { changed self.now result.1 ≡ next_of room self.now mutator command.now }
         ensures made { AddsObject result.1 → TellsMade result.0 }
@@ -294,7 +295,7 @@ impl Reference {
 }
 
 /// Whether there was room, by a reply.
-fn had_room_of(reply: &Reply) -> bool
+pub(crate) fn had_room_of(reply: &Reply) -> bool
     ensures { result ≡ history.had_room reply.now }
 {
     match *reply {

@@ -5,7 +5,14 @@ use Rattle.std.proofs.lemmas.Grind.{same_number_lists, common_steps}
 use Rattle.std.proofs.Math.Seq.{take-append-add}
 use Rattle.heap_model.specs.Block.{words_at, spliced}
 
--- words that are the same one by one
+-- words that are there in both, and are the same one by one
+pub words_at-there : (xs ys : List ℕ) (b t : ℕ) → b + t ≤ length xs → b + t ≤ length ys → ((k : ℕ) → b ≤ k → k < b + t → get_or xs k 0 ≡ get_or ys k 0) → words_at xs b t ≡ words_at ys b t
+words_at-there xs ys b t long long' same = same_number_lists (words_at xs b t) (words_at ys b t)
+    (omega (arith, long, long', length-take t (drop b xs), length-take t (drop b ys), length-drop b xs, length-drop b ys))
+    (λ k h. let small : k < t = omega (arith, h, length-take t (drop b xs)) in
+    get_or-take t (drop b xs) k 0 small ∙ get_or-drop b xs k 0 ∙ same (b + k) (omega arith) (omega (arith, small)) ∙ sym (get_or-drop b ys k 0) ∙ sym (get_or-take t (drop b ys) k 0 small))
+
+-- words of as many, that are the same one by one
 pub words_at-same : (xs ys : List ℕ) (b t : ℕ) → length xs ≡ length ys → ((k : ℕ) → b ≤ k → k < b + t → get_or xs k 0 ≡ get_or ys k 0) → words_at xs b t ≡ words_at ys b t
 words_at-same xs ys b t e same = same_number_lists (words_at xs b t) (words_at ys b t)
     (omega (arith, length-take t (drop b xs), length-take t (drop b ys), length-drop b xs, length-drop b ys, e))

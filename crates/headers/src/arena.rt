@@ -1,5 +1,5 @@
 //! The arena of words, block by block.
-ghost use Rattle.std.specs.Prelude.{◌≡◌, ◌+◌, ◌-◌, ◌<◌, ◌≤◌, ◌*◌, ◌∷◌, IfOk, length, replicate, slice_index, slice_set};
+ghost use Rattle.std.specs.Prelude.{◌≡◌, ◌+◌, ◌-◌, ◌<◌, ◌≤◌, ◌*◌, ◌/◌, ◌∷◌, ◌++◌, [], IfOk, length, min, replicate, slice_index, slice_set, vec_capacity};
 ghost use Rattle.heap_model.specs.Header.{Header, header_in, header_word, shape_in, recoloured, ShapeFits};
 ghost use Rattle.heap_model.specs.Block.{spliced, words_at};
 ghost use Rattle.heap_model.specs.State.{same_colour};
@@ -11,50 +11,75 @@ use std::marker::Model;
 
 /// The words of a heap. A block has four words of header: the address to which it forwards (Brooks,
 /// 1984), the shape with the part's number and the colour, the identity, and a link; its cells
-/// follow. Addresses count words. Contracts see the list of the words; each write is one change of
-/// that list.
+/// follow. Addresses count words. Memory for all pages is reserved at the start, and a page's words are cleared when the
+/// page is first touched. Contracts see the list of the words of the pages that were touched, and for how many pages
+/// there is memory; each write is one change of that list.
 #[derive(Drop)]
 pub struct Arena {
     words: Vec<u64>,
+    pages: usize,
+    ghost room: { 2048 * pages ≤ vec_capacity words },
 }
 
 impl Model for Arena {
-    ghost use Rattle.std.specs.Prelude.{List, ℕ};
+    ghost use Rattle.headers.specs.Memory.{Memory};
 
-    ghost Value = { List ℕ };
+    ghost Value = { Memory };
 
-    ghost view = { λ a. a.words.items };
+    ghost view = { λ a. record { words = a.words.items; pages = a.pages } };
 }
 
 impl Arena {
-    /// The arena of this many pages of 2048 words, all 0. Refused only for lack of memory.
+    /// Memory for this many pages of 2048 words, none of which was touched. Refused only for lack of memory.
     pub fn new(alloc: Global, pages: u32) -> Result<Arena, NoMemory>
-        ensures { IfOk result (λ a. a ≡ replicate (2048 * pages) 0) }
+        ensures { IfOk result (λ a. a ≡ record { words = []; pages = pages }) }
     {
-        let words = vec![in alloc; 0; 2048 * pages as usize]?;
-        Ok(Arena { words })
+        let pages = pages as usize;
+        let words = Vec::with_capacity(alloc, 2048 * pages)?;
+        Ok(Arena { words, pages })
+    }
+
+    /// Touches the first pages, this many or all: those that weren't touched before get their words, which are 0. The
+    /// memory is there, so it isn't refused.
+    pub fn touch(&mut self, pages: usize)
+        ensures words { self.new.words ≡ self.old.words
+            ++ replicate (2048 * min pages self.old.pages - length self.old.words) 0 }
+        ensures pages { self.new.pages ≡ self.old.pages }
+    {
+        let end = 2048 * pages.min(self.pages);
+        if self.words.len() < end {
+            self.words.resize(end, 0).unwrap();
+        }
+    }
+
+    /// How many pages were touched: the first ones, this many of them.
+    pub fn pages_touched(&self) -> usize
+        ensures { result ≡ length self.now.words / 2048 }
+    {
+        self.words.len() / 2048
     }
 
     /// The address to which a block forwards: its own, or that of the copy that was moved.
     pub fn forward_of(&self, block: usize) -> u64
-        requires { block < length self.now }
-        ensures { result ≡ slice_index self.now block }
+        requires { block < length self.now.words }
+        ensures { result ≡ slice_index self.now.words block }
     {
         self.words[block]
     }
 
     /// Lets a block forward to an address.
     pub fn set_forward(&mut self, block: usize, to: u64)
-        requires { block < length self.old }
-        ensures { self.new ≡ slice_set self.old block to }
+        requires { block < length self.old.words }
+        ensures words { self.new.words ≡ slice_set self.old.words block to }
+        ensures pages { self.new.pages ≡ self.old.pages }
     {
         self.words[block] = to;
     }
 
     /// The shape of the whole object of which a block holds a part.
     pub fn shape(&self, block: usize) -> Shape
-        requires { block + 1 < length self.now }
-        ensures says { result ≡ (header_in (slice_index self.now (block + 1))).shape }
+        requires { block + 1 < length self.now.words }
+        ensures says { result ≡ (header_in (slice_index self.now.words (block + 1))).shape }
         ensures fits { ShapeFits result }
     {
         shape_of(self.words[block + 1])
@@ -62,8 +87,8 @@ impl Arena {
 
     /// The number of the part that a block holds, from 0.
     pub fn part(&self, block: usize) -> u32
-        requires { block + 1 < length self.now }
-        ensures says { result ≡ (header_in (slice_index self.now (block + 1))).part }
+        requires { block + 1 < length self.now.words }
+        ensures says { result ≡ (header_in (slice_index self.now.words (block + 1))).part }
         ensures within { result < 65536 }
     {
         part_of(self.words[block + 1])
@@ -71,24 +96,25 @@ impl Arena {
 
     /// The colour of a block.
     pub fn colour(&self, block: usize) -> bool
-        requires { block + 1 < length self.now }
-        ensures { result ≡ (header_in (slice_index self.now (block + 1))).colour }
+        requires { block + 1 < length self.now.words }
+        ensures { result ≡ (header_in (slice_index self.now.words (block + 1))).colour }
     {
         colour_of(self.words[block + 1])
     }
 
     /// Whether a block has a colour.
     pub fn has_colour(&self, block: usize, colour: bool) -> bool
-        requires { block + 1 < length self.now }
-        ensures { result ≡ same_colour colour (header_in (slice_index self.now (block + 1))).colour }
+        requires { block + 1 < length self.now.words }
+        ensures { result ≡ same_colour colour (header_in (slice_index self.now.words (block + 1))).colour }
     {
         has_colour(self.words[block + 1], colour)
     }
 
     /// Gives a block a colour. The other bits of its header stay.
     pub fn set_colour(&mut self, block: usize, colour: bool)
-        requires { block + 1 < length self.old }
-        ensures { self.new ≡ slice_set self.old (block + 1) (recoloured (slice_index self.old (block + 1)) colour) }
+        requires { block + 1 < length self.old.words }
+        ensures words { self.new.words ≡ slice_set self.old.words (block + 1) (recoloured (slice_index self.old.words (block + 1)) colour) }
+        ensures pages { self.new.pages ≡ self.old.pages }
     {
         let word = self.words[block + 1];
         self.words[block + 1] = recolour(word, colour);
@@ -96,49 +122,52 @@ impl Arena {
 
     /// The identity of the object of which a block holds a part.
     pub fn identity(&self, block: usize) -> u64
-        requires { block + 2 < length self.now }
-        ensures { result ≡ slice_index self.now (block + 2) }
+        requires { block + 2 < length self.now.words }
+        ensures { result ≡ slice_index self.now.words (block + 2) }
     {
         self.words[block + 2]
     }
 
     /// The link of a block in a list of blocks.
     pub fn link(&self, block: usize) -> u64
-        requires { block + 3 < length self.now }
-        ensures { result ≡ slice_index self.now (block + 3) }
+        requires { block + 3 < length self.now.words }
+        ensures { result ≡ slice_index self.now.words (block + 3) }
     {
         self.words[block + 3]
     }
 
     /// Links a block.
     pub fn set_link(&mut self, block: usize, link: u64)
-        requires { block + 3 < length self.old }
-        ensures { self.new ≡ slice_set self.old (block + 3) link }
+        requires { block + 3 < length self.old.words }
+        ensures words { self.new.words ≡ slice_set self.old.words (block + 3) link }
+        ensures pages { self.new.pages ≡ self.old.pages }
     {
         self.words[block + 3] = link;
     }
 
     /// What cell i of a block holds: a word, or a reference (address plus one, 0 for null).
     pub fn cell(&self, block: usize, i: usize) -> u64
-        requires { block + (4 + i) < length self.now }
-        ensures { result ≡ slice_index self.now (block + (4 + i)) }
+        requires { block + (4 + i) < length self.now.words }
+        ensures { result ≡ slice_index self.now.words (block + (4 + i)) }
     {
         self.words[block + (4 + i)]
     }
 
     /// Writes cell i of a block.
     pub fn set_cell(&mut self, block: usize, i: usize, value: u64)
-        requires { block + (4 + i) < length self.old }
-        ensures { self.new ≡ slice_set self.old (block + (4 + i)) value }
+        requires { block + (4 + i) < length self.old.words }
+        ensures words { self.new.words ≡ slice_set self.old.words (block + (4 + i)) value }
+        ensures pages { self.new.pages ≡ self.old.pages }
     {
         self.words[block + (4 + i)] = value;
     }
 
     /// Copies `size` words of a block to another place.
     pub fn copy_block(&mut self, from: usize, to: usize, size: usize)
-        requires from { from + size ≤ length self.old }
-        requires to { to + size ≤ length self.old }
-        ensures { self.new ≡ spliced self.old to (words_at self.old from size) }
+        requires from { from + size ≤ length self.old.words }
+        requires to { to + size ≤ length self.old.words }
+        ensures words { self.new.words ≡ spliced self.old.words to (words_at self.old.words from size) }
+        ensures pages { self.new.pages ≡ self.old.pages }
     {
         self.words.copy_within(from..from + size, to);
     }
@@ -154,12 +183,13 @@ impl Arena {
         identity: u64,
         cells: usize,
     )
-        requires room { block + (4 + cells) ≤ length self.old }
+        requires room { block + (4 + cells) ≤ length self.old.words }
         requires shape { ShapeFits shape }
         requires part { part < 65536 }
-        ensures { self.new ≡ spliced self.old block
+        ensures words { self.new.words ≡ spliced self.old.words block
             (block ∷ header_word (record { shape = shape; part = part; colour = colour }) ∷ identity ∷ 0
             ∷ replicate cells 0) }
+        ensures pages { self.new.pages ≡ self.old.pages }
     {
         let header = pack(shape, part, colour);
         begin_block(self.words.as_mut_slice(), block, header, identity, cells);

@@ -41,7 +41,7 @@ upto_step : (n i : ℕ) → (i < n → slice_index_or (upto n) i 0 ≡ i) → At
 upto_step n i rec (inl e) = get_end (upto n) n i (omega (arith, upto-length n, e)) ∙ sym e
 upto_step n i rec (inr lt) = get_front (upto n) (n ∷ []) i (omega (arith, upto-length n, lt)) ∙ rec lt
 
-upto_at : (n i : ℕ) → i < n → slice_index_or (upto n) i 0 ≡ i
+pub upto_at : (n i : ℕ) → i < n → slice_index_or (upto n) i 0 ≡ i
 upto_at zero i le = absurd (omega arith)
 upto_at (suc n) i le = upto_step n i (λ lt. upto_at n i lt) (split n i le)
 

@@ -61,10 +61,10 @@ keys_line still moved pages = codes "fewest " ++ (decimal pages ++ (codes ": pag
     else codes ", defrag_below = " ++ (decimal (pages + 1)
     ++ (codes ", defrag_pages = " ++ (decimal pages ++ codes "\n")))))))
 
--- the fewest pages, with the keys to set for them, or that they are more than a heap may have
+-- the fewest pages, with the keys to set for them, or that they are more than a file may ask for
 abbrev pub fewest_line : ℕ → ℕ → ℕ → List ℕ
 fewest_line still moved pages = if nat_lt MOST_PAGES pages
-    then codes "fewest " ++ (decimal pages ++ codes ": more than a heap may have\n")
+    then codes "fewest " ++ (decimal pages ++ codes ": more than a file may ask for\n")
     else keys_line still moved pages
 
 -- for which runs the pages suffice, where they are as many as are needed; else a run may be refused an object or not
@@ -113,7 +113,7 @@ pace_line p class = if (p.live class + p.busy class) + p.idle class == 0 then []
 abbrev pub quanta_line : ℕ → ℕ → List ℕ
 quanta_line quanta units = codes "quanta " ++ (decimal quanta ++ (codes " units " ++ (decimal units ++ codes "\n")))
 
--- from this many pages on a pace fits in each number that a configuration may have, and from no fewer on; or it
+-- from this many pages on a pace fits in each number that a file may ask for, and from no fewer on; or it
 -- doesn't fit in the most
 abbrev pub IsFrom : Config → Pace → Option ℕ → Type 0
 IsFrom c p None = FitsIn c p MOST_PAGES → ⊥

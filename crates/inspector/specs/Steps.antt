@@ -1,7 +1,7 @@
 -- What a step of a run was to the cycle that it found.
 use Rattle.std.specs.Prelude.{Bool, true, false, ◌&&◌, not}
 use Rattle.heap_model.specs.Event.{Event, Cycle_begun, Quantum_done}
-use Rattle.space.specs.Tally.{awaits_sweep_end}
+use Rattle.heap_model.specs.Phases.{awaits_sweep_end}
 use Rattle.space.specs.Pace.{in_cycle}
 use Rattle.player.specs.Steps.{Step}
 

@@ -54,7 +54,7 @@ fn write_class<K: Sink>(class: Class, filling: Filling, sink: &mut K) -> Result<
 /// Writes a line for each class that has a page, in rising size, and answers how full all pages in use are.
 fn write_classes<K: Sink>(heap: &Heap, sink: &mut K) -> Result<Filling, WriteFailed>
     ensures sum { IfOk result (λ all. all ≡ filling_in heap.now.store) }
-    ensures within { IfOk result (λ all. IsWithin all 1099511627776) }
+    ensures within { IfOk result (λ all. IsWithin all 8796093022208) }
     ensures ok { OnOk result (K.taken sink.new ≡ K.taken sink.old ++ text_of (classes_lines heap.now.store CLASSES)) }
     ensures err { OnErr result (GrowsByPart (K.taken sink.old) (K.taken sink.new)
         (text_of (classes_lines heap.now.store CLASSES))) }
@@ -84,7 +84,7 @@ fn write_sum<K: Sink>(all: Filling, sink: &mut K) -> Result<(), WriteFailed>
 
 /// Writes how many words of the pages in use are lost to internal and to external fragmentation.
 fn write_fragmentation<K: Sink>(all: Filling, sink: &mut K) -> Result<(), WriteFailed>
-    requires { IsWithin all 1099511627776 }
+    requires { IsWithin all 8796093022208 }
     ensures ok { OnOk result (K.taken sink.new ≡ K.taken sink.old ++ (fragmentation_line all ++ 10 ∷ [])) }
     ensures err { OnErr result (GrowsByPart (K.taken sink.old) (K.taken sink.new) (fragmentation_line all ++ 10 ∷ [])) }
     ensures cause { K.failures sink.new ≡ K.failures sink.old + failed result }

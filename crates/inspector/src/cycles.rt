@@ -4,10 +4,10 @@ mod log;
 mod made;
 mod observing;
 mod open;
-mod taking;
+mod surveying;
 mod text;
 mod turn;
 
 pub use cycle::{Cycle, Cycles, Sweep};
-pub use taking::take_cycles;
+pub use log::Log;
 pub use text::{Layout, cycles_text};

@@ -77,8 +77,8 @@ fn filling_on(heap: &Heap, class: Class, number: usize) -> Filling
 
 /// That of some pages and of some others.
 pub(crate) fn both(some: Filling, others: Filling) -> Filling
-    requires some { IsWithin some 1099511627776 }
-    requires others { IsWithin others 1099511627776 }
+    requires some { IsWithin some 8796093022208 }
+    requires others { IsWithin others 8796093022208 }
     ensures { result ≡ both some others }
 {
     Filling {
@@ -94,7 +94,7 @@ pub(crate) fn both(some: Filling, others: Filling) -> Filling
 /// That of all pages of a class.
 pub(crate) fn filling_of(heap: &Heap, class: Class) -> Filling
     ensures filling { result ≡ filling_of heap.now.store class }
-    ensures within { IsWithin result 536870912 }
+    ensures within { IsWithin result 137438953472 }
 {
     let mut all = nothing();
     for number in 0..heap.pages() {

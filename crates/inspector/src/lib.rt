@@ -12,6 +12,6 @@ pub mod pages_needed;
 mod reporting;
 
 pub use by_size::report_sizes;
-pub use cycles::{Cycle, Cycles, Layout, Sweep, cycles_text, take_cycles};
+pub use cycles::{Cycle, Cycles, Layout, Log, Sweep, cycles_text};
 pub use fault::WriteFault;
 pub use reporting::report;

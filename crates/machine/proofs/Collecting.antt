@@ -96,7 +96,7 @@ relinked_heap h s w l = record {
   snapshot = w.snapshot;
   represents = represents_relinked h s l w.present w.snapshot w.represents;
   fits = w.fits;
-  small = subst (λ n. n < 2 ^ 31) (sym (same_limit h (record h { store = s }) refl (relinked_count h s l) refl)) w.small;
+  small = subst (λ n. n < 2 ^ 41) (sym (same_limit h (record h { store = s }) refl (relinked_count h s l) refl)) w.small;
 }
 
 -- a chain of a heap whose blocks were threaded anew is one of the heap before that, unless nothing was done

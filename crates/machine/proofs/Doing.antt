@@ -94,7 +94,7 @@ module _ (h after : HeapState) (w : IsHeap h) (c : Change) (is_founded : IsFound
     snapshot = w.snapshot;
     represents = represents_after;
     fits = fits_changed w.present c is_founded w.fits;
-    small = subst (λ n. n < 2 ^ 31) (sym left.limit) w.small;
+    small = subst (λ n. n < 2 ^ 41) (sym left.limit) w.small;
   }
 
   -- it agrees with each graph heap after the change, with which it agreed

@@ -6,17 +6,24 @@ use Rattle.heap_model.specs.Event.{Course, Event, Command_done, Cycle_begun, Beg
 use Rattle.heap_model.proofs.Agreements.Implied.{consistent_agrees}
 use Rattle.heap_model.proofs.Event.Kept.{runs_course}
 use Rattle.heap_model.proofs.Event.Freed.{reached_allocated, runs_back}
+use Rattle.heap_model.proofs.Grey.Relinked.{represents_relinked}
 use Rattle.heap_model.proofs.Swept.{allocated_is_kept}
 use Rattle.heap_model.proofs.Represents.{represents_chain, represents_limit, sweep_change}
+use Rattle.machine.specs.Recorded.{EachSweepEnds}
 use Rattle.machine.specs.Headline.{Holds, AlwaysHolds}
 use Rattle.machine.proofs.Courses.{ends_soon}
+
+pub sweeps_end : (r : Course) → IsCourse r → EachSweepEnds r
+sweeps_end r w spent cost h after linked chain links action from to =
+    let before = represents_chain r.heap h spent (present_of r) (snapshot_of r) w.represents chain in
+    sweep_change (record h { store = linked }) after cost (present_of r) (snapshot_of r) (represents_relinked h linked links (present_of r) (snapshot_of r) before) action from to
 
 pub course_holds : (r : Course) → IsCourse r → Holds r
 course_holds r w = record {
   legal = w.legal;
   agrees = λ spent h chain. consistent_agrees h (present_of r) (snapshot_of r) (represents_chain r.heap h spent (present_of r) (snapshot_of r) w.represents chain).consistent;
   allocated = λ id reach. reached_allocated r.heap (present_of r) (snapshot_of r) w.represents.consistent id reach;
-  swept = λ spent cost h after chain action from to. sweep_change h after cost (present_of r) (snapshot_of r) (represents_chain r.heap h spent (present_of r) (snapshot_of r) w.represents chain) action from to;
+  swept = sweeps_end r w;
   kept = λ spent h chain rests. allocated_is_kept h (present_of r) (snapshot_of r) (represents_chain r.heap h spent (present_of r) (snapshot_of r) w.represents chain).consistent rests;
   units = λ spent h chain. represents_limit h (present_of r) (snapshot_of r) (represents_chain r.heap h spent (present_of r) (snapshot_of r) w.represents chain);
   ends = λ start begins. ends_soon r start w begins;

@@ -14,3 +14,4 @@ pub mod Writing
 pub mod Space
 pub mod Copies
 pub mod Events
+pub mod Touching

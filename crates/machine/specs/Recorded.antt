@@ -7,7 +7,8 @@ use Rattle.heap_model.specs.declared.phase.Phase.TheVariants as phases
 use Rattle.heap_model.specs.declared.phase.Moving.{Moving}
 use Rattle.heap_model.specs.Pages.{page_at}
 use Rattle.heap_model.specs.State.{HeapState}
-use Rattle.heap_model.specs.Action.{Action, Chain}
+use Rattle.heap_model.specs.Store.{Store}
+use Rattle.heap_model.specs.Action.{Action, Chain, Relinks}
 use Rattle.heap_model.specs.Swept.{IsSwept, IsKept, IsAllocated}
 use Rattle.heap_model.specs.Marks.{HasNoMark}
 use Rattle.heap_model.specs.Represents.{is_sweeping}
@@ -71,12 +72,12 @@ commands_in [] = 0
 commands_in (events.Command m c ∷ es) = commands_in es + 1
 commands_in (e ∷ es) = commands_in es
 
--- At each change out of sweeping, within a quantum too, exactly the blocks of what is kept are allocated, and no page
--- is evacuating or a target.
+-- At each change out of sweeping, within a quantum too and also right after blocks were threaded anew, exactly the
+-- blocks of what is kept are allocated, and no page is evacuating or a target.
 abbrev pub EachSweepEnds : Course → Type 0
 EachSweepEnds r =
-    (spent cost : ℕ) (h after : HeapState) → Chain r.heap spent h → Action h cost after → is_sweeping h.phase ≡ true
-    → is_sweeping after.phase ≡ false
+    (spent cost : ℕ) (h after : HeapState) (linked : Store) → Chain r.heap spent h → Relinks h.store linked
+    → Action (record h { store = linked }) cost after → is_sweeping h.phase ≡ true → is_sweeping after.phase ≡ false
     → IsSwept after (present_of r) (snapshot_of r) × ((k : ℕ) → HasNoMark (page_at after.store.pages k))
 
 -- In idle, and while blocks are moved, within a quantum too, the allocated objects are exactly those that are kept.

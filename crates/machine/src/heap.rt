@@ -1,5 +1,5 @@
 //! The heap.
-ghost use Rattle.std.specs.Prelude.{◌≡◌, ◌<◌, length, IfOk};
+ghost use Rattle.std.specs.Prelude.{◌≡◌, ◌<◌, ◌≤◌, ◌*◌, length, min, IfOk};
 ghost use Rattle.graph_heap.specs.Graph.{Graph};
 ghost use Rattle.graph_heap.specs.Effect.{reply_of, next_of};
 ghost use Rattle.heap_model.specs.Opening.{IsOpening};
@@ -7,6 +7,7 @@ ghost use Rattle.heap_model.specs.Settings.{settings_of, settings_by};
 ghost use Rattle.heap_model.specs.Agreement.{Agrees};
 ghost use Rattle.heap_model.specs.Change.{DoesChange};
 ghost use Rattle.heap_model.specs.Event.{change_by, room_for};
+ghost use Rattle.nodes.specs.Touching.{touched};
 ghost use Rattle.machine.specs.Plan.{CanCommit, CommitsEach};
 
 use graph_heap::{Command, NoMemory, Reply, dispatch};
@@ -50,13 +51,24 @@ impl Model for Heap {
 
 impl Heap {
     /// A heap of free pages, with null roots and no object, where the first `live` mutators are live, and
-    /// with memory for all that it will ever hold. Refused only for lack of memory.
+    /// with memory for all that it will ever hold. No page is touched yet. Refused only for lack of memory.
     pub fn new(alloc: Global, config: &Config) -> Result<Heap, NoMemory>
         ensures opening { IfOk result IsOpening }
         ensures settings { IfOk result (λ h. settings_of h ≡ settings_by config.now) }
     {
         let fields = HeapFields::new(alloc, config)?;
         Ok(Heap { fields })
+    }
+
+    /// Touches the first pages, this many or all: those that weren't touched before get their words, which are 0. A page
+    /// that wasn't touched gets them when an object is first made on it. Nothing else changes, and nothing can be
+    /// refused.
+    pub fn touch(&mut self, pages: usize)
+        ensures touched { self.new ≡ record self.old { store = touched self.old.store pages } }
+        ensures there { 2048 * min pages (length self.new.store.pages) ≤ length self.new.store.words }
+        ensures agrees { (g : Graph) → Agrees self.old g → Agrees self.new g }
+    {
+        self.fields.nodes.touch(pages);
     }
 
     /// Does a command of a mutator, and replies. Whatever graph heap the heap agrees with, the reply

@@ -6,7 +6,7 @@ use Rattle.heap_model.specs.Cut.{view}
 use Rattle.heap_model.specs.State.{HeapState, seen, width_at, collector_by}
 use Rattle.heap_model.specs.Collector.{Collector, Coherent}
 use Rattle.heap_model.proofs.Action.Collecting.{wide_within, scanned_allocated, scanned_cell_allocated, allocated_behind, at_phase}
-use Rattle.heap_model.proofs.Store.Apart.{lie_apart}
+use Rattle.heap_model.proofs.Store.Apart.{lie_apart, size_small}
 use Rattle.nodes.specs.declared.nodes.Referent.{Referent}
 use Rattle.nodes.specs.Referent.{CanFollow, referent_of}
 use Rattle.nodes.proofs.Representing.{main_allocated}
@@ -86,8 +86,7 @@ module _ (a : HeapFields) (w : AreHeapFields a) (part cell : â„•) (e : a.phase â
     width_small =
         let apart = lie_apart h w.heap.represents.pages w.heap.represents.consistent.whole in
         let f = apart.fits part c.stage.1.scanning_allocated positive in
-        let i = apart.inside part c.stage.1.scanning_allocated positive in
-        let s = w.heap.small in
+        let s = size_small h.store w.heap.represents.pages (part - 1) in
         let e = wide in
         omega arith
 

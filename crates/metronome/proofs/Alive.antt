@@ -1,35 +1,23 @@
 -- The heap behind a play, and the graph heap to which its history leads.
-use Rattle.std.proofs.Common.{◌≡◌, ℕ, inl, inr, true, List, Option, Some, None, Ok, Err, ap, ◌∙◌, sym, subst}
+use Rattle.std.proofs.Common.{◌≡◌, ℕ, List, Option, Ok, ap, ◌∙◌, sym, subst}
 use Rattle.graph_heap.specs.declared.command.Limits.{Limits}
 use Rattle.graph_heap.specs.declared.command.Entry.{Entry}
 use Rattle.graph_heap.specs.Graph.{Graph, opening}
 use Rattle.graph_heap.specs.History.{after, IsLegal}
 use Rattle.settings.specs.declared.config.Config.{Config}
-use Rattle.heap_model.specs.Event.{Course, Event, Runs, present_of}
+use Rattle.heap_model.specs.Event.{Course, present_of}
 use Rattle.heap_model.specs.Settings.{settings_of, settings_by}
 use Rattle.machine.proofs.Space.{runs_settings}
 use Rattle.streams.specs.Streams.{Given}
-use Rattle.player.specs.declared.style.Style.TheVariants.{Nothing}
+use Rattle.player.specs.declared.style.Style.{Style}
 use Rattle.player.specs.New.{IsNew}
-use Rattle.player.specs.Playing.{Session, Played}
-use Rattle.metronome.specs.After.{PlayedUpTo}
+use Rattle.player.specs.Playing.{Session, PlayedUpTo}
+use Rattle.player.proofs.Promised.{up_to_reaches}
 
--- a play that reached its end ran its events
-played_runs : (given : Given) (old new : Session) → Played Nothing given old new (Ok tt) → (es : List Event) × Runs old.player.course es new.player.course
-played_runs given old new p = elim p.over.ends [
-  | inl e ↦ (p.over.events, subst (λ (s : Session). Runs old.player.course p.over.events s.player.course) (sym e.2) p.runs)
-  | inr h ↦ (let no : Ok tt ≡ Err _ = h.0 in absurd (cc))
-]
-
-up_to_runs : (n : Option ℕ) (given : Given) (old new : Session) → PlayedUpTo n given old new (Ok tt) → (es : List Event) × Runs old.player.course es new.player.course
-up_to_runs None given old new p = played_runs given old new p
-up_to_runs (Some n) given old new (inl all) = played_runs given old new all.0
-up_to_runs (Some n) given old new (inr first) = played_runs (record given { after = first.0; ended = true }) old new first.2
-
--- the heap behind it has the configuration's settings
-pub played_settings : (config : Config) (n : Option ℕ) (given : Given) (old new : Session) → IsNew config old.player → PlayedUpTo n given old new (Ok tt) → settings_of new.player.course.heap ≡ settings_by config
-played_settings config n given old new is p =
-    let r = up_to_runs n given old new p in
+-- the heap behind a play has the configuration's settings
+pub played_settings : (config : Config) (n : Option ℕ) (style : Style) (given : Given) (old new : Session) → IsNew config old.player → PlayedUpTo n style given old new (Ok tt) → settings_of new.player.course.heap ≡ settings_by config
+played_settings config n style given old new is p =
+    let r = up_to_reaches n style given old new (Ok tt) p in
     runs_settings r.0 old.player.course new.player.course r.1 ∙ is.settings
 
 -- the graph heap to which the history of a course leads

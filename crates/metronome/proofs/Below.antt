@@ -1,6 +1,6 @@
 -- A source that reads from another.
 use Rattle.std.proofs.Common.{◌≡◌, ℕ, ◌+◌, Bool, List, inl, inr, ap, ◌∙◌, subst}
-use Rattle.std.specs.Prelude.{Result}
+use Rattle.std.specs.Prelude.{Option, Result}
 use Rattle.settings.specs.declared.config.Config.{Config}
 use Rattle.command_line.specs.declared.job.Job.{Job}
 use Rattle.streams.specs.Streams.{Taken, given_by}
@@ -13,9 +13,9 @@ use Rattle.metronome.specs.Done.{JobDone, JobCountsReads}
 
 module _ {T S : Type 0} (old new : T) (source : T → S) (first : S) (is : source old ≡ first) where
   -- a job from it is a job from the other
-  pub done_below : (given : S → List ℕ) (ended : S → Bool) (job : Job) (config : Config) (taken : Taken) (r : Result Ending RunFault) → JobDone job config (given_by (λ t. given (source t)) (λ t. ended (source t)) old new) taken r
-      → JobDone job config (given_by given ended first (source new)) taken r
-  done_below given ended job config taken r done = subst (λ (s : S). JobDone job config (given_by given ended s (source new)) taken r) is done
+  pub done_below : (contents : List ℕ → Option (List ℕ)) (given : S → List ℕ) (ended : S → Bool) (job : Job) (config : Config) (taken : Taken) (r : Result Ending RunFault) → JobDone contents job config (given_by (λ t. given (source t)) (λ t. ended (source t)) old new) taken r
+      → JobDone contents job config (given_by given ended first (source new)) taken r
+  done_below contents given ended job config taken r done = subst (λ (s : S). JobDone contents job config (given_by given ended s (source new)) taken r) is done
 
   -- and so it counts its failed reads
   pub counts_below : (failures : S → ℕ) (job : Job) (r : Result Ending RunFault) → JobCountsReads job (λ t. failures (source t)) old new r → JobCountsReads job failures first (source new) r

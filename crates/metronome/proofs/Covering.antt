@@ -14,6 +14,7 @@ use Rattle.trace.specs.LinesProcessed.{LinesRead}
 use Rattle.trace.proofs.Cutting.{one_cutting}
 use Rattle.player.specs.declared.style.Style.TheVariants.{Nothing}
 use Rattle.player.specs.Playing.{session}
+use Rattle.player.specs.Surveying.{NewRun}
 use Rattle.space.specs.declared.pace.Pace.{Pace as PaceTable}
 use Rattle.space.specs.Pace.{Pace, opening_beat, AllKeepPace}
 use Rattle.space.specs.Fitting.{pace_in}
@@ -66,14 +67,14 @@ all_live limits es p live least within =
     pace_lives q 0 (opening_beat limits) es ((least q 0).1 ((λ class low. (within class low, omega arith, omega arith)), no_budget es))
 
 module _ (config : Config) (l : LoadTable) (text : List ℕ) (given again : Given) (reads : ReadsText text given) (reads' : ReadsText text again) (fits : LoadFits config (load_in l)) where
-  module _ (m : Measured) (run : RunMeasured config given m) where
+  module _ (m : Measured) (run : NewRun config given) (found : RunMeasured config given run m) where
     limits : run.old.course.heap.limits ≡ limits_of config
     limits = ap (λ (s : HeapSettings). s.limits) run.is_new.settings
 
     live_so : (p : PaceTable) → m.pace ≡ Some p → ((class : ℕ) → class < CLASSES → slice_index p.live class ≤ slice_index l.live class) → AllLive (load_in l).live (opening (limits_of config)) run.played.over.events
     live_so p e within =
         let none = ((q : Pace) (k : ℕ) → IsPaceStated q → AllKeepPace q k (opening_beat run.old.course.heap.limits) run.played.over.events → ⊥) in
-        let least = subst (λ o. MatchOption o none (λ t. IsLeastPace run.old.course.heap.limits run.played.over.events (pace_in t))) e run.is.pace in
+        let least = subst (λ o. MatchOption o none (λ t. IsLeastPace run.old.course.heap.limits run.played.over.events (pace_in t))) e found.is.pace in
         subst (λ (z : Limits). AllLive (load_in l).live (opening z) run.played.over.events) limits (all_live run.old.course.heap.limits run.played.over.events (pace_in p) (load_in l).live least within)
 
     ended_so : (run.played.over.rest ≡ []) × IsTrue given.ended
@@ -99,9 +100,9 @@ module _ (config : Config) (l : LoadTable) (text : List ℕ) (given again : Give
 
 -- what is reported of a load, once a trace of a text was measured and checked
 pub tells : (config : Config) (l : LoadTable) (text : List ℕ) (m : Measured) (run : TextMeasured config text (Ok m)) (kept : Conformance) → TextChecked config (load_in l) text (Ok kept) → (report : List ℕ) → IsLoadReport config l kept m.pace report
-    → TellsLoad config l m run.2.played.over.events kept report
+    → TellsLoad config l m run.2.0.played.over.events kept report
 tells config l text m run kept checked report is = record {
   report = is;
   each = λ fits style old new lines version es new_player done keeps live. finds_room config style old new lines version es (load_in l) new_player done keeps live fits;
-  this = λ fits covered. covered_room config l text run.0 checked.0 run.1 checked.1 fits m run.2 kept checked.2 covered;
+  this = λ fits covered. covered_room config l text run.0 checked.0 run.1 checked.1 fits m run.2.0 run.2.1 kept checked.2 covered;
 }

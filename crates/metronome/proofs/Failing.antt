@@ -20,14 +20,11 @@ use Rattle.trace.specs.Scripts.{ReadScripts, AreScripts, ScriptsRead, ScriptStop
 use Rattle.player.specs.declared.style.Style.TheVariants.{Nothing}
 use Rattle.player.specs.Player.{entries_in}
 use Rattle.player.specs.Playing.{Session, session, Played, text_written}
+use Rattle.player.specs.Surveying.{NewRun, Surveyed}
 use Rattle.player.proofs.Lines.{ends_otherwise, nothing_written}
-use Rattle.pictures.specs.declared.timeline.samples.Samples.{Samples}
 use Rattle.pictures.specs.GraphDrawn.{GraphDrawn}
-use Rattle.pictures.specs.Taking.{SamplesTaken}
-use Rattle.inspector.specs.declared.cycles.cycle.Cycles.{Cycles}
-use Rattle.inspector.specs.Taking.{CyclesTaken}
-use Rattle.sizing.specs.declared.measured.Measured.{Measured}
-use Rattle.sizing.specs.Measuring.{TraceMeasured}
+use Rattle.inspector.specs.Taking.{TellsCycles}
+use Rattle.sizing.specs.Measuring.{RunMeasured}
 use Rattle.sizing.specs.AllocationProfile.{AllocationProfile}
 use Rattle.sizing.specs.declared.arrivals.keeping.Conformance.{Conformance}
 use Rattle.sizing.specs.Metering.{NoEvent}
@@ -172,17 +169,9 @@ nothing_cut given old new p = elim p.over.ends [
   | inr w ↦ cut_of_nothing p.over.version (entries_in p.over.events) w.1.0.0 w.1.0.1
 ]
 
-pub samples_unwritten : (config : Settings) (given : Given) (how : Result Samples PlayFault) → SamplesTaken config given how → writes_failed how ≡ 0
-samples_unwritten config given (Err texts.Write) w = absurd (nothing_cut given (session w.0 []) w.1 w.2)
-samples_unwritten config given how w = refl
-
-cycles_unwritten : (config : Settings) (given : Given) (how : Result Cycles PlayFault) → CyclesTaken config given how → writes_failed how ≡ 0
-cycles_unwritten config given (Err texts.Write) w = absurd (nothing_cut given (session w.0 []) w.1 w.2)
-cycles_unwritten config given how w = refl
-
-pub measured_unwritten : (config : Settings) (given : Given) (how : Result Measured PlayFault) → TraceMeasured config given how → writes_failed how ≡ 0
-measured_unwritten config given (Err texts.Write) w = absurd (nothing_cut given (session w.0 []) w.1 w.2)
-measured_unwritten config given how w = refl
+pub surveyed_unwritten : {F : Type 0} (Tells : (config : Settings) (given : Given) → NewRun config given → F → Type 0) (config : Settings) (given : Given) (how : Result F PlayFault) → Surveyed Tells config given how → writes_failed how ≡ 0
+surveyed_unwritten Tells config given (Err texts.Write) w = absurd (nothing_cut given (session w.0 []) w.1 w.2)
+surveyed_unwritten Tells config given how w = refl
 
 -- nor in answering a question
 of_answer : {A : Type 0} (Says : A → Answer → Type 0) (how : Result A PlayFault) (answered : Result Answer PlayFault) → AnswerOf Says how answered → writes_failed how ≡ 0 → writes_failed answered ≡ 0
@@ -192,5 +181,5 @@ of_answer Says (Err why) (Err other) is none = ap writes_failed is ∙ none
 
 pub answer_unwritten : (question : Question) (config : Settings) (given : Given) (answered : Result Answer PlayFault) → IsAnswer question config given answered → writes_failed answered ≡ 0
 answer_unwritten questions.History config given answered w = of_answer _ w.0 answered w.2 (entries_unwritten config given w.0 w.1)
-answer_unwritten (questions.Cycles layout) config given answered w = of_answer _ w.0 answered w.2 (cycles_unwritten config given w.0 w.1)
-answer_unwritten (questions.Pages pace) config given answered w = of_answer _ w.0 answered w.2 (measured_unwritten config given w.0 w.1)
+answer_unwritten (questions.Cycles layout) config given answered w = of_answer _ w.0 answered w.2 (surveyed_unwritten TellsCycles config given w.0 w.1)
+answer_unwritten (questions.Pages pace) config given answered w = of_answer _ w.0 answered w.2 (surveyed_unwritten RunMeasured config given w.0 w.1)

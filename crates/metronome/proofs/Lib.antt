@@ -8,3 +8,4 @@ pub mod Failing
 pub mod Below
 pub mod Alive
 mod Obeying
+mod LoadsRead

@@ -44,37 +44,42 @@ long_fault bytes long = by_test (nat_lt 65536 (length bytes)) (grind arith)
     by_test true e = refl
     by_test false e = absurd (cc)
 
-long_read : (all : List ℕ) (r : Result Config (ReadFault ConfigFault)) → 65536 < length all → 65536 < length (document_bytes all) → IsRead (document_bytes all) r → IsRead all r
-long_read all (Ok config) long cut h = absurd (let no : Some faults.TooLong ≡ None = sym (long_fault (document_bytes all) cut) ∙ h.0 in cc)
-long_read all (Err (Refused fault)) long cut h = long_fault all long ∙ sym (long_fault (document_bytes all) cut) ∙ h
-long_read all (Err NoMemory) long cut h = absurd (let short = h.short in omega (arith, short, cut))
+long_read : (all cut : List ℕ) (r : Result Config (ReadFault ConfigFault)) → 65536 < length all → 65536 < length cut → IsRead cut r → IsRead all r
+long_read all cut (Ok config) long few h = absurd (let no : Some faults.TooLong ≡ None = sym (long_fault cut few) ∙ h.0 in cc)
+long_read all cut (Err (Refused fault)) long few h = long_fault all long ∙ sym (long_fault cut few) ∙ h
+long_read all cut (Err NoMemory) long few h = absurd (let short = h.short in omega (arith, short, few))
 
-read_whole : (all : List ℕ) (r : Result Config (ReadFault ConfigFault)) → IsRead (document_bytes all) r → IsRead all r
-read_whole all r h = elim (le_or (length all) 65536) [
-  | inl short ↦ subst (λ b. IsRead b r) (take_all 65537 all (omega (arith, short))) h
-  | inr long ↦ long_read all r long (omega (arith, long, length-take 65537 all)) h
-]
-  where
-    le_or : (a b : ℕ) → (a ≤ b) ⊎ (b < a)
-    le_or a b = grind arith
+-- Says bytes r: what is read of a document, of which those that are too long all say the same.
+module _ {A : Type 0} (Says : List ℕ → A → Type 0) (long : (all cut : List ℕ) (r : A) → 65536 < length all → 65536 < length cut → Says cut r → Says all r) where
+  read_whole : (all : List ℕ) (r : A) → Says (document_bytes all) r → Says all r
+  read_whole all r h = elim (le_or (length all) 65536) [
+    | inl short ↦ subst (λ b. Says b r) (take_all 65537 all (omega (arith, short))) h
+    | inr large ↦ long all (document_bytes all) r large (omega (arith, large, length-take 65537 all)) h
+  ]
+    where
+      le_or : (a b : ℕ) → (a ≤ b) ⊎ (b < a)
+      le_or a b = grind arith
+
+  pub known_read : (known : Option (List ℕ)) (bytes : List ℕ) (r : A) → IfSome known (λ all. bytes ≡ document_bytes all) → Says bytes r → IfSome known (λ all. Says all r)
+  known_read None bytes r e h = tt
+  known_read (Some all) bytes r e h = read_whole all r (subst (λ b. Says b r) e h)
 
 pub config_read : (known : Option (List ℕ)) (bytes : List ℕ) (r : Result Config (ReadFault ConfigFault)) → IfSome known (λ all. bytes ≡ document_bytes all) → IsRead bytes r → IfSome known (λ all. IsRead all r)
-config_read None bytes r e h = tt
-config_read (Some all) bytes r e h = read_whole all r (subst (λ b. IsRead b r) e h)
+config_read known bytes r e h = known_read IsRead long_read known bytes r e h
 
 -- a job from a source is one from the bytes that its source has
-pub job_on : (given : Given) (bytes input : Option (List ℕ)) (job : Job) (config : Config) (taken : Taken) (how : Result Ending RunFault) → given.before ≡ [] → Stays bytes input
-    → JobDone job config given taken how → IsGivenOf input given how → JobDoneOn bytes job config taken how
-job_on given bytes input job config taken how first stays done is = (given, first, (λ none. begins_on bytes input given.after given.ended stays (is none)), done)
+pub job_on : (contents : List ℕ → Option (List ℕ)) (given : Given) (bytes input : Option (List ℕ)) (job : Job) (config : Config) (taken : Taken) (how : Result Ending RunFault) → given.before ≡ [] → Stays bytes input
+    → JobDone contents job config given taken how → IsGivenOf input given how → JobDoneOn contents bytes job config taken how
+job_on contents given bytes input job config taken how first stays done is = (given, first, (λ none. begins_on bytes input given.after given.ended stays (is none)), done)
 
 -- the bytes of a request's other file: those of standard input, or of the file of its name
 pub on_input : (contents : List ℕ → Option (List ℕ)) (input : Option (List ℕ)) (name : List ℕ) (job : Job) (config : Config) (taken : Taken) (how : Result Ending RunFault) → true ≡ bytes_eq name (codes "-")
-    → JobDoneOn input job config taken how → JobDoneOn (file_bytes contents input name) job config taken how
-on_input contents input name job config taken how e done = subst (λ b. JobDoneOn (if b then input else contents name) job config taken how) e done
+    → JobDoneOn contents input job config taken how → JobDoneOn contents (file_bytes contents input name) job config taken how
+on_input contents input name job config taken how e done = subst (λ b. JobDoneOn contents (if b then input else contents name) job config taken how) e done
 
 pub on_file : (contents : List ℕ → Option (List ℕ)) (input : Option (List ℕ)) (name : List ℕ) (job : Job) (config : Config) (taken : Taken) (how : Result Ending RunFault) → false ≡ bytes_eq name (codes "-")
-    → JobDoneOn (contents name) job config taken how → JobDoneOn (file_bytes contents input name) job config taken how
-on_file contents input name job config taken how e done = subst (λ b. JobDoneOn (if b then input else contents name) job config taken how) e done
+    → JobDoneOn contents (contents name) job config taken how → JobDoneOn contents (file_bytes contents input name) job config taken how
+on_file contents input name job config taken how e done = subst (λ b. JobDoneOn contents (if b then input else contents name) job config taken how) e done
 
 -- a reader that has given nothing has its bytes still to give
 pub none_given : (bytes left : Option (List ℕ)) (given : List ℕ) → given ≡ [] → Stays bytes left → Stays bytes (prepend_known given left)

@@ -1,5 +1,5 @@
 -- What is played before something is reported of the player.
-use Rattle.std.specs.Prelude.{◌≡◌, ℕ, ◌⊎◌, List, Option, Some, None, Result, Ok, Err}
+use Rattle.std.specs.Prelude.{◌≡◌, ℕ, ◌⊎◌, List, Option, Result, Ok, Err}
 use Rattle.settings.specs.declared.config.Config.{Config}
 use Rattle.trace.specs.declared.fault.PlayFault.{PlayFault}
 use Rattle.trace.specs.declared.fault.PlayFault.TheVariants.{NoMemory}
@@ -7,25 +7,20 @@ use Rattle.streams.specs.Streams.{Given, Taken}
 use Rattle.player.specs.declared.style.Style.TheVariants.{Nothing}
 use Rattle.player.specs.New.{IsNew}
 use Rattle.player.specs.Player.{PlayerState}
-use Rattle.player.specs.Playing.{Session, session, Played, PlayedFirst}
+use Rattle.player.specs.Playing.{session, PlayedUpTo}
 use Rattle.metronome.specs.declared.fault.Ending.{Ending}
 use Rattle.metronome.specs.declared.fault.RunFault.{RunFault}
 use Rattle.metronome.specs.declared.fault.RunFault.TheVariants.{Text}
 
--- a trace, or its first event lines, played without a line written
-abbrev pub PlayedUpTo : Option ℕ → Given → Session → Session → Result (Unit {0}) PlayFault → Type 0
-PlayedUpTo None given old new how = Played Nothing given old new how
-PlayedUpTo (Some events) given old new how = PlayedFirst events Nothing given old new how
-
--- A new player played a trace, or its first event lines: to the end; or a fault ended the play; or memory was refused
--- before anything was read or written.
+-- A new player played a trace, or its first event lines, without a line written: to the end; or a fault ended the play; or
+-- memory was refused before anything was read or written.
 abbrev pub PlayerAfter : Option ℕ → Config → Given → Taken → Result PlayerState RunFault → Type 0
 PlayerAfter after config given taken (Ok new) = (old : PlayerState) × IsNew config old
-    × PlayedUpTo after given (session old taken.before) (session new taken.after) (Ok tt)
+    × PlayedUpTo after Nothing given (session old taken.before) (session new taken.after) (Ok tt)
 PlayerAfter after config given taken (Err fault) =
     ((given.after ≡ given.before) × (taken.after ≡ taken.before) × (fault ≡ Text NoMemory))
     ⊎ ((old : PlayerState) × (new : PlayerState) × (why : PlayFault) × IsNew config old
-    × PlayedUpTo after given (session old taken.before) (session new taken.after) (Err why) × (fault ≡ Text why))
+    × PlayedUpTo after Nothing given (session old taken.before) (session new taken.after) (Err why) × (fault ≡ Text why))
 
 -- A new player played a trace, or its first event lines, to the end, and then this was reported of it; or the play
 -- ended in a fault, and nothing was reported.

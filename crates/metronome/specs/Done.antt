@@ -1,5 +1,5 @@
 -- What the job of a command line reads and writes.
-use Rattle.std.specs.Prelude.{ℕ, Bool, true, false, if◌then◌else◌, None, Result}
+use Rattle.std.specs.Prelude.{ℕ, Bool, true, false, if◌then◌else◌, List, Option, None, Result}
 use Rattle.settings.specs.declared.config.Config.{Config}
 use Rattle.heap_model.specs.Event.{present_of}
 use Rattle.streams.specs.Streams.{Given, Taken}
@@ -31,22 +31,23 @@ style_of history = if history then Entries else Replies
 abbrev pub layout_of : Bool → Layout
 layout_of csv = if csv then Commas else Columns
 
--- what a job does: for some, what it reports of the player after its play
-abbrev pub JobDone : Job → Config → Given → Taken → Result Ending RunFault → Type 0
-JobDone (Play history) config = TracePlayed (style_of history) config
-JobDone Check config = Answered questions.History config
-JobDone (Threads turns budget) config = ScriptsRun turns budget config
-JobDone (Inspect by after) config = AfterPlay (λ p. TextWritten Done (report_by by p.course.heap)) after config
-JobDone (Cycles csv) config = Answered (questions.Cycles (layout_of csv)) config
-JobDone (Path id after) config =
+-- what a job does, by the bytes of the file of each name, where they are known: for some, what it reports of the player
+-- after its play
+abbrev pub JobDone : (List ℕ → Option (List ℕ)) → Job → Config → Given → Taken → Result Ending RunFault → Type 0
+JobDone contents (Play history) config = TracePlayed (style_of history) config
+JobDone contents Check config = Answered questions.History config
+JobDone contents (Threads turns budget) config = ScriptsRun turns budget config
+JobDone contents (Inspect by after) config = AfterPlay (λ p. TextWritten Done (report_by by p.course.heap)) after config
+JobDone contents (Cycles csv) config = Answered (questions.Cycles (layout_of csv)) config
+JobDone contents (Path id after) config =
     AfterPlay (λ p. ReportTold (TellsWhy id p.course.heap (present_of p.course))) after config
-JobDone (Mmu windows) config = AfterPlay (λ p. WindowsTold config p.timetable windows.items) None config
-JobDone (Draw picture after) config = AfterPlay (PictureDrawn picture config) after config
-JobDone (DrawGraph after most) config = AfterPlay (λ p. GraphTold most (present_of p.course)) after config
-JobDone DrawTime config = TimeDrawn config
-JobDone (Pages Demand) config = Answered (questions.Pages false) config
-JobDone (Pages Pace) config = Answered (questions.Pages true) config
-JobDone (Pages (Load file)) config = LoadTold config
+JobDone contents (Mmu windows) config = AfterPlay (λ p. WindowsTold config p.timetable windows.items) None config
+JobDone contents (Draw picture after) config = AfterPlay (PictureDrawn picture config) after config
+JobDone contents (DrawGraph after most) config = AfterPlay (λ p. GraphTold most (present_of p.course)) after config
+JobDone contents DrawTime config = TimeDrawn config
+JobDone contents (Pages Demand) config = Answered (questions.Pages false) config
+JobDone contents (Pages Pace) config = Answered (questions.Pages true) config
+JobDone contents (Pages (Load file)) config = LoadTold (contents file.now) config
 
 -- a job counts the failed reads of its source; one by a load may end before it reads
 abbrev pub JobCountsReads : {S : Type 0} → Job → (S → ℕ) → S → S → Result Ending RunFault → Type 0

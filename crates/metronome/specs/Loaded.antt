@@ -1,5 +1,5 @@
 -- What is reported of a load, and of a trace that is to keep to it.
-use Rattle.std.specs.Prelude.{◌≡◌, ℕ, ◌*◌, IsTrue, ◌⊎◌, List, [], ◌++◌, Result, Ok, Err}
+use Rattle.std.specs.Prelude.{◌≡◌, ℕ, ◌*◌, IsTrue, ◌⊎◌, List, [], ◌++◌, Option, IfSome, Result, Ok, Err}
 use Rattle.settings.specs.declared.config.Config.{Config}
 use Rattle.heap_model.specs.Event.{Event}
 use Rattle.trace.specs.declared.fault.PlayFault.{PlayFault}
@@ -13,10 +13,13 @@ use Rattle.sizing.specs.AllocationProfile.{AllocationProfile}
 use Rattle.sizing.specs.New.{LoadFits, LoadFindsRoom}
 use Rattle.sizing.specs.Fitting.{load_in}
 use Rattle.sizing.specs.Keeping.{LoadChecked}
+use Rattle.sizing.specs.Document.{IsRead}
+use Rattle.command_line.specs.declared.toml_table.ReadFault.TheVariants.{Refused}
 use Rattle.inspector.specs.LoadReport.{IsCovered, IsLoadReport}
 use Rattle.metronome.specs.declared.fault.Ending.{Ending}
 use Rattle.metronome.specs.declared.fault.RunFault.{RunFault}
-use Rattle.metronome.specs.Faults.{IsUnread}
+use Rattle.metronome.specs.declared.fault.RunFault.TheVariants.{Load}
+use Rattle.metronome.specs.Faults.{IsUnreadable}
 use Rattle.metronome.specs.Told.{ReportTold, NothingTold, ToldOf}
 
 -- a text, or a beginning of it, was given from its first byte
@@ -46,7 +49,7 @@ module _ (config : Config) (l : LoadTable) where
       → Result Ending RunFault → Type 0
   CheckedAfter text (Ok m) run taken result = (how : Result Conformance PlayFault)
       × TextChecked config (load_in l) text how
-      × ToldOf (λ kept. ReportTold (TellsLoad m run.2.played.over.events kept)) how taken result
+      × ToldOf (λ kept. ReportTold (TellsLoad m run.2.0.played.over.events kept)) how taken result
   CheckedAfter text (Err why) run taken result = NothingTold why taken result
 
   -- A trace of this text was measured on a new heap, read again and checked against the load, and what the load needs
@@ -59,9 +62,16 @@ module _ (config : Config) (l : LoadTable) where
 abbrev pub IsRest : Given → List ℕ → Type 0
 IsRest given text = (given.after ≡ given.before ++ text) × IsTrue given.ended
 
--- A trace was read to its end, and from its text and a load it was reported what the load needs; or one of them could
--- not be read, and nothing was written.
-abbrev pub LoadTold : Config → Given → Taken → Result Ending RunFault → Type 0
-LoadTold config given taken result =
-    ((l : LoadTable) × (text : List ℕ) × IsRest given text × TextTold config l text taken result)
-    ⊎ ((fault : RunFault) × IsUnread fault × (result ≡ Err fault) × (taken.after ≡ taken.before))
+-- What was read of a load's file, by its bytes where they are known: the load that they state, or what is wrong with
+-- them; or the file can't be read.
+abbrev pub LoadRead : Option (List ℕ) → Result LoadTable RunFault → Type 0
+LoadRead bytes (Ok l) = IfSome bytes (λ all. IsRead all (Ok l))
+LoadRead bytes (Err (Load why)) = IfSome bytes (λ all. IsRead all (Err (Refused why)))
+LoadRead bytes (Err fault) = IsUnreadable fault
+
+-- A trace was read to its end, and from its text and the load of a file of these bytes it was reported what the load
+-- needs; or one of them could not be read, or the load is refused, and nothing was written.
+abbrev pub LoadTold : Option (List ℕ) → Config → Given → Taken → Result Ending RunFault → Type 0
+LoadTold bytes config given taken result =
+    ((l : LoadTable) × LoadRead bytes (Ok l) × (text : List ℕ) × IsRest given text × TextTold config l text taken result)
+    ⊎ ((fault : RunFault) × LoadRead bytes (Err fault) × (result ≡ Err fault) × (taken.after ≡ taken.before))

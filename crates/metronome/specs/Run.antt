@@ -4,7 +4,7 @@ use Rattle.std.specs.Str.{bytes_eq}
 use Rattle.settings.specs.declared.config.Config.{Config}
 use Rattle.settings.specs.declared.fault.ConfigFault.{ConfigFault}
 use Rattle.command_line.specs.Document.{IsRead}
-use Rattle.command_line.specs.Words.{IsAskedFor}
+use Rattle.command_line.specs.Words.{IsAskedForBy, AsksForHelp}
 use Rattle.command_line.specs.declared.job.Job.{Job}
 use Rattle.command_line.specs.declared.job.Request.{Request}
 use Rattle.command_line.specs.declared.toml_table.ReadFault.{ReadFault}
@@ -29,10 +29,11 @@ NothingDone fault taken how = (how ≡ Err fault) × (taken.after ≡ taken.befo
 abbrev pub IsGivenOf : Option (List ℕ) → Given → Result Ending RunFault → Type 0
 IsGivenOf bytes given how = failed_reads how ≡ 0 → IfSome bytes (λ all. Begins given.after given.ended all)
 
--- A job was done from the beginning of these bytes on.
-abbrev pub JobDoneOn : Option (List ℕ) → Job → Config → Taken → Result Ending RunFault → Type 0
-JobDoneOn bytes job config taken how = (given : Given) × (given.before ≡ []) × IsGivenOf bytes given how
-    × JobDone job config given taken how
+module _ (contents : List ℕ → Option (List ℕ)) where
+  -- A job was done from the beginning of these bytes on.
+  abbrev pub JobDoneOn : Option (List ℕ) → Job → Config → Taken → Result Ending RunFault → Type 0
+  JobDoneOn bytes job config taken how = (given : Given) × (given.before ≡ []) × IsGivenOf bytes given how
+      × JobDone contents job config given taken how
 
 module _ (contents : List ℕ → Option (List ℕ)) (input : Option (List ℕ)) where
   -- the bytes of a request's other file, where they are known
@@ -48,15 +49,14 @@ module _ (contents : List ℕ → Option (List ℕ)) (input : Option (List ℕ))
   abbrev pub Obeyed : Request → Taken → Result Ending RunFault → Type 0
   Obeyed request taken how =
       ((config : Config) × ConfigRead request.config.now (Ok config)
-      × JobDoneOn (file_bytes request.file.now) request.job config taken how)
+      × JobDoneOn contents (file_bytes request.file.now) request.job config taken how)
       ⊎ (((why : ReadFault ConfigFault) × ConfigRead request.config.now (Err why)
       × NothingDone (of_settings why) taken how)
       ⊎ ((fault : RunFault) × IsUnreadable fault × NothingDone fault taken how))
 
-  -- A subcommand and the values of its arguments ask for a request, which was obeyed; or help was asked for, and was
-  -- written; or the words were refused; or memory was.
-  abbrev pub RunDone : Taken → Result Ending RunFault → Type 0
-  RunDone taken how =
-      ((request : Request) × IsAskedFor request × Obeyed request taken how)
-      ⊎ (((help : List ℕ) × TextWritten Done help taken how)
+  -- The words ask for a request, which was obeyed; or for help, which was written; or they were refused; or memory was.
+  abbrev pub RunDone : List (List ℕ) → Taken → Result Ending RunFault → Type 0
+  RunDone words taken how =
+      ((request : Request) × IsAskedForBy words request × Obeyed request taken how)
+      ⊎ ((AsksForHelp words × (help : List ℕ) × TextWritten Done help taken how)
       ⊎ ((fault : RunFault) × IsOfWords fault × NothingDone fault taken how))

@@ -2,11 +2,9 @@
 ghost use Rattle.std.specs.Prelude.{◌≡◌, ◌+◌, IfOk};
 ghost use Rattle.heap_model.specs.Event.{present_of};
 ghost use Rattle.heap_model.specs.Settings.{settings_of, settings_by};
-ghost use Rattle.player.specs.Playing.{session};
-ghost use Rattle.trace.specs.LinesProcessed.{reads_failed, writes_failed};
 ghost use Rattle.streams.specs.Streams.{given_by, taken_by, Stays};
 ghost use Rattle.metronome.specs.Faults.{failed_reads, failed_writes};
-ghost use Rattle.metronome.specs.After.{PlayedUpTo, PlayerAfter, AfterPlay};
+ghost use Rattle.metronome.specs.After.{PlayerAfter, AfterPlay};
 ghost use Rattle.metronome.specs.Telling.{Tells};
 
 mod graph;
@@ -22,12 +20,11 @@ use graph_heap::{NoMemory, Reference};
 use path::tell_path;
 use picture::tell_picture;
 use pictures::present;
-use player::{Player, Style, play, play_first};
+use player::{Player, Style, play_up_to};
 use report::tell_report;
 use settings::Config;
 use std::alloc::Global;
 use streams::{Sink, Source};
-use trace::PlayFault;
 use windows::tell_windows;
 
 /// What is reported.
@@ -46,25 +43,6 @@ pub enum Telling<'a> {
     Windows(&'a [u64]),
 }
 
-/// Plays a trace, or its first event lines, and writes nothing.
-fn play_silently<S: Source, K: Sink>(
-    source: &mut S,
-    sink: &mut K,
-    player: &mut Player,
-    after: Option<u32>,
-) -> Result<(), PlayFault>
-    ensures played { PlayedUpTo after (given_by S.given S.ended source.old source.new)
-        (session player.old (K.taken sink.old)) (session player.new (K.taken sink.new)) result }
-    ensures reads { S.failures source.new ≡ S.failures source.old + reads_failed result }
-    ensures input { reads_failed result ≡ 0 → Stays (S.input source.old) (S.input source.new) }
-    ensures writes { K.failures sink.new ≡ K.failures sink.old + writes_failed result }
-{
-    match after {
-        None => play(source, sink, player, Style::Nothing),
-        Some(events) => play_first(events, source, sink, player, Style::Nothing),
-    }
-}
-
 /// A new player after a trace, or after its first event lines; nothing was written of them.
 fn player_after<S: Source, K: Sink>(
     alloc: Global,
@@ -81,7 +59,7 @@ fn player_after<S: Source, K: Sink>(
     ensures writes { K.failures sink.new ≡ K.failures sink.old + failed_writes result }
 {
     let mut player = Player::new(alloc, config)?;
-    play_silently(source, sink, &mut player, after)?;
+    play_up_to(after, source, sink, &mut player, Style::Nothing)?;
     Ok(player)
 }
 

@@ -9,9 +9,10 @@ ghost use Rattle.metronome.specs.Answered.{EntriesTaken, verdict, told_of, Tells
 use crate::fault::{Ending, RunFault};
 use graph_heap::Reference;
 use inspector::pages_needed::{Scope, needed_report, pace_report};
-use inspector::{Layout, cycles_text, take_cycles};
+use inspector::{Layout, Log, cycles_text};
+use player::survey_run;
 use settings::Config;
-use sizing::{Measured, measure};
+use sizing::{Measured, Meter};
 use std::alloc::{AllocError, Global};
 use streams::{Sink, Source, write_all};
 use trace::PlayFault;
@@ -115,14 +116,14 @@ fn answer_to<S: Source>(
             offer(history_line(alloc, checked), ending_of(checked))
         }
         Question::Cycles(layout) => {
-            let cycles = take_cycles(alloc, config, source)?;
+            let cycles = survey_run::<Log, S>(alloc, config, source)?;
             offer(
                 cycles_text(alloc, cycles.items.as_slice(), layout),
                 Ending::Done,
             )
         }
         Question::Pages { pace } => {
-            let measured = measure(alloc, config, source)?;
+            let measured = survey_run::<Meter, S>(alloc, config, source)?;
             offer(pages_text(alloc, config, &measured, pace), Ending::Done)
         }
     }

@@ -16,9 +16,9 @@ use settings::Config;
 use std::alloc::Global;
 use std::sync::Wait;
 use std::thread::Threads;
-use streams::{Sink, Source, WriteFailed, write_all};
+use streams::{Sink, Source, WriteFailed};
 use trace::transcripts::read_scripts;
-use trace::{Version, end_line, write_entry};
+use trace::{Version, end_line, put, version_line, write_entry};
 
 /// Plays a trace, and writes what the style says of each command.
 pub fn play_job<S: Source, K: Sink>(
@@ -123,7 +123,11 @@ fn write_version<K: Sink>(sink: &mut K, version: Version) -> Result<(), WriteFai
 {
     match version {
         Version::First => Ok(()),
-        Version::Second => write_all(sink, b"version 2\n"),
+        Version::Second => {
+            let mut out = [0; 256];
+            let end = put(out.as_mut_slice(), 0, version_line());
+            end_line(sink, &mut out, end)
+        }
     }
 }
 

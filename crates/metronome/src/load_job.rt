@@ -3,15 +3,16 @@ ghost use Rattle.std.specs.Prelude.{◌≡◌, ◌+◌, IfErr, IfOk};
 ghost use Rattle.trace.specs.LinesProcessed.{reads_failed};
 ghost use Rattle.streams.specs.Streams.{given_by, taken_by, Stays};
 ghost use Rattle.sizing.specs.Fitting.{load_in};
-ghost use Rattle.metronome.specs.Faults.{IsUnread, failed_reads, failed_writes, LoadCountsReads};
-ghost use Rattle.metronome.specs.Loaded.{IsRest, LoadTold, TextMeasured, TextChecked, TextTold};
+ghost use Rattle.metronome.specs.Faults.{IsUnreadable, failed_reads, failed_writes, LoadCountsReads};
+ghost use Rattle.metronome.specs.Loaded.{IsRest, LoadRead, LoadTold, TextMeasured, TextChecked, TextTold};
 
 use crate::fault::{Ending, RunFault};
 use crate::files::{Opener, read_document};
 use inspector::load_kept::load_report;
+use player::survey_run;
 use settings::Config;
 use sizing::arrivals::{AllocationProfile, Conformance, keeps_load};
-use sizing::{LoadFault, Measured, measure, read_load};
+use sizing::{LoadFault, Measured, Meter, read_load};
 use std::alloc::Global;
 use streams::{MemorySource, Sink, Source, write_all};
 use trace::PlayFault;
@@ -21,7 +22,7 @@ const PIECE: usize = 4096;
 
 /// The load that a file gives.
 fn load_of<O: Opener>(alloc: Global, opener: &O, name: &str) -> Result<AllocationProfile, RunFault>
-    ensures { IfErr result IsUnread }
+    ensures { LoadRead (O.contents opener.now name.now) result }
 {
     let bytes = read_document(alloc, opener, name)?;
     match read_load(alloc, bytes.as_slice()) {
@@ -34,7 +35,7 @@ fn load_of<O: Opener>(alloc: Global, opener: &O, name: &str) -> Result<Allocatio
 /// All bytes that a source has still to give.
 fn rest_of<S: Source>(alloc: Global, source: &mut S) -> Result<Vec<u8>, RunFault>
     ensures rest { IfOk result (λ text. IsRest (given_by S.given S.ended source.old source.new) text.items) }
-    ensures unread { IfErr result IsUnread }
+    ensures unread { IfErr result IsUnreadable }
     ensures reads { S.failures source.new ≡ S.failures source.old + failed_reads result }
     ensures input { failed_reads result ≡ 0 → Stays (S.input source.old) (S.input source.new) }
 {
@@ -59,7 +60,7 @@ fn measure_text(alloc: Global, config: &Config, text: &[u8]) -> Result<Measured,
     ensures reads { reads_failed result ≡ 0 }
 {
     let mut source = MemorySource::new(text);
-    measure(alloc, config, &mut source)
+    survey_run::<Meter, _>(alloc, config, &mut source)
 }
 
 /// Whether the trace of a text keeps to a load.
@@ -107,7 +108,7 @@ pub fn load_job<O: Opener, S: Source, K: Sink>(
     opener: &O,
     name: &str,
 ) -> Result<Ending, RunFault>
-    ensures done { LoadTold config.now (given_by S.given S.ended source.old source.new)
+    ensures done { LoadTold (O.contents opener.now name.now) config.now (given_by S.given S.ended source.old source.new)
         (taken_by K.taken sink.old sink.new) result }
     ensures reads { LoadCountsReads S.failures source.old source.new result }
     ensures input { failed_reads result ≡ 0 → Stays (S.input source.old) (S.input source.new) }

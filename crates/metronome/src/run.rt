@@ -1,5 +1,5 @@
 //! A run of the program.
-ghost use Rattle.std.specs.Prelude.{◌≡◌, ◌+◌, [], Result};
+ghost use Rattle.std.specs.Prelude.{◌≡◌, ◌+◌, [], map, Result};
 ghost use Rattle.metronome.specs.declared.fault.Ending.{Ending};
 ghost use Rattle.metronome.specs.declared.fault.RunFault.{RunFault};
 ghost use Rattle.streams.specs.Streams.{given_by, taken_by, Stays};
@@ -57,7 +57,7 @@ where
     E: Write,
     T: Threads + Wait + Sync,
     ensures { (how : Result Ending RunFault) × (result ≡ status_of how)
-        × RunDone (O.contents opener.now) (R.remaining input) (taken_by K.taken sink.old sink.new) how
+        × RunDone (O.contents opener.now) (R.remaining input) (map S.text words.now) (taken_by K.taken sink.old sink.new) how
         × (K.failures sink.new ≡ K.failures sink.old + failed_writes how) }
 {
     match perform(rt, alloc, words, opener, input, sink, errors) {
@@ -94,7 +94,8 @@ where
     K: Sink,
     E: Write,
     T: Threads + Wait + Sync,
-    ensures done { RunDone (O.contents opener.now) (R.remaining input) (taken_by K.taken sink.old sink.new) result }
+    ensures done { RunDone (O.contents opener.now) (R.remaining input) (map S.text words.now)
+        (taken_by K.taken sink.old sink.new) result }
     ensures writes { K.failures sink.new ≡ K.failures sink.old + failed_writes result }
 {
     let request = match read_words(alloc, words) {
@@ -142,7 +143,7 @@ fn serve<S: Source + Drop, K: Sink, E: Write, O: Opener, T: Threads + Wait + Syn
     errors: &mut E,
 ) -> Result<Ending, RunFault>
     requires { S.given source ≡ [] }
-    ensures done { (after : S) × JobDone request.now.job config.now (given_by S.given S.ended source after)
+    ensures done { (after : S) × JobDone (O.contents host.now.opener.now) request.now.job config.now (given_by S.given S.ended source after)
         (taken_by K.taken sink.old sink.new) result × JobCountsReads request.now.job S.failures source after result
         × IsGivenOf (S.input source) (given_by S.given S.ended source after) result }
     ensures writes { K.failures sink.new ≡ K.failures sink.old + failed_writes result }
@@ -164,8 +165,8 @@ fn work<S: Source, K: Sink, O: Opener, T: Threads + Wait + Sync>(
     source: &mut S,
     sink: &mut K,
 ) -> Result<Ending, RunFault>
-    ensures done { JobDone job.now config.now (given_by S.given S.ended source.old source.new)
-        (taken_by K.taken sink.old sink.new) result }
+    ensures done { JobDone (O.contents host.now.opener.now) job.now config.now
+        (given_by S.given S.ended source.old source.new) (taken_by K.taken sink.old sink.new) result }
     ensures reads { JobCountsReads job.now S.failures source.old source.new result }
     ensures input { failed_reads result ≡ 0 → Stays (S.input source.old) (S.input source.new) }
     ensures writes { K.failures sink.new ≡ K.failures sink.old + failed_writes result }
@@ -235,8 +236,8 @@ fn pages_job<S: Source, K: Sink, O: Opener, T: Threads + Wait + Sync>(
     sink: &mut K,
     by: Sizing,
 ) -> Result<Ending, RunFault>
-    ensures done { JobDone (jobs.Pages by.entry) config.now (given_by S.given S.ended source.old source.new)
-        (taken_by K.taken sink.old sink.new) result }
+    ensures done { JobDone (O.contents host.now.opener.now) (jobs.Pages by.entry) config.now
+        (given_by S.given S.ended source.old source.new) (taken_by K.taken sink.old sink.new) result }
     ensures reads { JobCountsReads (jobs.Pages by.entry) S.failures source.old source.new result }
     ensures input { failed_reads result ≡ 0 → Stays (S.input source.old) (S.input source.new) }
     ensures writes { K.failures sink.new ≡ K.failures sink.old + failed_writes result }

@@ -5,8 +5,9 @@ ghost use Rattle.metronome.specs.Faults.{failed_reads, failed_writes};
 ghost use Rattle.metronome.specs.OverTime.{scale_of, TimeDrawn};
 
 use crate::fault::{Ending, RunFault};
-use pictures::timeline::{Samples, take_samples};
+use pictures::timeline::{Sampler, Samples};
 use pictures::{Scale, draw_time};
+use player::survey_run;
 use settings::Config;
 use std::alloc::Global;
 use streams::{Sink, Source};
@@ -36,7 +37,7 @@ pub fn time_job<S: Source, K: Sink>(
     ensures input { failed_reads result ≡ 0 → Stays (S.input source.old) (S.input source.new) }
     ensures writes { K.failures sink.new ≡ K.failures sink.old + failed_writes result }
 {
-    let samples = take_samples(alloc, config, source)?;
+    let samples = survey_run::<Sampler, S>(alloc, config, source)?;
     let scale = scale(config, &samples);
     draw_time(&scale, samples.items.as_slice(), sink)?;
     Ok(Ending::Done)

@@ -4,6 +4,7 @@ use Rattle.std.specs.Prelude.{Option, Some, None}
 use Rattle.graph_heap.specs.declared.command.Command.{Command}
 use Rattle.settings.specs.declared.settings.Settings.{Settings}
 use Rattle.settings.specs.declared.fault.ConfigFault.{ConfigFault}
+use Rattle.settings.specs.declared.ranges.Ranges.TheVariants.{Library}
 use Rattle.settings.specs.Config.{fault_of}
 use Rattle.heap_model.specs.State.{HeapState}
 use Rattle.heap_model.specs.Agreement.{Agrees}
@@ -108,10 +109,10 @@ made_unless : (fault : Option ConfigFault) (s : Settings) (h : HeapState) (statu
 made_unless (Some fault) s h status m = absurd (let z : Ok h ≡ Err Closed = m.0 in cc)
 made_unless None s h status m = m.1
 
-module _ (s : Settings) (h : HeapState) (status : ℕ) (created : Creates (Err Closed) s (Ok h) status) where
-  made : IsMadeOf s h
-  made = made_unless (fault_of s) s h status created
+pub made_by : (s : Settings) (h : HeapState) (status : ℕ) → Creates (Err Closed) s (Ok h) status → IsMadeOf s h
+made_by s h status created = made_unless (fault_of Library s) s h status created
 
+module _ (s : Settings) (h : HeapState) (made : IsMadeOf s h) where
   is_course : IsCourse (opened h)
   is_course = opening_course h made.1 (configured.some made.0 h made.1 made.3 made.0.pages_in_range.0)
 

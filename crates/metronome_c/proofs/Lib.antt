@@ -6,5 +6,6 @@ pub mod Values
 pub mod Moving
 pub mod Making
 pub mod Beginning
+pub mod TouchedPages
 pub mod Calling
 pub mod Limits

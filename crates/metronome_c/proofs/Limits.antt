@@ -8,6 +8,7 @@ use Rattle.settings.specs.declared.config.TheConstants.{LEAST_BUDGET}
 use Rattle.settings.specs.declared.config.Config.{Config}
 use Rattle.settings.specs.declared.fault.ConfigFault.{ConfigFault}
 use Rattle.settings.specs.declared.settings.Settings.{Settings}
+use Rattle.settings.specs.declared.ranges.Ranges.TheVariants.{Library}
 use Rattle.settings.specs.Config.{cycle_limit_of, fault_of, IsOf}
 use Rattle.heap_model.specs.State.{HeapState}
 use Rattle.heap_model.specs.Settings.{HeapSettings, settings_of, settings_by}
@@ -37,8 +38,8 @@ module _ (c : Config) (h : HeapState) (o : IsOpening h) (same : settings_of h �
   same_quanta = ap (λ z. z / (c.collector_ticks * c.rate - (LEAST_BUDGET - 1)) + 1) same_units
 
 -- C is told the limit, or the first fault of the settings
-pub limit_told : (s : Settings) (c : Config) (before after : CycleLimit) (n : ℕ) → None ≡ fault_of s → IsOf s c → after ≡ limit_of c → n ≡ status_number Done → TellsLimit s before after n
+pub limit_told : (s : Settings) (c : Config) (before after : CycleLimit) (n : ℕ) → None ≡ fault_of Library s → IsOf s c → after ≡ limit_of c → n ≡ status_number Done → TellsLimit s before after n
 limit_told s c before after n e is a m = subst (λ (f : Option ConfigFault). LimitsUnless f s before after n) e (c, is, a, m)
 
-pub limit_refused : (s : Settings) (fault : ConfigFault) (before : CycleLimit) (n : ℕ) → Some fault ≡ fault_of s → n ≡ status_number (fault_status fault) → TellsLimit s before before n
+pub limit_refused : (s : Settings) (fault : ConfigFault) (before : CycleLimit) (n : ℕ) → Some fault ≡ fault_of Library s → n ≡ status_number (fault_status fault) → TellsLimit s before before n
 limit_refused s fault before n e m = subst (λ (f : Option ConfigFault). LimitsUnless f s before before n) e (refl, m)

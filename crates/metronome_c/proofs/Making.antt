@@ -5,6 +5,7 @@ use Rattle.std.specs.Option.{is_some}
 use Rattle.settings.specs.declared.settings.Settings.{Settings}
 use Rattle.settings.specs.declared.config.Config.{Config}
 use Rattle.settings.specs.declared.fault.ConfigFault.{ConfigFault}
+use Rattle.settings.specs.declared.ranges.Ranges.TheVariants.{Library}
 use Rattle.settings.specs.Config.{fault_of, IsOf}
 use Rattle.heap_model.specs.State.{HeapState}
 use Rattle.heap_model.specs.Opening.{IsOpening}
@@ -18,23 +19,23 @@ use Rattle.metronome_c.proofs.Holding.{IsTruth, heap_none}
 
 -- where the handle is closed, what is made unless there is a fault is what is created
 creates : (check : ℕ) (old : Option HeapState) (new : Result HeapState Status) (s : Settings) (fault : Option ConfigFault) (n : ℕ)
-    → is_some old ≡ false → (check == 0) ≡ true → fault ≡ fault_of s → MakesUnless fault s new n → Creates (heap_by check old) s new n
+    → is_some old ≡ false → (check == 0) ≡ true → fault ≡ fault_of Library s → MakesUnless fault s new n → Creates (heap_by check old) s new n
 creates check old new s fault n none zero is m =
     subst (λ (x : Result HeapState Status). Creates x s new n) (sym (heap_none check old true none zero))
     (subst (λ (f : Option ConfigFault). MakesUnless f s new n) is m)
 
 pub creates_none : (check : ℕ) (old : Option HeapState) (s : Settings) (fault : ConfigFault) (n : ℕ)
-    → is_some old ≡ false → (check == 0) ≡ true → Some fault ≡ fault_of s → n ≡ status_number (fault_status fault) → Creates (heap_by check old) s (heap_by check old) n
+    → is_some old ≡ false → (check == 0) ≡ true → Some fault ≡ fault_of Library s → n ≡ status_number (fault_status fault) → Creates (heap_by check old) s (heap_by check old) n
 creates_none check old s fault n none zero is m = creates check old (heap_by check old) s (Some fault) n none zero is (heap_none check old true none zero, m)
 
 -- memory was refused
 pub creates_unmade : (check : ℕ) (old : Option HeapState) (s : Settings) (n : ℕ)
-    → is_some old ≡ false → (check == 0) ≡ true → None ≡ fault_of s → n ≡ status_number NoMemory → Creates (heap_by check old) s (heap_by check old) n
+    → is_some old ≡ false → (check == 0) ≡ true → None ≡ fault_of Library s → n ≡ status_number NoMemory → Creates (heap_by check old) s (heap_by check old) n
 creates_unmade check old s n none zero is m =
     creates check old (heap_by check old) s None n none zero is (subst (λ (x : Result HeapState Status). IsMade s x n) (sym (heap_none check old true none zero)) (refl, m))
 
 pub creates_one : (check after : ℕ) (old new : Option HeapState) (h : HeapState) (s : Settings) (c : Config) (n : ℕ)
-    → is_some old ≡ false → (check == 0) ≡ true → None ≡ fault_of s → new ≡ Some h → n ≡ status_number Done
+    → is_some old ≡ false → (check == 0) ≡ true → None ≡ fault_of Library s → new ≡ Some h → n ≡ status_number Done
     → IsOpening h → IsOf s c → settings_of h ≡ settings_by c → Creates (heap_by check old) s (heap_by after new) n
 creates_one check after old new h s c n none zero e made m opening is by =
     creates check old (heap_by after new) s None n none zero e

@@ -11,3 +11,4 @@ pub mod Limit
 pub mod Status
 pub mod Steps
 pub mod Text
+pub mod Touching

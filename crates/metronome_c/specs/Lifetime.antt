@@ -3,6 +3,7 @@ use Rattle.std.specs.Prelude.{◌≡◌, ℕ, Option, Some, None, Result, Ok, Er
 use Rattle.settings.specs.declared.settings.Settings.{Settings}
 use Rattle.settings.specs.declared.config.Config.{Config}
 use Rattle.settings.specs.declared.fault.ConfigFault.{ConfigFault}
+use Rattle.settings.specs.declared.ranges.Ranges.TheVariants.{Library}
 use Rattle.settings.specs.Config.{fault_of, IsOf}
 use Rattle.heap_model.specs.State.{HeapState}
 use Rattle.heap_model.specs.Opening.{IsOpening}
@@ -28,7 +29,7 @@ MakesUnless None s new status = IsMade s new status
 -- a heap is made where the settings have no fault and the handle is closed; another handle stays as it is
 abbrev pub Creates : Result HeapState Status → Settings → Result HeapState Status → ℕ → Type 0
 Creates (Ok h) s new status = (new ≡ Ok h) × (status ≡ status_number Open)
-Creates (Err Closed) s new status = MakesUnless (fault_of s) s new status
+Creates (Err Closed) s new status = MakesUnless (fault_of Library s) s new status
 Creates (Err why) s new status = (new ≡ Err why) × (status ≡ status_number why)
 
 -- a handle that holds a heap is closed, and another stays as it is

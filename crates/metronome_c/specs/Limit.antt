@@ -4,6 +4,7 @@ use Rattle.settings.specs.declared.settings.Settings.{Settings}
 use Rattle.settings.specs.declared.config.Config.{Config}
 use Rattle.settings.specs.declared.config.TheConstants.{LEAST_BUDGET}
 use Rattle.settings.specs.declared.fault.ConfigFault.{ConfigFault}
+use Rattle.settings.specs.declared.ranges.Ranges.TheVariants.{Library}
 use Rattle.settings.specs.Config.{fault_of, IsOf, cycle_limit_of}
 use Rattle.metronome_c.specs.declared.limit.CycleLimit.{CycleLimit}
 use Rattle.metronome_c.specs.declared.status.Status.TheVariants.{Done}
@@ -25,4 +26,4 @@ LimitsUnless None s before after status =
 
 -- the limit of the settings that C gives, or their first fault
 abbrev pub TellsLimit : Settings → CycleLimit → CycleLimit → ℕ → Type 0
-TellsLimit s before after status = LimitsUnless (fault_of s) s before after status
+TellsLimit s before after status = LimitsUnless (fault_of Library s) s before after status

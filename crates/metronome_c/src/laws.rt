@@ -13,17 +13,24 @@ ghost use Rattle.metronome_c.specs.Calls.{Call, Calls, AreEvents, IsPromised};
 ghost use Rattle.metronome_c.specs.Lifetime.{Creates};
 ghost use Rattle.metronome_c.specs.Limit.{limit_of};
 ghost use Rattle.metronome_c.specs.Status.{all_statuses};
+ghost use Rattle.metronome_c.specs.Touching.{touched_heap};
 ghost use Rattle.metronome_c.specs.declared.metronome.TheConstants.{CHECK_WORD};
 ghost use Rattle.metronome_c.specs.declared.status.Status.{Status};
 ghost use Rattle.metronome_c.specs.declared.status.Status.TheVariants.{Done, Refused, NoMemory, Busy, BudgetOutOfRange, Closed, Open, ScheduleOutOfRange, BadHandle, SettingOutOfRange, OtherVersion};
 
 /// Where a heap was just made of a closed handle, and a program calls the library as it likes, the calls are events
 /// that the heap does one after the other, with a history that only grows: each call tells the outcome of its event,
-/// and what is promised of a heap with its history (`machine::Recorded::run`) holds of it, whatever comes.
+/// and what is promised of a heap with its history (`machine::Recorded::run`) holds of it, whatever comes. So it is where
+/// the program touched pages of it first.
 pub fn calls_are_events()
     ensures made { (s : Settings) (h : HeapState) (status : ℕ) → Creates (Err Closed) s (Ok h) status → IsPromised s h }
     ensures calls { (s : Settings) (h : HeapState) (status : ℕ) (calls : List Call) (new : Result HeapState Status)
         → Creates (Err Closed) s (Ok h) status → Calls (Ok h) calls new → AreEvents h calls new }
+    ensures touched { (s : Settings) (h : HeapState) (status pages : ℕ) → Creates (Err Closed) s (Ok h) status
+        → IsPromised s (touched_heap h pages) }
+    ensures after { (s : Settings) (h : HeapState) (status pages : ℕ) (calls : List Call)
+        (new : Result HeapState Status) → Creates (Err Closed) s (Ok h) status
+        → Calls (Ok (touched_heap h pages)) calls new → AreEvents (touched_heap h pages) calls new }
 {}
 
 /// The limit that C is told of a configuration is that of a heap that was made of it: the units of a cycle are within

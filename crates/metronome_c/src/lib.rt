@@ -14,3 +14,4 @@ mod page;
 mod phase;
 mod status;
 mod text;
+mod touching;

@@ -42,7 +42,7 @@ heap_after_chain a b w units chain count = record {
     snapshot = w.heap.snapshot;
     represents = represents_chain (state_of a) (state_of b) units w.heap.present w.heap.snapshot w.heap.represents chain;
     fits = w.heap.fits;
-    small = subst (λ n. n < 2 ^ 31) (sym (chain_limit (state_of a) (state_of b) units chain)) w.heap.small;
+    small = subst (λ n. n < 2 ^ 41) (sym (chain_limit (state_of a) (state_of b) units chain)) w.heap.small;
   };
   buffers = count ∙ w.buffers ∙ sym (ap (λ (s : HeapSettings). s.limits.mutators) (chain_settings (state_of a) (state_of b) units chain));
   empty = rests_chain (state_of a) (state_of b) units chain w.empty;

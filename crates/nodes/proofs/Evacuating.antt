@@ -26,6 +26,7 @@ module _ (s : Store) (whole : IsStore s) (k : ℕ) (p : Page) (there : page_at s
   left_store =
       let w = whole.pages k p (slice_get-get_or s.pages k None within ∙ ap Some there) in
       store_change s k (Some (record p { evacuating = true })) within whole (λ q e. subst IsPage (same_page e) (record { class = w.class; blocks = w.blocks; marks = is_target }))
+      (λ _ _. whole.words k p (slice_get-get_or s.pages k None within ∙ ap Some there))
     where
       same_page : {a b : Page} → Some a ≡ Some b → a ≡ b
       same_page e = cc

@@ -73,16 +73,27 @@ module _ (s : Store) (k : ℕ) (q : Option Page) (within : k < length s.pages) w
     | inr d ↦ ap (λ o. record_at s.words b (size_in o)) (page_other (b / 2048) d)
   ]
 
-  pub store_change : IsStore s → ((p : Page) → q ≡ Some p → IsPage p) → IsStore (record { pages = set s.pages k q; words = s.words })
-  store_change whole good = record {
+  -- a page that is there after the change is the new one, or was there before
+  now_here : (j : ℕ) (p : Page) → j ≡ k → slice_get (set s.pages k q) j ≡ Some (Some p) → q ≡ Some p
+  now_here j p z e = sym page_here ∙ get_or_from_slice_get _ k (Some p) None (subst (λ n. slice_get (set s.pages k q) n ≡ Some (Some p)) z e)
+
+  was_there : (j : ℕ) (p : Page) → j ≢ k → slice_get (set s.pages k q) j ≡ Some (Some p) → slice_get s.pages j ≡ Some (Some p)
+  was_there j p d e =
+      let g : page_at (set s.pages k q) j ≡ Some p = get_or_from_slice_get _ j (Some p) None e in
+      let n : j < length s.pages = subst (λ z. j < z) (length-set s.pages k q) (slice_get_within _ j (Some p) e) in
+      slice_get-get_or s.pages j None n ∙ ap Some (sym (page_other j d) ∙ g)
+
+  pub store_change : IsStore s → ((p : Page) → q ≡ Some p → IsPage p) → ((p : Page) → q ≡ Some p → 2048 * k + 2048 ≤ length s.words) → IsStore (record { pages = set s.pages k q; words = s.words })
+  store_change whole good long = record {
     pages = λ j p e. elim (same_or j k) [
-      | inl z ↦ good p (sym page_here ∙ get_or_from_slice_get _ k (Some p) None (subst (λ n. slice_get (set s.pages k q) n ≡ Some (Some p)) z e))
-      | inr d ↦ (let g : page_at (set s.pages k q) j ≡ Some p = get_or_from_slice_get _ j (Some p) None e in
-          let n : j < length s.pages = subst (λ z. j < z) (length-set s.pages k q) (slice_get_within _ j (Some p) e) in
-          whole.pages j p (slice_get-get_or s.pages j None n ∙ ap Some (sym (page_other j d) ∙ g)))
+      | inl z ↦ good p (now_here j p z e)
+      | inr d ↦ whole.pages j p (was_there j p d e)
     ];
-    words = whole.words ∙ ap (λ n. 2048 * n) (sym (length-set s.pages k q));
-    few = subst (λ n. n ≤ 4096) (sym (length-set s.pages k q)) whole.few;
+    words = λ j p e. elim (same_or j k) [
+      | inl z ↦ subst (λ n. 2048 * n + 2048 ≤ length s.words) (sym z) (long p (now_here j p z e))
+      | inr d ↦ whole.words j p (was_there j p d e)
+    ];
+    few = subst (λ n. n ≤ 1048576) (sym (length-set s.pages k q)) whole.few;
   }
 
 -- a block is freed
@@ -132,7 +143,7 @@ module _ (s : Store) (whole : IsStore s) (k i : ℕ) (p : Page) (there : page_at
   }
 
   pub freed_store : IsStore (record { pages = set s.pages k (Some (with_allocated p i false)); words = s.words })
-  freed_store = store_change s k (Some (with_allocated p i false)) within whole (λ q e. subst IsPage (same_page e) (record { class = is_page.class; blocks = length-set p.allocated i false ∙ is_page.blocks; marks = is_page.marks }))
+  freed_store = store_change s k (Some (with_allocated p i false)) within whole (λ q e. subst IsPage (same_page e) (record { class = is_page.class; blocks = length-set p.allocated i false ∙ is_page.blocks; marks = is_page.marks })) (λ _ _. whole.words k p (slice_get-get_or s.pages k None within ∙ ap Some there))
     where
       same_page : {a b : Page} → Some a ≡ Some b → a ≡ b
       same_page e = cc
@@ -157,7 +168,7 @@ module _ (s : Store) (whole : IsStore s) (k i : ℕ) (p : Page) (there : page_at
 
 -- the same, by the class and the size that the code knows
 pub allocated_by : (s : Store) → IsStore s → (k i class size : ℕ) → (o : Option Page) → page_at s.pages k ≡ o → option_map (λ (p : Page). p.class) o ≡ Some class → size ≡ size_of class → IsSomeAnd o (λ p. slice_get p.allocated i ≡ Some true)
-    → (i * size + size ≤ 2048) × (k < 4096) × (is_allocated s (2048 * k + i * size) ≡ true)
+    → (i * size + size ≤ 2048) × (k < 1048576) × (is_allocated s (2048 * k + i * size) ≡ true)
 allocated_by s whole k i class size None there ec es h = absurd h
 allocated_by s whole k i class size (Some p) there ec es h =
     let c : p.class ≡ class = same_class ec in
@@ -220,6 +231,10 @@ closed_page (Some q) good p e = by_count (eqb (allocated_on (Some q)) 0) e
     by_count true z = absurd (cc)
     by_count false z = let g = good q refl in subst IsPage (same_page z) (record { class = g.class; blocks = g.blocks; marks = refl })
 
+closed_words : (q : Option Page) (n m : ℕ) → ((p : Page) → q ≡ Some p → n ≤ m) → (p : Page) → closed q ≡ Some p → n ≤ m
+closed_words None n m long p e = absurd (cc)
+closed_words (Some q) n m long p e = long q refl
+
 -- a page is closed
 module _ (s : Store) (whole : IsStore s) (k : ℕ) (within : k < length s.pages) where
   pub keeps_blocks : KeepsBlocks s (record { pages = set s.pages k (closed (page_at s.pages k)); words = s.words })
@@ -236,17 +251,17 @@ module _ (s : Store) (whole : IsStore s) (k : ℕ) (within : k < length s.pages)
   closed_store =
       store_change s k (closed (page_at s.pages k)) within whole
       (closed_page (page_at s.pages k) (λ p e. whole.pages k p (slice_get-get_or s.pages k None within ∙ ap Some e)))
+      (closed_words (page_at s.pages k) (2048 * k + 2048) (length s.words) (λ p e. whole.words k p (slice_get-get_or s.pages k None within ∙ ap Some e)))
 
 -- the same, of a value t as which the fields s are seen
 module _ (s t : Store) (is : s ≡ t) (whole : IsStore s) (k i : ℕ) (new : List (Option Page)) where
   module _ (words : List ℕ) (kept : KeepsAllocated new s.words words) where
     freed_at : (o : Option Page) → page_at s.pages k ≡ o → IsSomeAnd o (λ p. slice_get p.allocated i ≡ Some true) → IfSome o (λ p. new ≡ set s.pages k (Some (with_allocated p i false)))
-        → IfSome o (λ p. Frees s (record { pages = new; words = words }) (address_of p.class k i)) × IsStore (record { pages = new; words = words })
+        → IfSome o (λ p. Frees s (record { pages = new; words = words }) (address_of p.class k i)) × IsStore (record { pages = new; words = s.words })
     freed_at None e h is = absurd h
-    freed_at (Some p) e h is = (
-      frees_then s new words kept (address_of p.class k i) (subst (λ g. Frees s (record { pages = g; words = s.words }) (address_of p.class k i)) (sym is) (frees s whole k i p e h)),
-      still_store new s.words words kept.len (subst (λ g. IsStore (record { pages = g; words = s.words })) (sym is) (freed_store s whole k i p e h)),
-    )
+    freed_at (Some p) e h is =
+        let first : IsStore (record { pages = new; words = s.words }) = subst (λ g. IsStore (record { pages = g; words = s.words })) (sym is) (freed_store s whole k i p e h) in
+        (frees_then s new words kept first (address_of p.class k i) (subst (λ g. Frees s (record { pages = g; words = s.words }) (address_of p.class k i)) (sym is) (frees s whole k i p e h)), first)
 
     allocated_at_first : (o : Option Page) → page_at s.pages k ≡ o → IsSomeAnd o (λ p. slice_get p.allocated i ≡ Some true) → IfSome o (λ p. new ≡ set s.pages k (Some (with_allocated p i false)))
         → (b : ℕ) → is_allocated (record { pages = new; words = words }) b ≡ true → is_allocated s b ≡ true
@@ -267,15 +282,18 @@ module _ (s t : Store) (is : s ≡ t) (whole : IsStore s) (k i : ℕ) (new : Lis
           subst (λ (x : Store). IfSome (page_at x.pages k) (λ p. Frees x (record { pages = new; words = words }) (address_of p.class k i))) is
           (freed_at (page_at s.pages k) refl allocated_here given).0
 
+      freed_first : IsStore (record { pages = new; words = s.words })
+      freed_first = (freed_at (page_at s.pages k) refl allocated_here given).1
+
       pub freed_store_by : IsStore (record { pages = new; words = words })
-      freed_store_by = (freed_at (page_at s.pages k) refl allocated_here given).1
+      freed_store_by = still_store new s.words words kept.len freed_first
 
       -- word 1 of each block that is allocated still
       pub freed_headers : ((b : ℕ) → is_allocated s b ≡ true → IsHeader (get_or s.words (b + 1) 0)) → (b : ℕ) → is_allocated (record { pages = new; words = words }) b ≡ true → IsHeader (get_or words (b + 1) 0)
       unfolding is_allocated
       freed_headers headers b now =
           let before : is_allocated (record { pages = new; words = s.words }) b ≡ true = now in
-          let low = (allocated_place (record { pages = new; words = s.words }) b (still_store new words s.words (sym kept.len) freed_store_by) before).size in
+          let low = (allocated_place (record { pages = new; words = s.words }) b freed_first before).size in
           subst IsHeader (sym (word_kept new s.words words kept b before 1 (omega (arith, low)))) (headers b (allocated_at_first (page_at s.pages k) refl allocated_here given b now))
 
   module _ (below : k < length t.pages) (given : new ≡ set s.pages k (closed (page_at s.pages k))) where

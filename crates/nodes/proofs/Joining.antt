@@ -10,7 +10,7 @@ use Rattle.heap_model.specs.Block.{record_in, spliced}
 use Rattle.heap_model.specs.Action.{KeepsBlocks}
 use Rattle.heap_model.specs.Pages.{Page, page_at}
 use Rattle.heap_model.specs.Store.{Store, IsStore, size_in, size_at, is_allocated, record_of}
-use Rattle.headers.proofs.Fresh.{words_at-same, length-spliced, spliced_other}
+use Rattle.headers.proofs.Fresh.{words_at-there, length-spliced, spliced_other}
 use Rattle.pages.specs.declared.page.PageRow.{PageRow}
 use Rattle.pages.specs.FreeList.{flags_of, free_mark}
 use Rattle.pages.specs.Index.{row_at}
@@ -20,18 +20,21 @@ use Rattle.pages.proofs.Writing.{WritesBlock, allocated_place, write_keeps, writ
 use Rattle.pages.proofs.Flags.{get_flag, length-flags}
 use Rattle.nodes.specs.Joined.{IsHeader, AreBlockRecords}
 use Rattle.nodes.proofs.Headers.{header_after}
-use Rattle.nodes.proofs.Places.{allocated_in-page, flag_within, placed}
+use Rattle.nodes.proofs.Places.{allocated_in-page, flag_within, inside, placed}
 
--- words of the same number
-pub still_store : (pages : List (Option Page)) (words new : List ℕ) → length new ≡ length words → IsStore (record { pages = pages; words = words }) → IsStore (record { pages = pages; words = new })
-still_store pages words new e s = record { pages = s.pages; words = e ∙ s.words; few = s.few }
+-- as many words, or more
+pub still_store : (pages : List (Option Page)) (words new : List ℕ) → length words ≤ length new → IsStore (record { pages = pages; words = words }) → IsStore (record { pages = pages; words = new })
+still_store pages words new e s = record { pages = s.pages; words = λ k p at. (let w : 2048 * k + 2048 ≤ length words = s.words k p at in omega (arith, w, e)); few = s.few }
 
 -- what the records tell, of the value t as which the fields are seen
 pub told : (rows : List (Option PageRow)) (words : List ℕ) (t : Store) → joined rows words ≡ t → AreBlockRecords rows words → {X : Type 0} (f : List (Option Page) → X) (v : X) → Tells rows (λ pages. v ≡ f pages) → v ≡ f t.pages
 told rows words t is are f v tells = tells words are.together ∙ ap (λ (x : Store). f x.pages) is
 
+pub count_by : (rows : List (Option PageRow)) (words : List ℕ) (t : Store) → joined rows words ≡ t → length rows ≡ length t.pages
+count_by rows words t is = sym (length-pages rows words) ∙ ap (λ (x : Store). length x.pages) is
+
 pub below_by : (rows : List (Option PageRow)) (words : List ℕ) (t : Store) → joined rows words ≡ t → (page : ℕ) → page < length t.pages → page < length rows
-below_by rows words t is page h = let e : length rows ≡ length t.pages = sym (length-pages rows words) ∙ ap (λ (x : Store). length x.pages) is in omega (arith, h, e)
+below_by rows words t is page h = omega (arith, h, count_by rows words t is)
 
 -- where the words of allocated blocks stayed
 module _ (pages : List (Option Page)) (words new : List ℕ) (kept : KeepsAllocated pages words new) (b : ℕ) (allocated : is_allocated (record { pages = pages; words = words }) b ≡ true) where
@@ -47,10 +50,11 @@ module _ (pages : List (Option Page)) (words new : List ℕ) (kept : KeepsAlloca
       ap (λ n. get_or new (n + j) 0) place ∙ kept.each (b / 2048) f.page i j f.is flag small ∙ ap (λ n. get_or words (n + j) 0) (sym place)
 
   -- an allocated block says what it said
-  pub node_kept : record_of (record { pages = pages; words = new }) b ≡ record_of (record { pages = pages; words = words }) b
+  pub node_kept : IsStore (record { pages = pages; words = words }) → record_of (record { pages = pages; words = new }) b ≡ record_of (record { pages = pages; words = words }) b
   unfolding record_of size_at
-  node_kept =
-      ap record_in (words_at-same new words b (size_at (record { pages = pages; words = words }) b) kept.len
+  node_kept whole =
+      let fits : b + size_at (record { pages = pages; words = words }) b ≤ length words = inside (record { pages = pages; words = words }) b whole allocated in
+      ap record_in (words_at-there new words b (size_at (record { pages = pages; words = words }) b) (omega (arith, fits, kept.len)) fits
       (λ n low high. let at : n ≡ b + (n - b) = omega (arith, low) in ap (λ m. get_or new m 0) at ∙ word_kept (n - b) (omega (arith, low, high)) ∙ ap (λ m. get_or words m 0) (sym at)))
 
 -- where the same blocks are allocated, with the same words
@@ -95,7 +99,7 @@ first_allocated rows words a h =
     ap (λ n. not (eqb (get_or words n 0) free_mark)) (sym h.place) ∙ sym (get_flag words at (size_of h.row.class) (blocks_in h.row.class) h.index true below) ∙ get_or_from_slice_get flags h.index true true h.flag
 
 -- an address isn't the mark
-pub no_mark : (v : ℕ) → v ≤ 8388608 → not (eqb v free_mark) ≡ true
+pub no_mark : (v : ℕ) → v ≤ 2147483648 → not (eqb v free_mark) ≡ true
 unfolding free_mark
 no_mark v h = ap not (ne_eqb v 18446744073709551615 (λ e. absurd (omega (arith, h, e))))
 
@@ -108,7 +112,7 @@ writes_later words new a size k v allocated some within is = record {
   allocated = ap (λ w. not (eqb (get_or w a 0) free_mark)) is ∙ ap (λ n. not (eqb n free_mark)) (get_or-set_other words (a + k) a v 0 (omega (arith, some))) ∙ allocated;
 }
 
-pub writes_first : (words new : List ℕ) (a size v : ℕ) → v ≤ 8388608 → 0 < size → a < length words → new ≡ set words a v → WritesBlock words new a size
+pub writes_first : (words new : List ℕ) (a size v : ℕ) → v ≤ 2147483648 → 0 < size → a < length words → new ≡ set words a v → WritesBlock words new a size
 writes_first words new a size v small some within is = record {
   len = ap (λ w. length w) is ∙ length-set words a v;
   below = λ n h. ap (λ w. get_or w n 0) is ∙ get_or-set_other words a n v 0 (omega (arith, h));
@@ -119,7 +123,7 @@ writes_first words new a size v small some within is = record {
 pub word_spliced : (words others : List ℕ) (a k : ℕ) → a + length others ≤ length words → k < length others → get_or (spliced words a others) (a + k) 0 ≡ get_or others k 0
 word_spliced words others a k h within = grind (arith, common_steps)
 
-pub writes_spliced : (words new others : List ℕ) (a size : ℕ) → a + length others ≤ length words → 0 < length others → length others ≤ size → get_or others 0 0 ≤ 8388608 → new ≡ spliced words a others → WritesBlock words new a size
+pub writes_spliced : (words new others : List ℕ) (a size : ℕ) → a + length others ≤ length words → 0 < length others → length others ≤ size → get_or others 0 0 ≤ 2147483648 → new ≡ spliced words a others → WritesBlock words new a size
 writes_spliced words new others a size fit some within small is = record {
   len = ap (λ w. length w) is ∙ length-spliced words others a fit;
   below = λ n h. ap (λ w. get_or w n 0) is ∙ spliced_other words others a n fit (inl h);
@@ -144,7 +148,7 @@ module _ (rows : List (Option PageRow)) (words new : List ℕ) (t : Together row
   pub still_nodes : AreBlockRecords rows words → is_allocated (joined rows words) a ≡ true → IsHeader (get_or new (a + 1) 0) → AreBlockRecords rows new
   unfolding is_allocated
   still_nodes are allocated header = record {
-    whole = through IsStore (still_store (pages_in rows words) words new w.len are.whole);
+    whole = through IsStore (still_store (pages_in rows words) words new (omega (arith, w.len)) are.whole);
     together = still_together;
     headers = through (λ s. (b : ℕ) → is_allocated s b ≡ true → IsHeader (get_or new (b + 1) 0))
         (λ b other. header_after (pages_in rows words) words new are.whole a (size_of h.row.class) h.size allocated w header b other (λ ne. are.headers b other));

@@ -21,5 +21,6 @@ pub mod Sorting
 pub mod Representing
 pub mod Sweeping
 pub mod Threading
+pub mod Touching
 pub mod Wasting
 pub mod Writing

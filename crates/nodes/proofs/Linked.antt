@@ -29,7 +29,7 @@ module _ (s : Store) (whole : IsStore s) (a : ℕ) (allocated : is_allocated s a
 
   pub keeps_links : (pages : List (Option Page)) (k v : ℕ) → k < size_at s a → k ≢ 3 → KeepsLinks s (record { pages = pages; words = set s.words (a + k) v })
   keeps_links pages k v l ne = record {
-    len = length-set s.words (a + k) v;
+    len = omega (arith, length-set s.words (a + k) v);
     each = λ b other. get_or-set_other s.words (a + k) (b + 3) v 0 (no_link k l ne b other);
   }
 

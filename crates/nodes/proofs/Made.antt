@@ -9,6 +9,7 @@ use Rattle.size_classes.specs.declared.class.TheConstants.{CLASSES}
 use Rattle.size_classes.specs.Sizes.{size_of}
 use Rattle.pages.specs.declared.page.PageRow.{PageRow}
 use Rattle.pages.specs.Together.{joined, pages_in, Together, KeepsAllocated}
+use Rattle.pages.proofs.Telling.{words_present}
 use Rattle.pages.proofs.Writing.{WritesBlock}
 use Rattle.nodes.specs.Joined.{IsHeader, AreBlockRecords}
 use Rattle.nodes.specs.Links.{link_of, KeepsLinks}
@@ -16,7 +17,7 @@ use Rattle.nodes.proofs.Headers.{packed_header, word_after, header_after}
 use Rattle.nodes.proofs.Places.{allocated_place}
 use Rattle.nodes.proofs.Carried.{adds_then}
 use Rattle.nodes.proofs.Joining.{AllocatedBlock, allocated_block, writes_spliced, same_pages, still_store, still_together, through, word_kept, word_spliced}
-use Rattle.nodes.proofs.Making.{fit, within, few_words, page_place, free_before, allocated_after, same_after, whole_after, size_here, made_store, adds}
+use Rattle.nodes.proofs.Making.{fit, within, page_place, free_before, allocated_after, same_after, whole_after, size_here, made_store, adds}
 
 module _ (s t : Store) (is : s ≡ t) (whole : IsStore s) (class k i size : ℕ) (small : class < CLASSES) (size_is : size ≡ size_of class) (found : page_for s.pages class ≡ Some k) (was_free : IsOpen (page_of_class class (page_at s.pages k)) i) where
   pub block_small : i * size + size ≤ 2048
@@ -24,18 +25,18 @@ module _ (s t : Store) (is : s ≡ t) (whole : IsStore s) (class k i size : ℕ)
       let f : (i + 1) * size ≤ 2048 = subst (λ n. (i + 1) * n ≤ 2048) (sym size_is) (fit s whole class k i small found was_free) in
       let e : (i + 1) * size ≡ i * size + size = grind arith in omega (arith, f, e)
 
-  pub page_small : k < 4096
+  pub page_small : k < 1048576
   page_small = omega (arith, within s whole class k i small found was_free, whole.few)
 
   module _ (address : ℕ) (at : address ≡ 2048 * k + i * size) where
-    pub address_within : address ≤ 8388608
+    pub address_within : address ≤ 2147483648
     address_within = omega (arith, at, block_small, page_small)
 
     address_is : address ≡ address_of class k i
     address_is = at ∙ ap (λ n. 2048 * k + i * n) size_is
 
-    pub words_there : (cells : ℕ) → cells + 4 ≤ size_of class → address + (4 + cells) ≤ length s.words
-    words_there cells room = let f = few_words s whole class k i small found was_free in omega (arith, f, address_is)
+    pub words_there : (words : List ℕ) → 2048 * k + 2048 ≤ length words → (cells : ℕ) → cells + 4 ≤ size_of class → address + (4 + cells) ≤ length words
+    words_there words long cells room = let f = fit s whole class k i small found was_free in omega (arith, f, long, address_is)
 
     pub page_by : page_for t.pages class ≡ Some (address / 2048)
     page_by =
@@ -43,7 +44,7 @@ module _ (s t : Store) (is : s ≡ t) (whole : IsStore s) (class k i size : ℕ)
         (found ∙ ap Some (sym (ap (λ n. n / 2048) address_is ∙ page_place s whole class k i small found was_free)))
 
     module _ (h : Header) (fits : HeaderFits h) (identity cells : ℕ) (count : cells ≡ cell_count h) (room : cells + 4 ≤ size_of class)
-        (pages : List (Option Page)) (taken : pages ≡ set s.pages k (Some (with_allocated (page_of_class class (page_at s.pages k)) i true))) (mid : List ℕ) (kept : KeepsAllocated s.pages s.words mid)
+        (pages : List (Option Page)) (taken : pages ≡ set s.pages k (Some (with_allocated (page_of_class class (page_at s.pages k)) i true))) (mid : List ℕ) (kept : KeepsAllocated s.pages s.words mid) (long : 2048 * k + 2048 ≤ length mid)
         (words : List ℕ) (begun : words ≡ spliced mid address (address ∷ header_word h ∷ identity ∷ 0 ∷ replicate cells 0)) where
       room' : cell_count h + 4 ≤ size_of class
       room' = subst (λ n. n + 4 ≤ size_of class) count room
@@ -65,21 +66,21 @@ module _ (s t : Store) (is : s ≡ t) (whole : IsStore s) (class k i size : ℕ)
           (subst (λ g. P (record { pages = g; words = spliced mid (address_of class k i) (new_words (address_of class k i) h identity) })) (sym taken) p)
 
       pub store_by : IsStore (record { pages = pages; words = words })
-      store_by = both IsStore (made_store midway midway_whole class k i small found was_free identity h fits room')
+      store_by = both IsStore (made_store midway midway_whole class k i small found was_free long identity h fits room')
 
       pub adds_by : Adds t (record { pages = pages; words = words }) address (new_record address h identity)
       adds_by =
           subst (λ (x : Store). Adds x (record { pages = pages; words = words }) address (new_record address h identity)) is
           (subst (λ a. Adds s (record { pages = pages; words = words }) a (new_record a h identity)) (sym address_is)
-          (adds_then s.pages s.words mid kept (record { pages = pages; words = words }) (address_of class k i) (new_record (address_of class k i) h identity)
-          (both (λ x. Adds midway x (address_of class k i) (new_record (address_of class k i) h identity)) (adds midway midway_whole class k i small found was_free identity h fits room'))))
+          (adds_then s.pages s.words mid kept whole (record { pages = pages; words = words }) (address_of class k i) (new_record (address_of class k i) h identity)
+          (both (λ x. Adds midway x (address_of class k i) (new_record (address_of class k i) h identity)) (adds midway midway_whole class k i small found was_free long identity h fits room'))))
 
 -- with the records: the part is written in a block that is allocated by then
 module _ (rows : List (Option PageRow)) (words : List ℕ) (t : Store) (is : joined rows words ≡ t) (are : AreBlockRecords rows words) (class k i size : ℕ) (small : class < CLASSES) (size_is : size ≡ size_of class)
     (found : page_for (pages_in rows words) class ≡ Some k) (was_free : IsOpen (page_of_class class (page_at (pages_in rows words) k)) i) (address : ℕ) (at : address ≡ 2048 * k + i * size)
     (h : Header) (fits : HeaderFits h) (identity cells : ℕ) (count : cells ≡ cell_count h) (room : cells + 4 ≤ size_of class)
     (after : List (Option PageRow)) (mid : List ℕ) (together : Together after mid) (taken : pages_in after mid ≡ set (pages_in rows words) k (Some (with_allocated (page_of_class class (page_at (pages_in rows words) k)) i true)))
-    (kept : KeepsAllocated (pages_in rows words) words mid) (new : List ℕ) (begun : new ≡ spliced mid address (address ∷ header_word h ∷ identity ∷ 0 ∷ replicate cells 0)) where
+    (kept : KeepsAllocated (pages_in rows words) words mid) where
   there : address ≡ address_of class k i
   there = at ∙ ap (λ n. 2048 * k + i * n) size_is
 
@@ -99,62 +100,69 @@ module _ (rows : List (Option PageRow)) (words : List ℕ) (t : Store) (is : joi
   others_length : length (address ∷ header_word h ∷ identity ∷ 0 ∷ replicate cells 0) ≡ cells + 4
   others_length = omega (arith, length-replicate {A = ℕ} cells 0)
 
-  words_fit : address + (4 + cells) ≤ length words
-  words_fit = words_there (joined rows words) t is are.whole class k i size small size_is found was_free address at cells room
+  -- the page has its words
+  long : 2048 * k + 2048 ≤ length mid
+  long =
+      subst (λ n. 2048 * n + 2048 ≤ length mid) (ap (λ n. n / 2048) there ∙ page_place (joined rows words) are.whole class k i small found was_free)
+      (words_present after mid together (address / 2048) block.row block.row_is)
 
-  write : WritesBlock mid new address (size_of block.row.class)
-  write =
-      writes_spliced mid new (address ∷ header_word h ∷ identity ∷ 0 ∷ replicate cells 0) address (size_of block.row.class)
-      (omega (arith, words_fit, kept.len, others_length))
-      (omega (arith, others_length)) (omega (arith, others_length, room, size_there))
-      (address_within (joined rows words) t is are.whole class k i size small size_is found was_free address at) begun
+  pub words_fit : address + (4 + cells) ≤ length mid
+  words_fit = words_there (joined rows words) t is are.whole class k i size small size_is found was_free address at mid long cells room
 
-  pub pages_made : pages_in after new ≡ set (pages_in rows words) k (Some (with_allocated (page_of_class class (page_at (pages_in rows words) k)) i true))
-  pages_made = same_pages after mid new together address block write ∙ taken
+  module _ (new : List ℕ) (begun : new ≡ spliced mid address (address ∷ header_word h ∷ identity ∷ 0 ∷ replicate cells 0)) where
+    write : WritesBlock mid new address (size_of block.row.class)
+    write =
+        writes_spliced mid new (address ∷ header_word h ∷ identity ∷ 0 ∷ replicate cells 0) address (size_of block.row.class)
+        (omega (arith, words_fit, others_length))
+        (omega (arith, others_length)) (omega (arith, others_length, room, size_there))
+        (address_within (joined rows words) t is are.whole class k i size small size_is found was_free address at) begun
 
-  -- word 1 of the block, and of those that were allocated before
-  header_here : IsHeader (get_or new (address + 1) 0)
-  header_here =
-      subst IsHeader (sym (ap (λ w. get_or w (address + 1) 0) begun ∙ word_spliced mid (address ∷ header_word h ∷ identity ∷ 0 ∷ replicate cells 0) address 1 (omega (arith, words_fit, kept.len, others_length)) (omega (arith, others_length)))) (packed_header h fits)
+    pub pages_made : pages_in after new ≡ set (pages_in rows words) k (Some (with_allocated (page_of_class class (page_at (pages_in rows words) k)) i true))
+    pages_made = same_pages after mid new together address block write ∙ taken
 
-  header_before : (b : ℕ) → is_allocated (joined after mid) b ≡ true → b ≢ address → IsHeader (get_or mid (b + 1) 0)
-  header_before b allocated ne =
-      let was : is_allocated (joined rows words) b ≡ true =
-      sym (ap (λ (g : List (Option Page)). is_allocated (record { pages = g; words = mid }) b) taken ∙ same_after (joined rows words) are.whole class k i small found was_free mid b (λ e. ne (e ∙ sym there))) ∙ allocated in
-      let low = (allocated_place (joined rows words) b are.whole was).size in
-      subst IsHeader (sym (word_kept (pages_in rows words) words mid kept b was 1 (omega (arith, low)))) (are.headers b was)
+    -- word 1 of the block, and of those that were allocated before
+    header_here : IsHeader (get_or new (address + 1) 0)
+    header_here =
+        subst IsHeader (sym (ap (λ w. get_or w (address + 1) 0) begun ∙ word_spliced mid (address ∷ header_word h ∷ identity ∷ 0 ∷ replicate cells 0) address 1 (omega (arith, words_fit, others_length)) (omega (arith, others_length)))) (packed_header h fits)
 
-  whole_mid : IsStore (joined after mid)
-  whole_mid = subst (λ (g : List (Option Page)). IsStore (record { pages = g; words = mid })) (sym taken) (whole_after (joined rows words) are.whole class k i small found was_free mid kept.len)
+    header_before : (b : ℕ) → is_allocated (joined after mid) b ≡ true → b ≢ address → IsHeader (get_or mid (b + 1) 0)
+    header_before b allocated ne =
+        let was : is_allocated (joined rows words) b ≡ true =
+        sym (ap (λ (g : List (Option Page)). is_allocated (record { pages = g; words = mid }) b) taken ∙ same_after (joined rows words) are.whole class k i small found was_free mid b (λ e. ne (e ∙ sym there))) ∙ allocated in
+        let low = (allocated_place (joined rows words) b are.whole was).size in
+        subst IsHeader (sym (word_kept (pages_in rows words) words mid kept b was 1 (omega (arith, low)))) (are.headers b was)
 
-  header_after_mid : (b : ℕ) → is_allocated (record { pages = pages_in after mid; words = new }) b ≡ true → IsHeader (get_or new (b + 1) 0)
-  unfolding is_allocated
-  header_after_mid b allocated = header_after (pages_in after mid) mid new whole_mid address (size_of block.row.class) block.size now_allocated write header_here b allocated (header_before b allocated)
+    whole_mid : IsStore (joined after mid)
+    whole_mid = subst (λ (g : List (Option Page)). IsStore (record { pages = g; words = mid })) (sym taken) (whole_after (joined rows words) are.whole class k i small found was_free mid kept.len long)
 
-  pub nodes_made : AreBlockRecords after new
-  nodes_made = record {
-    whole = store_by (joined rows words) t is are.whole class k i size small size_is found was_free address at h fits identity cells count room (pages_in after new) pages_made mid kept new begun;
-    together = still_together after mid new together address block write;
-    headers = through after mid new together address block write (λ x. (b : ℕ) → is_allocated x b ≡ true → IsHeader (get_or new (b + 1) 0)) header_after_mid;
-  }
+    header_after_mid : (b : ℕ) → is_allocated (record { pages = pages_in after mid; words = new }) b ≡ true → IsHeader (get_or new (b + 1) 0)
+    unfolding is_allocated
+    header_after_mid b allocated = header_after (pages_in after mid) mid new whole_mid address (size_of block.row.class) block.size now_allocated write header_here b allocated (header_before b allocated)
 
-  pub adds_made : Adds t (joined after new) address (new_record address h identity)
-  adds_made = adds_by (joined rows words) t is are.whole class k i size small size_is found was_free address at h fits identity cells count room (pages_in after new) pages_made mid kept new begun
+    pub nodes_made : AreBlockRecords after new
+    nodes_made = record {
+      whole = store_by (joined rows words) t is are.whole class k i size small size_is found was_free address at h fits identity cells count room (pages_in after new) pages_made mid kept long new begun;
+      together = still_together after mid new together address block write;
+      headers = through after mid new together address block write (λ x. (b : ℕ) → is_allocated x b ≡ true → IsHeader (get_or new (b + 1) 0)) header_after_mid;
+    }
 
-  -- the links of those that were allocated before
-  link_after : (b : ℕ) → is_allocated (joined rows words) b ≡ true → link_of (joined after new) b ≡ link_of (joined rows words) b
-  link_after b was =
-      let ne : b ≢ address = λ e. absurd (let f : is_allocated (joined rows words) b ≡ false = ap (is_allocated (joined rows words)) (e ∙ there) ∙ free_before (joined rows words) are.whole class k i small found was_free in let z : true ≡ false = sym was ∙ f in cc) in
-      let still : is_allocated (joined after mid) b ≡ true =
-      ap (λ (g : List (Option Page)). is_allocated (record { pages = g; words = mid }) b) taken ∙ same_after (joined rows words) are.whole class k i small found was_free mid b (λ e. ne (e ∙ sym there)) ∙ was in
-      let low = (allocated_place (joined rows words) b are.whole was).size in
-      word_after (pages_in after mid) mid new whole_mid address (size_of block.row.class) block.size now_allocated write b still ne 3 (allocated_place (joined after mid) b whole_mid still).size
-      ∙ word_kept (pages_in rows words) words mid kept b was 3 (omega (arith, low))
+    pub adds_made : Adds t (joined after new) address (new_record address h identity)
+    adds_made = adds_by (joined rows words) t is are.whole class k i size small size_is found was_free address at h fits identity cells count room (pages_in after new) pages_made mid kept long new begun
 
-  pub links_made : KeepsLinks t (joined after new)
-  links_made =
-      subst (λ (x : Store). KeepsLinks x (joined after new)) is
-      (record { len = write.len ∙ kept.len; each = link_after })
+    -- the links of those that were allocated before
+    link_after : (b : ℕ) → is_allocated (joined rows words) b ≡ true → link_of (joined after new) b ≡ link_of (joined rows words) b
+    link_after b was =
+        let ne : b ≢ address = λ e. absurd (let f : is_allocated (joined rows words) b ≡ false = ap (is_allocated (joined rows words)) (e ∙ there) ∙ free_before (joined rows words) are.whole class k i small found was_free in let z : true ≡ false = sym was ∙ f in cc) in
+        let still : is_allocated (joined after mid) b ≡ true =
+        ap (λ (g : List (Option Page)). is_allocated (record { pages = g; words = mid }) b) taken ∙ same_after (joined rows words) are.whole class k i small found was_free mid b (λ e. ne (e ∙ sym there)) ∙ was in
+        let low = (allocated_place (joined rows words) b are.whole was).size in
+        word_after (pages_in after mid) mid new whole_mid address (size_of block.row.class) block.size now_allocated write b still ne 3 (allocated_place (joined after mid) b whole_mid still).size
+        ∙ word_kept (pages_in rows words) words mid kept b was 3 (omega (arith, low))
+
+    pub links_made : KeepsLinks t (joined after new)
+    links_made =
+        subst (λ (x : Store). KeepsLinks x (joined after new)) is
+        (record { len = omega (arith, write.len, kept.len); each = link_after })
 
 -- the block was taken as the pages say
 pub takes_by : (s t : Store) → s ≡ t → (class page index address : ℕ) (new : List (Option Page)) → page_for s.pages class ≡ Some page → page_for t.pages class ≡ Some (address / 2048)

@@ -217,28 +217,38 @@ module _ (s : Store) (whole : IsStore s) (class k i : ℕ) (known : class < CLAS
         whole.pages j p (slice_get-get_or s.pages j None n ∙ ap Some (sym (set_other s.pages k j _ d) ∙ g)))
   ]
 
-  pub whole_after : (words : List ℕ) → length words ≡ length s.words → IsStore (record { pages = set s.pages k (Some (with_allocated (page_of_class class (page_at s.pages k)) i true)); words = words })
-  whole_after words e = record {
+  words_after : (words : List ℕ) → length s.words ≤ length words → 2048 * k + 2048 ≤ length words → (j : ℕ) (p : Page) → slice_get (set s.pages k (Some (with_allocated (page_of_class class (page_at s.pages k)) i true))) j ≡ Some (Some p) → 2048 * j + 2048 ≤ length words
+  words_after words more long j p e = elim (same_or j k) [
+    | inl z ↦ subst (λ n. 2048 * n + 2048 ≤ length words) (sym z) long
+    | inr d ↦ (let g : page_at (set s.pages k (Some (with_allocated (page_of_class class (page_at s.pages k)) i true))) j ≡ Some p = get_or_from_slice_get _ j (Some p) None e in
+        let n : j < length s.pages = subst (λ z. j < z) (length-set s.pages k _) (slice_get_within _ j (Some p) e) in
+        let w : 2048 * j + 2048 ≤ length s.words = whole.words j p (slice_get-get_or s.pages j None n ∙ ap Some (sym (set_other s.pages k j _ d) ∙ g)) in
+        omega (arith, w, more))
+  ]
+
+  pub whole_after : (words : List ℕ) → length s.words ≤ length words → 2048 * k + 2048 ≤ length words → IsStore (record { pages = set s.pages k (Some (with_allocated (page_of_class class (page_at s.pages k)) i true)); words = words })
+  whole_after words more long = record {
     pages = page_after;
-    words = e ∙ whole.words ∙ ap (λ n. 2048 * n) (sym (length-set s.pages k _));
-    few = subst (λ n. n ≤ 4096) (sym (length-set s.pages k _)) whole.few;
+    words = words_after words more long;
+    few = subst (λ n. n ≤ 1048576) (sym (length-set s.pages k _)) whole.few;
   }
 
-  pub few_words : address_of class k i + size_of class ≤ length s.words
-  few_words = omega (arith, fit, within, whole.words)
+  module _ (long : 2048 * k + 2048 ≤ length s.words) where
+    pub few_words : address_of class k i + size_of class ≤ length s.words
+    few_words = omega (arith, fit, long)
 
-  module _ (identity : ℕ) (h : Header) (fits : HeaderFits h) (room : cell_count h + 4 ≤ size_of class) where
+  module _ (long : 2048 * k + 2048 ≤ length s.words) (identity : ℕ) (h : Header) (fits : HeaderFits h) (room : cell_count h + 4 ≤ size_of class) where
     text_length : length (new_words (address_of class k i) h identity) ≡ cell_count h + 4
     text_length = omega (arith, length-replicate {A = ℕ} (cell_count h) 0)
 
     kept_length : length (spliced s.words (address_of class k i) (new_words (address_of class k i) h identity)) ≡ length s.words
-    kept_length = length-spliced s.words (new_words (address_of class k i) h identity) (address_of class k i) (omega (arith, text_length, room, few_words))
+    kept_length = length-spliced s.words (new_words (address_of class k i) h identity) (address_of class k i) (omega (arith, text_length, room, few_words long))
 
     after : Store
     after = record { pages = set s.pages k (Some (with_allocated (page_of_class class (page_at s.pages k)) i true)); words = spliced s.words (address_of class k i) (new_words (address_of class k i) h identity) }
 
     pub made_store : IsStore (record { pages = set s.pages k (Some (with_allocated (page_of_class class (page_at s.pages k)) i true)); words = spliced s.words (address_of class k i) (new_words (address_of class k i) h identity) })
-    made_store = whole_after _ kept_length
+    made_store = whole_after _ (omega (arith, kept_length)) (omega (arith, kept_length, long))
 
     apart_from : (b : ℕ) → is_allocated s b ≡ true → (b + size_at s b ≤ address_of class k i) ⊎ (address_of class k i + size_of class ≤ b)
     apart_from b allocated =
@@ -260,7 +270,7 @@ module _ (s : Store) (whole : IsStore s) (class k i : ℕ) (known : class < CLAS
         let words = spliced s.words a (new_words a h identity) in record {
           free = free_before;
           allocated = allocated_after words;
-          here = ap (record_at words a) (size_here words) ∙ new_block_here s.words a (size_of class) identity h fits room few_words;
-          others = λ b allocated. ap (record_at words b) (size_after words b allocated) ∙ new_block_others s.words a (size_of class) identity b (size_at s b) h room few_words (apart_from b allocated);
+          here = ap (record_at words a) (size_here words) ∙ new_block_here s.words a (size_of class) identity h fits room (few_words long);
+          others = λ b allocated. ap (record_at words b) (size_after words b allocated) ∙ new_block_others s.words a (size_of class) identity b (size_at s b) h room (few_words long) (apart_from b allocated);
           same = λ b ne. same_after words b ne;
         }

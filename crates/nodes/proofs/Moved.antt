@@ -34,7 +34,7 @@ module _ (rows : List (Option PageRow)) (words : List ℕ) (t : Store) (is : joi
   allocated_below : index < length can.source.allocated
   allocated_below = slice_get_within can.source.allocated index true can.allocated
 
-  pub source_fit : (page < 4096) × (index * size + size ≤ 2048)
+  pub source_fit : (page < 1048576) × (index * size + size ≤ 2048)
   source_fit = block_by (joined rows words) are.whole page index can.source can.from allocated_below size source_there
 
   module _ (place : ℕ) (is_open : IsSomeAnd (page_at (pages_in rows words) to) (λ q. IsOpen q place)) where
@@ -47,7 +47,7 @@ module _ (rows : List (Option PageRow)) (words : List ℕ) (t : Store) (is : joi
     target_there : size ≡ size_of can.target.class
     target_there = source_there ∙ ap size_of (sym can.class)
 
-    pub target_fit : (to < 4096) × (place * size + size ≤ 2048)
+    pub target_fit : (to < 1048576) × (place * size + size ≤ 2048)
     target_fit = block_by (joined rows words) are.whole to place can.target can.into (slice_get_within can.target.allocated place false free) size target_there
 
     module _ (mid : List ℕ) (kept : KeepsAllocated (pages_in rows words) words mid) where
@@ -86,7 +86,7 @@ module _ (rows : List (Option PageRow)) (words : List ℕ) (t : Store) (is : joi
         target_is : b ≡ new_at
         target_is = b_is ∙ ap (λ n. 2048 * to + place * n) target_there
 
-        small : b ≤ 8388608
+        small : b ≤ 2147483648
         small = omega (arith, b_is, target_fit.0, target_fit.1)
 
         from_fits : a + size ≤ length mid
@@ -198,7 +198,7 @@ module _ (rows : List (Option PageRow)) (words : List ℕ) (t : Store) (is : joi
               ∙ get_or-take size (drop a first) 1 0 (omega (arith, four_words)) ∙ get_or-drop a first 1 0))
               source_header
 
-          store_with : (w : List ℕ) → length w ≡ length mid → pages_in after w ≡ pages_then → IsStore (joined after w)
+          store_with : (w : List ℕ) → length mid ≤ length w → pages_in after w ≡ pages_then → IsStore (joined after w)
           store_with w e same =
               subst (λ (g : List (Option Page)). IsStore (record { pages = g; words = w })) (sym same)
               (still_store pages_then mid w e (received_store midway whole page index to can place free))
@@ -206,7 +206,7 @@ module _ (rows : List (Option PageRow)) (words : List ℕ) (t : Store) (is : joi
           headers_first : (x : ℕ) → is_allocated (joined after mid) x ≡ true → x ≢ b → IsHeader (get_or first (x + 1) 0)
           unfolding is_allocated
           headers_first x allocated ne =
-              header_after (pages_in after mid) mid first (store_with mid refl pages_mid) a (size_of source_block.row.class) source_block.size source_allocated_then forwards source_header x allocated
+              header_after (pages_in after mid) mid first (store_with mid (omega arith) pages_mid) a (size_of source_block.row.class) source_block.size source_allocated_then forwards source_header x allocated
               (λ _. header_then x (sym (ap (λ (g : List (Option Page)). is_allocated (record { pages = g; words = mid }) x) pages_mid ∙ same_allocated midway whole page index to can place free x (λ e. ne (e ∙ sym target_is))) ∙ allocated))
 
           headers_second : (x : ℕ) → is_allocated (joined after second) x ≡ true → IsHeader (get_or second (x + 1) 0)
@@ -214,7 +214,7 @@ module _ (rows : List (Option PageRow)) (words : List ℕ) (t : Store) (is : joi
           headers_second x allocated =
               let allocated_first : is_allocated (joined after first) x ≡ true = sym (ap (λ (g : List (Option Page)). is_allocated (record { pages = g; words = second }) x) (pages_second ∙ sym pages_first)) ∙ allocated in
               let allocated_mid : is_allocated (joined after mid) x ≡ true = sym (ap (λ (g : List (Option Page)). is_allocated (record { pages = g; words = first }) x) (pages_first ∙ sym pages_mid)) ∙ allocated_first in
-              header_after (pages_in after first) first second (store_with first (ap (λ w. length w) first_is ∙ length-set mid a b) pages_first) b (size_of target_block.row.class) target_block.size target_allocated_then copies target_header x allocated_first
+              header_after (pages_in after first) first second (store_with first (let l : length first ≡ length mid = ap (λ w. length w) first_is ∙ length-set mid a b in omega (arith, l)) pages_first) b (size_of target_block.row.class) target_block.size target_allocated_then copies target_header x allocated_first
               (headers_first x allocated_mid)
 
           pub moved_nodes : AreBlockRecords after second
@@ -229,7 +229,7 @@ module _ (rows : List (Option PageRow)) (words : List ℕ) (t : Store) (is : joi
           moves_by =
               subst (λ (x : Store). IfSome (page_at x.pages page) (λ p. MovesBlock x (joined after second) (address_of p.class page index) (address_of p.class to place))) is
               (subst (λ o. IfSome o (λ p. MovesBlock (joined rows words) (joined after second) (address_of p.class page index) (address_of p.class to place))) (sym can.from)
-              (moves_then (pages_in rows words) words mid kept (joined after second) (address_of can.source.class page index) (address_of can.source.class to place) old_allocated
+              (moves_then (pages_in rows words) words mid kept are.whole (joined after second) (address_of can.source.class page index) (address_of can.source.class to place) old_allocated
               (both (λ x. MovesBlock midway x (address_of can.source.class page index) (address_of can.source.class to place)) (moves midway whole page index to can place free))))
 
           pub pages_by : IfSome (page_at t.pages to) (λ q. pages_in after second ≡ set t.pages to (Some (record (with_allocated q place true) { is_target = true })))

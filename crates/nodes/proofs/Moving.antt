@@ -1,7 +1,7 @@
 -- A block is moved.
-use Rattle.std.proofs.Common.{◌≡◌, ◌≢◌, ℕ, ◌+◌, ◌/◌, ◌%◌, ◌<◌, ◌≤◌, ◌⊎◌, inl, inr, Bool, true, false, ◌&&◌, List, Some, length, set, ap, ◌∙◌, sym, subst, arith, length-set}
+use Rattle.std.proofs.Common.{◌≡◌, ◌≢◌, ℕ, ◌+◌, ◌/◌, ◌%◌, ◌<◌, ◌≤◌, ◌⊎◌, inl, inr, Bool, true, false, ◌&&◌, List, Some, None, length, set, ap, ◌∙◌, sym, subst, arith, length-set}
 use Rattle.std.proofs.lemmas.List.{get_or-set_same}
-use Rattle.std.proofs.lemmas.Option.{slice_get_within, get_or_from_slice_get}
+use Rattle.std.proofs.lemmas.Option.{slice_get_within, slice_get-get_or, get_or_from_slice_get}
 use Rattle.size_classes.specs.Sizes.{size_of}
 use Rattle.heap_model.specs.Block.{record_at, words_at, spliced, with_forward}
 use Rattle.heap_model.specs.Pages.{Page, IsPage, page_at, with_allocated, IsOpen}
@@ -131,12 +131,13 @@ module _ (s : Store) (whole : IsStore s) (page index to : ℕ) (m : CanMove s.pa
 
   pub received_store : IsStore (record { pages = set s.pages to (Some received); words = s.words })
   received_store = store_change s to (Some received) within whole (λ p e. subst IsPage (same_page e) is_received)
+      (λ _ _. whole.words to m.target (slice_get-get_or s.pages to None within ∙ ap Some m.into))
     where
       same_page : {a b : Page} → Some a ≡ Some b → a ≡ b
       same_page e = cc
 
   pub moved_store : IsStore after_move
-  moved_store = still_store (set s.pages to (Some received)) s.words words_after (copied_length forwarded from target size source_fits target_fits ∙ length-set s.words from target) received_store
+  moved_store = still_store (set s.pages to (Some received)) s.words words_after (omega (arith, copied_length forwarded from target size source_fits target_fits, length-set s.words from target)) received_store
 
   pub target_allocated : is_allocated after_move target ≡ true
   target_allocated =

@@ -18,11 +18,11 @@ no_object_fits : (id : ℕ) → fits (object_of [] id).shape ≡ true
 unfolding object_of
 no_object_fits id = grind arith
 
--- What a cycle may spend is small, with at most 4096 pages, to be emptied too, and 16640 roots.
-small_limit : (h : HeapState) → length h.store.pages ≤ 4096 → length h.roots ≤ 16640 → h.defrag_pages ≤ 4096 → cycle_limit h < 2 ^ 31
-small_limit h p r d = let z : (h.defrag_pages + CLASSES) * length h.store.pages ≤ (4096 + CLASSES) * length h.store.pages = mul-le-mul_right (length h.store.pages) (omega (arith, d)) in omega (arith, z)
+-- What a cycle may spend is small, with at most 1048576 pages, to be emptied too, and 16640 roots.
+small_limit : (h : HeapState) → length h.store.pages ≤ 1048576 → length h.roots ≤ 16640 → h.defrag_pages ≤ 1048576 → cycle_limit h < 2 ^ 41
+small_limit h p r d = let z : (h.defrag_pages + CLASSES) * length h.store.pages ≤ (1048576 + CLASSES) * length h.store.pages = mul-le-mul_right (length h.store.pages) (omega (arith, d)) in omega (arith, z)
 
-pub opening_heap : (a : HeapFields) → IsOpening (state_of a) → 0 < length a.nodes.pages → length a.nodes.pages ≤ 4096 → length a.roots.cells ≤ 16640 → a.config.defrag_pages ≤ 4096 → length a.grey.buffers ≡ a.roots.limits.mutators → AreHeapFields a
+pub opening_heap : (a : HeapFields) → IsOpening (state_of a) → 0 < length a.nodes.pages → length a.nodes.pages ≤ 1048576 → length a.roots.cells ≤ 16640 → a.config.defrag_pages ≤ 1048576 → length a.grey.buffers ≡ a.roots.limits.mutators → AreHeapFields a
 opening_heap a o some few row most buffers = record {
   heap = record {
     present = opening a.roots.limits;

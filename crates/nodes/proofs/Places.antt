@@ -1,5 +1,6 @@
 -- An allocated block is a whole block of its page, and two have no word in common.
 use Rattle.std.proofs.Common.{◌≡◌, ℕ, ◌+◌, ◌*◌, ◌/◌, ◌%◌, ◌<◌, ◌≤◌, ◌⊎◌, Bool, true, false, eqb, List, Option, Some, None, length, get_or, ap, ◌∙◌, sym, subst, arith, refl, inl, inr}
+use Rattle.std.specs.Prelude.{option_map}
 use Rattle.std.proofs.lemmas.Bool.{eqb-true, and_parts}
 use Rattle.std.proofs.lemmas.List.{get_or_past}
 use Rattle.std.proofs.lemmas.Option.{slice_get-get_or}
@@ -7,6 +8,7 @@ use Rattle.size_classes.specs.Sizes.{size_of, blocks_in}
 use Rattle.size_classes.proofs.Table.{size_low}
 use Rattle.heap_model.specs.Pages.{Page, IsPage, page_at}
 use Rattle.heap_model.specs.Store.{Store, IsStore, size_in, allocated_in, size_at, is_allocated}
+use Rattle.nodes.specs.Pages.{blocks_on}
 use Rattle.nodes.specs.Place.{IsPlace}
 
 -- a flag that is set is one of the list
@@ -47,6 +49,19 @@ page_is s address p whole e =
     let h : address / 2048 < length s.pages = page_within s.pages (address / 2048) p e in
     whole.pages (address / 2048) p (slice_get-get_or s.pages (address / 2048) None h ∙ ap Some e)
 
+-- a page in use has as many blocks as its class says
+pub blocks_told : (s t : Store) → s ≡ t → IsStore s → (page class n : ℕ) → Some class ≡ option_map (λ (p : Page). p.class) (page_at s.pages page) → n ≡ blocks_in class → n ≡ blocks_on (page_at t.pages page)
+blocks_told s t is whole page class n told e = by_page (page_at s.pages page) refl told ∙ ap (λ (x : Store). blocks_on (page_at x.pages page)) is
+  where
+    same : {a b : ℕ} → Some a ≡ Some b → a ≡ b
+    same e = cc
+
+    by_page : (o : Option Page) → page_at s.pages page ≡ o → Some class ≡ option_map (λ (p : Page). p.class) o → n ≡ blocks_on (page_at s.pages page)
+    by_page None there h = absurd (cc)
+    by_page (Some p) there h =
+        let is_page = whole.pages page p (slice_get-get_or s.pages page None (page_within s.pages page p there) ∙ ap Some there) in
+        e ∙ ap blocks_in (same h) ∙ sym is_page.blocks ∙ ap blocks_on (sym there)
+
 pub placed : (address k offset s : ℕ) → k ≡ address / 2048 → offset ≡ address % 2048 → offset ≡ (offset / s) * s → address ≡ 2048 * k + (offset / s) * s
 placed address k offset s ek eo e = omega (arith, e)
 
@@ -68,8 +83,17 @@ allocated_place s address whole h =
       whole = subst (λ n. (i + 1) * n ≤ 2048) (sym size) (count_in (size_of f.page.class) (2048 / size_of f.page.class) i refl low count);
     }
 
+-- a page in use has its words
+page_words : (s : Store) (address : ℕ) (p : Page) → IsStore s → page_at s.pages (address / 2048) ≡ Some p → 2048 * (address / 2048) + 2048 ≤ length s.words
+page_words s address p whole e = whole.words (address / 2048) p (slice_get-get_or s.pages (address / 2048) None (page_within s.pages (address / 2048) p e) ∙ ap Some e)
+
 pub inside : (s : Store) (address : ℕ) → IsStore s → is_allocated s address ≡ true → address + size_at s address ≤ length s.words
-inside s address whole h = let b = allocated_place s address whole h in omega (arith, b.place, b.whole, b.page, whole.words)
+unfolding is_allocated
+inside s address whole h =
+    let b = allocated_place s address whole h in
+    let f = allocated_in-page (page_at s.pages (address / 2048)) (address % 2048) h in
+    let w = page_words s address f.page whole f.is in
+    omega (arith, b.place, b.whole, w)
 
 -- places of one page
 steps : (i j s : ℕ) → i < j → (i + 1) * s ≤ j * s

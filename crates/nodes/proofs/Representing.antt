@@ -18,7 +18,7 @@ use Rattle.nodes.specs.declared.heap_fields.HeapFields.{HeapFields}
 use Rattle.nodes.specs.HeapFields.{state_of, AreHeapFields}
 
 -- units are counted on
-pub units_small : (a : HeapFields) → AreHeapFields a → a.units < 2 ^ 31
+pub units_small : (a : HeapFields) → AreHeapFields a → a.units < 2 ^ 41
 units_small a w = let l = represents_limit (state_of a) w.heap.present w.heap.snapshot w.heap.represents in let s = w.heap.small in omega arith
 
 -- no block is threaded anew

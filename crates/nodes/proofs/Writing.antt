@@ -1,5 +1,5 @@
 -- Reads and writes of one allocated block.
-use Rattle.std.proofs.Common.{◌≡◌, ℕ, ◌+◌, ◌<◌, ◌≤◌, ◌≢◌, ◌⊎◌, Bool, true, List, Option, length, drop, set, get_or, ap, ◌∙◌, sym, arith, refl, inl, inr, subst}
+use Rattle.std.proofs.Common.{◌≡◌, ℕ, ◌+◌, ◌/◌, ◌<◌, ◌≤◌, ◌≢◌, ◌⊎◌, Bool, true, List, Option, length, drop, set, get_or, ap, ◌∙◌, sym, arith, refl, inl, inr, subst}
 use Rattle.std.proofs.lemmas.List.{get_or-set_same, get_or-set_other, get_or-take, get_or-drop, length-take, length-drop}
 use Rattle.graph_heap.specs.declared.command.Shape.{Shape}
 use Rattle.graph_heap.specs.Shape.{ref_cells, word_cells}
@@ -101,6 +101,9 @@ module _ (s t : Store) (is : s ≡ t) (whole : IsStore s) (a : ℕ) (allocated :
 
   pub header_inside : a + 3 < length s.words
   header_inside = omega (arith, in_words s whole a allocated', four s whole a allocated')
+
+  pub page_there : a / 2048 < length s.pages
+  page_there = (allocated_place s a whole allocated').page
 
   pub forward_by : get_or s.words a 0 ≡ (record_of t a).forward
   forward_by = forward_is s whole a allocated' ∙ ap (λ (x : Store). (record_of x a).forward) is

@@ -32,7 +32,7 @@ pub record IsHeap (h : HeapState) : Type 0 where
   pub snapshot : Graph
   pub represents : Represents h present snapshot
   pub fits : (id : ℕ) → fits (object_of present.objects id).shape ≡ true
-  pub small : cycle_limit h < 2 ^ 31
+  pub small : cycle_limit h < 2 ^ 41
 
 -- What holds of the fields between two steps: they are a heap, each mutator has a buffer, and outside roots and
 -- marking no part is grey.

@@ -5,6 +5,7 @@ pub mod Place
 pub mod Referent
 pub mod Pages
 pub mod Sweeping
+pub mod Touching
 pub mod Copies
 pub mod Wasted
 pub mod Acting

@@ -1,5 +1,5 @@
 //! Pages and words together.
-ghost use Rattle.std.specs.Prelude.{IsSome, IsSomeAnd, slice_get, option_map, position, ◌≡◌, ℕ, ◌+◌, ◌-◌, ◌*◌, ◌/◌, ◌<◌, ◌≤◌, ◌↔◌, length, replicate, slice_set, true, false, None, Some, IfOk, IfSome, IsNone};
+ghost use Rattle.std.specs.Prelude.{IsSome, IsSomeAnd, slice_get, option_map, position, ◌≡◌, ℕ, ◌+◌, ◌-◌, ◌*◌, ◌/◌, ◌<◌, ◌≤◌, ◌↔◌, [], length, replicate, slice_set, true, false, None, Some, IfOk, IfSome, IsNone};
 ghost use Rattle.size_classes.specs.Sizes.{size_of};
 ghost use Rattle.size_classes.specs.Need.{blocks_needed};
 ghost use Rattle.size_classes.specs.Parts.{part_cells, cells_of, parts_in};
@@ -14,6 +14,7 @@ ghost use Rattle.nodes.specs.Links.{KeepsLinks};
 ghost use Rattle.nodes.specs.Moving.{CanMove};
 ghost use Rattle.nodes.specs.Pages.{blocks_on};
 ghost use Rattle.nodes.specs.Sweeping.{Sweeps};
+ghost use Rattle.nodes.specs.Touching.{touched};
 
 use graph_heap::{NoMemory, Shape};
 use headers::Arena;
@@ -37,7 +38,7 @@ pub struct Referent {
 /// The address of a block of a page, by its number there and the size of the page's blocks.
 #[inline(always)]
 fn address(page: usize, index: usize, size: usize) -> usize
-    requires page { page < 4096 }
+    requires page { page < 1048576 }
     requires block { index * size + size ≤ 2048 }
     ensures { result ≡ 2048 * page + index * size }
 {
@@ -46,8 +47,9 @@ fn address(page: usize, index: usize, size: usize) -> usize
 
 /// The blocks of a heap. Contracts see the pages and the words; a method that writes says what the
 /// record of its one block becomes, and that every other allocated block keeps its own. The table and the
-/// arena go together throughout: the list of each page runs through just its free blocks, and in an allocated block
-/// word 0 is an address and word 1 a header with no other bit set.
+/// arena go together throughout: there is memory for each page, each page in use has its words, the list of each page
+/// runs through just its free blocks, and in an allocated block word 0 is an address and word 1 a header with no other
+/// bit set.
 #[derive(Drop)]
 pub struct Nodes {
     table: PageTable,
@@ -58,23 +60,35 @@ impl Model for Nodes {
     ghost use Rattle.heap_model.specs.Store.{Store};
     ghost use Rattle.nodes.specs.Joined.{AreBlockRecords};
     ghost use Rattle.pages.specs.Together.{joined};
+    ghost use Rattle.std.specs.Prelude.{◌≡◌, length};
 
     ghost Value = { Store };
 
-    ghost view = { λ n. joined n.table n.arena };
+    ghost view = { λ n. joined n.table n.arena.words };
 
-    ghost invariant = { λ n. AreBlockRecords n.table n.arena };
+    ghost invariant = { λ n. AreBlockRecords n.table n.arena.words × (n.arena.pages ≡ length n.table) };
 }
 
 impl Nodes {
-    /// This many free pages, of 2048 words each. Refused only for lack of memory.
+    /// This many free pages, of 2048 words each, none of which was touched: there is memory for all of them. Refused only
+    /// for lack of memory.
     pub fn new(alloc: Global, pages: u32) -> Result<Nodes, NoMemory>
-        requires { pages ≤ 4096 }
-        ensures { IfOk result (λ n. n ≡ record { pages = replicate pages None; words = replicate (2048 * pages) 0 }) }
+        requires { pages ≤ 1048576 }
+        ensures { IfOk result (λ n. n ≡ record { pages = replicate pages None; words = [] }) }
     {
         let table = PageTable::new(alloc, pages)?;
         let arena = Arena::new(alloc, pages)?;
         Ok(Nodes { table, arena })
+    }
+
+    /// Touches the first pages, this many or all: those that weren't touched before get their words, which are 0. The
+    /// same blocks are allocated, and say what they said.
+    pub fn touch(&mut self, pages: usize)
+        ensures touched { self.new ≡ touched self.old pages }
+        ensures kept { KeepsBlocks self.old self.new }
+        ensures links { KeepsLinks self.old self.new }
+    {
+        self.arena.touch(pages);
     }
 
     /// Whether there is room for the parts of an object.
@@ -109,7 +123,7 @@ impl Nodes {
     /// How many pages there are.
     pub fn pages(&self) -> usize
         ensures pages { result ≡ length self.now.pages }
-        ensures within { result ≤ 4096 }
+        ensures within { result ≤ 1048576 }
     {
         self.table.len()
     }
@@ -117,9 +131,17 @@ impl Nodes {
     /// How many pages are free.
     pub fn free_pages(&self) -> usize
         ensures free { result ≡ page_list.free_pages self.now.pages }
-        ensures within { result ≤ 4096 }
+        ensures within { result ≤ 1048576 }
     {
         self.table.free_pages()
+    }
+
+    /// How many pages were touched. Each page behind these is free.
+    pub fn pages_touched(&self) -> usize
+        ensures within { result ≤ 1048576 }
+        ensures free { (page : ℕ) → result ≤ page → page_at self.now.pages page ≡ None }
+    {
+        self.arena.pages_touched()
     }
 
     /// How many blocks a page has, allocated or not; a free page has none.
@@ -182,7 +204,7 @@ impl Nodes {
     /// How many blocks of a class are free, on pages that aren't evacuating.
     pub fn free_blocks(&self, class: Class) -> usize
         ensures free { result ≡ free_blocks self.now.pages class }
-        ensures within { result ≤ 2097152 }
+        ensures within { result ≤ 536870912 }
     {
         self.table.free_blocks(class)
     }
@@ -274,7 +296,7 @@ impl Nodes {
         ensures page { IfSome result (λ address. page_for self.old.pages class ≡ Some (address / 2048)) }
         ensures taken { IfSome result (λ address. (index : ℕ)
             × TakesBlock self.old.pages class (address / 2048) index self.new.pages) }
-        ensures within { IfSome result (λ address. address ≤ 8388608) }
+        ensures within { IfSome result (λ address. address ≤ 2147483648) }
         ensures made { IfSome result (λ address. Adds self.old self.new address
             (new_record address (record { shape = shape; part = part; colour = colour }) identity)) }
         ensures kept { IsNone result → self.new ≡ self.old }

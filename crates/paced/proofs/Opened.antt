@@ -5,7 +5,7 @@ use Rattle.settings.specs.Config.{limits_of}
 use Rattle.heap_model.specs.Settings.{HeapSettings}
 use Rattle.heap_model.specs.Event.{Event, present_of}
 use Rattle.graph_heap.specs.Graph.{opening}
-use Rattle.space.specs.Tally.{awaits_sweep_end}
+use Rattle.heap_model.specs.Phases.{awaits_sweep_end}
 use Rattle.space.specs.Room.{AllHaveRoom}
 use Rattle.fragmentation.specs.Flow.{Flow, FlowMeter, opening_meter, next_meter, Paces, LivesIn, KeepsFlow, AllMetered}
 use Rattle.fragmentation.specs.Configured.{MovesAll, FlowFitsIn}
@@ -19,7 +19,7 @@ keeps_both f k t [] p l = tt
 keeps_both f k t (e ∷ es) p l = ((p.0, l.0), keeps_both f k (next_meter t e) es p.1 l.1)
 
 module _ (config : Config) (plan : Plan) (live : ℕ) (old new : PacedView) (o : IsJustPaced config plan old) where
-  limits : old.course.heap.limits ≡ limits_of config
+  limits : old.heap.course.heap.limits ≡ limits_of config
   limits = ap (λ (s : HeapSettings). s.limits) o.made.settings
 
   strict : IsAsStrict (opening_meter (limits_of config)) old
@@ -40,4 +40,4 @@ module _ (config : Config) (plan : Plan) (live : ℕ) (old new : PacedView) (o :
           let f = planned_flow live old.plan in
           let t = opening_meter (limits_of config) in
           let keeps : AllMetered (KeepsFlow f (config.collector_ticks * config.rate)) t es = subst (λ k. AllMetered (KeepsFlow f k) t es) o.budget (keeps_both f old.budget t es (a.paces live) lives) in
-          (finds_space old.course config es new.course o.made a.runs).flow f moves keeps (subst (λ z. FlowFitsIn config (planned_flow live z)) (sym o.plan) fits)
+          (finds_space old.heap.course config es new.heap.course o.made a.runs).flow f moves keeps (subst (λ z. FlowFitsIn config (planned_flow live z)) (sym o.plan) fits)

@@ -15,7 +15,7 @@ pub use plan::{Plan, flow_fits, planned};
 mod tests {
     use super::*;
     use graph_heap::{Command, Reply, Shape};
-    use settings::{Config, Settings};
+    use settings::{Config, Ranges, Settings};
 
     /// A plan of a configuration, and commands on its heap through some cycles; then one above the words of a cycle.
     #[test]
@@ -28,7 +28,7 @@ mod tests {
             collector_ticks: 50,
             ..Settings::DEFAULTS
         };
-        let Ok(config) = Config::check(&settings) else {
+        let Ok(config) = Config::check(Ranges::Library, &settings) else {
             panic!(rt; "the settings are good");
         };
         let Some(plan) = planned(&config, 183200) else {

@@ -30,6 +30,7 @@ pub enum CallFault {
 
 /// A heap with the plan that it keeps. Contracts see the heap with its history, the plan, the budget of a quantum and
 /// what is counted.
+#[derive(Drop)]
 pub struct PacedHeap {
     heap: Recorded,
     plan: Plan,
@@ -41,18 +42,6 @@ pub struct PacedHeap {
     quanta: u64,
 }
 
-impl Drop for PacedHeap {
-    fn drop(self) {
-        let PacedHeap {
-            heap,
-            plan: _,
-            budget: _,
-            words: _,
-            quanta: _,
-        } = self;
-    }
-}
-
 impl Model for PacedHeap {
     ghost use Rattle.std.specs.Prelude.{◌≤◌};
     ghost use Rattle.heap_model.specs.Event.{IsCourse, IsBudget};
@@ -61,8 +50,7 @@ impl Model for PacedHeap {
     ghost Value = { PacedView };
 
     ghost view = { λ a. record {
-      course = a.heap.course;
-      room = a.heap.room;
+      heap = a.heap;
       plan = a.plan;
       budget = a.budget;
       words = a.words;
@@ -93,7 +81,7 @@ impl PacedHeap {
     fn allows(&self, words: u64) -> bool
         requires { words ≤ self.now.plan.cycle_words }
         ensures yes { result ≡ true → MayAsk self.now words }
-        ensures no { result ≡ false → (in_cycle self.now.course.heap.phase ≡ true) ⊎ (0 < self.now.words) }
+        ensures no { result ≡ false → (in_cycle self.now.heap.course.heap.phase ≡ true) ⊎ (0 < self.now.words) }
     {
         let Some(after) = self.words.checked_add(words) else {
             return false;
@@ -111,7 +99,7 @@ impl PacedHeap {
     /// Begins a cycle, or spends a quantum on the one that is running.
     fn work(&mut self)
         ensures collected { Collected self.old self.new }
-        ensures less { (in_cycle self.old.course.heap.phase ≡ true) ⊎ (0 < self.old.words)
+        ensures less { (in_cycle self.old.heap.course.heap.phase ≡ true) ⊎ (0 < self.old.words)
             → work_left self.new < work_left self.old }
     {
         match self.heap.begin() {

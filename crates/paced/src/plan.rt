@@ -21,7 +21,7 @@ pub struct Plan {
 /// The quanta of the configuration's budget that a cycle takes at most up to its sweep's end.
 fn traced_quanta(config: &Config) -> u64
     ensures quanta { result ≡ unmoved_quanta_at config.now config.now.pages }
-    ensures within { result ≤ 50000 }
+    ensures within { result ≤ 10500000 }
 {
     let count = u64::from(config.pages);
     let roots = u64::from(config.root_cells());
@@ -45,7 +45,7 @@ pub fn flow_fits(config: &Config, live_words: u64, plan: &Plan) -> bool
 /// The quanta of the configuration's budget that a whole cycle takes at most.
 fn whole_quanta(config: &Config) -> u64
     ensures quanta { result ≡ cycle_quanta config.now }
-    ensures within { (1 ≤ result) × (result ≤ 50000000) }
+    ensures within { (1 ≤ result) × (result ≤ 1106000000000) }
 {
     config.cycle_limit() / u64::from(config.budget() - (LEAST_BUDGET - 1)) + 1
 }

@@ -104,6 +104,6 @@ link_apart at size i j low = elim (cases_eq i j) [
   | inr ne ↦ (let p = apart at size i j 3 0 (omega (arith, low)) (omega (arith, low)) ne in omega (arith, p))
 ]
 
-pub not_mark : (n : ℕ) → n < 8388608 → not (eqb n free_mark) ≡ true
+pub not_mark : (n : ℕ) → n < 2147483648 → not (eqb n free_mark) ≡ true
 unfolding free_mark
 not_mark n h = ap not (ne_eqb n 18446744073709551615 (omega (arith, h)))

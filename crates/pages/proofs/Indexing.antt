@@ -48,7 +48,7 @@ module _ (rows : List (Option PageRow)) (usable : List BitRow) (free : BitRow) (
   pub block_some : row_free_on class (row_at rows page) ≤ get_or free_blocks class 0
   block_some = let w = get_or-le-sum_by (row_free_on class) rows page None below in omega (arith, w, b.blocks_are class known)
 
-  pub block_room : get_or free_blocks class 0 ≤ 2097152
+  pub block_room : get_or free_blocks class 0 ≤ 536870912
   block_room = let w = rows_few class known rows in omega (arith, w, b.blocks_are class known, b.few)
 
   pub page_some : bit (row_free (row_at rows page)) ≤ free_pages
@@ -193,7 +193,7 @@ module _ (rows : List (Option PageRow)) (pages : List (Option PageRow)) (seen : 
       let e : row_free_on class old ≡ row_free_on class (row_at rows page) = ap (row_free_on class) old_is in
       omega (arith, w, e, less_is, had_there)
 
-  pub had_small : had ≤ 2097152
+  pub had_small : had ≤ 536870912
   had_small = let w = block_room rows usable free free_blocks free_pages b page class row within was_in is known in omega (arith, w, had_there)
 
   pub put_by : (one new free_new : BitRow) (on off gone : Bool) (m : ℕ) → one ≡ get_or usable number one → has_bit new page ≡ bit on → on ≡ row_usable class row → ((i : ℕ) → i ≢ page → has_bit new i ≡ has_bit one i) → room_of new ≡ room_of one
@@ -259,7 +259,7 @@ module _ (rows : List (Option PageRow)) (pages : List (Option PageRow)) (seen : 
     pub fewer : less ≤ had
     fewer = less_small rows pages seen usable free free_blocks free_pages b page class row below was_class (used_class class row is_of) known number number_is old read less more less_is more_is had had_is
 
-    pub few_had : had ≤ 2097152
+    pub few_had : had ≤ 536870912
     few_had = had_small rows pages seen usable free free_blocks free_pages b page class row below was_class (used_class class row is_of) known number number_is old read less more less_is more_is had had_is
 
     pub update_by : (new : BitRow) → has_bit new page ≡ bit (ltb 0 more) → ((i : ℕ) → i ≢ page → has_bit new i ≡ has_bit one i) → room_of new ≡ room_of one
@@ -294,7 +294,7 @@ module _ (rows : List (Option PageRow)) (usable : List BitRow) (free : BitRow) (
   pub old_some : row_free_on old.class (Some old) ≤ get_or free_blocks old.class 0
   old_some = omega (arith, here_free, block_some rows usable free free_blocks free_pages b page old.class (Some row) below in_class same known)
 
-  pub old_room : get_or free_blocks old.class 0 ≤ 2097152
+  pub old_room : get_or free_blocks old.class 0 ≤ 536870912
   old_room = block_room rows usable free free_blocks free_pages b page old.class (Some row) below in_class same known
 
   module _ (n : ℕ) (counted : n + row_free_on old.class (Some old) ≡ get_or free_blocks old.class 0 + row_free_on old.class (Some row)) where
@@ -364,7 +364,7 @@ none_counted : (n : ℕ) → count_by row_free (replicate n None) ≡ n
 none_counted zero = refl
 none_counted (suc n) = let s = sum_by-cons (λ o. bit (row_free o)) None (replicate n None) in omega (arith, s, none_counted n)
 
-pub fresh_book : (n : ℕ) (usable : List BitRow) (free : BitRow) → n ≤ 4096 → length usable ≡ CLASSES → ((c : ℕ) → c < CLASSES → n ≤ room_of_class usable c) → n ≤ room_of free → ((c k : ℕ) → c < CLASSES → class_bit usable c k ≡ 0) → ((k : ℕ) → k < n → has_bit free k ≡ 1) → ((k : ℕ) → n ≤ k → has_bit free k ≡ 0)
+pub fresh_book : (n : ℕ) (usable : List BitRow) (free : BitRow) → n ≤ 1048576 → length usable ≡ CLASSES → ((c : ℕ) → c < CLASSES → n ≤ room_of_class usable c) → n ≤ room_of free → ((c k : ℕ) → c < CLASSES → class_bit usable c k ≡ 0) → ((k : ℕ) → k < n → has_bit free k ≡ 1) → ((k : ℕ) → n ≤ k → has_bit free k ≡ 0)
     → IsIndex (replicate n None) usable free (replicate CLASSES 0) n
 fresh_book n usable free few long wide free_wide none some past =
     let size : length (replicate {A = Option PageRow} n None) ≡ n = length-replicate n None in

@@ -9,3 +9,4 @@ pub mod Sweeping
 pub mod Writing
 pub mod InPlace
 pub mod Flags
+pub mod Touching

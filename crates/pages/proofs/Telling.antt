@@ -145,6 +145,10 @@ module _ (rows : List (Option PageRow)) (words : List ℕ) (t : Together rows wo
       sym (fold-map (λ o. cond (row_free o) 1 0) (λ n. n) 0 rows) ∙ ap (λ l. fold (λ a x. a + x) 0 l) (image (λ o. cond (row_free o) 1 0) (λ p. cond (is_free p) 1 0) rows words (λ k _. ap (λ b. cond b 1 0) (free_page words (2048 * k) (row_at rows k))))
       ∙ fold-map (λ p. cond (is_free p) 1 0) (λ n. n) 0 (pages_in rows words)
 
+-- a page in use has its words
+pub words_present : (rows : List (Option PageRow)) (words : List ℕ) → Together rows words → (page : ℕ) (row : PageRow) → row_at rows page ≡ Some row → 2048 * page + 2048 ≤ length words
+words_present rows words t page row there = subst (λ o. IfSome o (λ _. 2048 * page + 2048 ≤ length words)) there (t.present page)
+
 -- ---- a page's record and words are changed
 module _ (rows : List (Option PageRow)) (words new : List ℕ) (t : Together rows words) (page : ℕ) (row : PageRow) (below : page < length rows) (known : row.class < CLASSES)
     (chain : IsFreeList new (2048 * page) row.class row.first row.allocated) (outside : SameOutside words new (2048 * page)) where
@@ -176,9 +180,16 @@ module _ (rows : List (Option PageRow)) (words new : List ℕ) (t : Together row
   row_other : (k : ℕ) → k ≢ page → row_at (set rows page (Some row)) k ≡ row_at rows k
   row_other k ne = get_or-set_other rows page k (Some row) None ne
 
-  pub together_changed : Together (set rows page (Some row)) new
-  together_changed = record {
-    len = outside.len ∙ t.len ∙ ap (λ n. 2048 * n) (sym (length-set rows page (Some row)));
+  still_present : (n : ℕ) (o : Option PageRow) → IfSome o (λ _. n ≤ length words) → IfSome o (λ _. n ≤ length new)
+  still_present n o h = subst (λ m. IfSome o (λ _. n ≤ m)) (sym outside.len) h
+
+  pub together_changed : 2048 * page + 2048 ≤ length words → Together (set rows page (Some row)) new
+  together_changed long = record {
+    present = λ k. elim (cases_eq k page) [
+      | inl e ↦ subst (λ n. IfSome (row_at (set rows page (Some row)) n) (λ _. 2048 * n + 2048 ≤ length new)) (sym e) (subst (λ o. IfSome o (λ _. 2048 * page + 2048 ≤ length new)) (sym row_there) (let l : 2048 * page + 2048 ≤ length new = omega (arith, long, outside.len) in l))
+      | inr ne ↦ subst (λ o. IfSome o (λ _. 2048 * k + 2048 ≤ length new)) (sym (row_other k ne)) (still_present (2048 * k + 2048) (row_at rows k) (t.present k))
+    ];
+    within = omega (arith, outside.len, t.within, length-set rows page (Some row));
     classes = λ k. elim (cases_eq k page) [
       | inl e ↦ subst (λ o. IfSome o (λ r. r.class < CLASSES)) (sym (ap (row_at (set rows page (Some row))) e ∙ row_there)) known
       | inr ne ↦ subst (λ o. IfSome o (λ r. r.class < CLASSES)) (sym (row_other k ne)) (t.classes k)
@@ -228,7 +239,7 @@ module _ (rows : List (Option PageRow)) (words new : List ℕ) (t : Together row
   own_chain = subst (λ c. IsFreeList new (2048 * page) c row.first row.allocated) (sym same_class) (subst (IsFreeList new (2048 * page) old.class row.first) (sym (ap (λ (r : PageRow). r.allocated) row_is)) chain)
 
   pub together_by : Together after new
-  together_by = subst (λ l. Together l new) (sym after_is) (together_changed rows words new t page row below known own_chain outside)
+  together_by = subst (λ l. Together l new) (sym after_is) (together_changed rows words new t page row below known own_chain outside (words_present rows words t page old there))
 
   page_then : Page
   page_then = record { class = old.class; evacuating = old.evacuating; is_target = old.is_target; allocated = flags_of words (2048 * page) old.class }
@@ -288,8 +299,8 @@ module _ (rows : List (Option PageRow)) (words new : List ℕ) (t : Together row
   row_chain : IsFreeList new (2048 * page) row.class row.first row.allocated
   row_chain = subst (λ c. IsFreeList new (2048 * page) c row.first row.allocated) (sym class_is) (subst (IsFreeList new (2048 * page) class row.first) (sym allocated_is) chain)
 
-  pub together_used : Together after new
-  together_used = subst (λ l. Together l new) (sym after_is) (together_changed rows words new t page row below row_known row_chain outside)
+  pub together_used : 2048 * page + 2048 ≤ length words → Together after new
+  together_used long = subst (λ l. Together l new) (sym after_is) (together_changed rows words new t page row below row_known row_chain outside long)
 
   pub pages_used : pages_in after new ≡ set (pages_in rows words) page (Some (fresh_page class))
   pages_used =

@@ -80,7 +80,7 @@ head_of words at class first allocated c h = by_count c.free c.counted c.runs
     }
 
 pub popped : (words new : List ℕ) (at class first allocated : ℕ) (h : Head words at class first allocated) → 4 ≤ size_of class
-    → new ≡ set words (at + h.index * size_of class) (at + h.index * size_of class) → at + 2048 ≤ length words → at + 2048 ≤ 8388608
+    → new ≡ set words (at + h.index * size_of class) (at + h.index * size_of class) → at + 2048 ≤ length words → at + 2048 ≤ 2147483648
     → (flags_of new at class ≡ set (flags_of words at class) h.index true) × IsFreeList new at class (get_or words (at + h.index * size_of class + 3) 0) (allocated + 1)
 popped words new at class first allocated h low is long small =
     let size = size_of class in
@@ -242,7 +242,7 @@ blocks_most class known =
     omega (arith, all, four, turned)
 
 -- as the code computes it
-module _ (words : List ℕ) (page class first allocated size : ℕ) (low_page : page < 4096) (within : 2048 * page + 2048 ≤ length words) (chain : IsFreeList words (2048 * page) class first allocated) (size_is : size ≡ size_of class) (low : 4 ≤ size) where
+module _ (words : List ℕ) (page class first allocated size : ℕ) (low_page : page < 1048576) (within : 2048 * page + 2048 ≤ length words) (chain : IsFreeList words (2048 * page) class first allocated) (size_is : size ≡ size_of class) (low : 4 ≤ size) where
   low_size : 4 ≤ size_of class
   low_size = subst (λ n. 4 ≤ n) size_is low
 

@@ -1,8 +1,8 @@
 -- Words are written, and the pages stay or change as they do.
-use Rattle.std.proofs.Common.{◌≡◌, ◌≢◌, ℕ, ◌+◌, ◌*◌, ◌<◌, ◌≤◌, Bool, true, false, not, eqb, List, length, get_or, set, Option, Some, None, ap, ◌∙◌, sym, refl, subst, inl, inr, arith, replicate}
+use Rattle.std.proofs.Common.{◌≡◌, ◌≢◌, ℕ, ◌+◌, ◌*◌, ◌<◌, ◌≤◌, Bool, true, false, not, eqb, List, [], length, get_or, set, Option, Some, None, ap, ◌∙◌, sym, refl, subst, inl, inr, arith, replicate}
 use Rattle.std.specs.Prelude.{IfSome, slice_get}
 use Rattle.std.proofs.lemmas.Bool.{cases_eq, cases_lt}
-use Rattle.std.proofs.lemmas.List.{length-set, get_or-set_same, get_or-set_other, set-get_or, length-replicate, get_or_past}
+use Rattle.std.proofs.lemmas.List.{length-set, get_or-set_same, get_or-set_other, set-get_or, get_or_past}
 use Rattle.std.proofs.lemmas.Option.{slice_get_within, slice_get-get_or, get_or_from_slice_get, none-some, same_Some}
 use Rattle.size_classes.specs.declared.class.TheConstants.{CLASSES}
 use Rattle.size_classes.proofs.Table.{size_low}
@@ -15,7 +15,7 @@ use Rattle.pages.specs.Together.{page_by, pages_in, Together, KeepsAllocated}
 use Rattle.pages.proofs.Indexing.{row_none}
 use Rattle.pages.proofs.Threading.{runs_same}
 use Rattle.pages.proofs.Flags.{flags_set, apart, spaced, block_fits, length-flags}
-use Rattle.pages.proofs.Telling.{length-pages, page_is, IsRow, together_changed, pages_changed, page_read, inside_page, outside_one}
+use Rattle.pages.proofs.Telling.{length-pages, page_is, IsRow, together_changed, pages_changed, page_read, words_present, inside_page, outside_one}
 
 -- ---- words of allocated blocks
 pub record AllocatedPlace (rows : List (Option PageRow)) (words : List ℕ) (k : ℕ) (p : Page) (i : ℕ) : Type 0 where
@@ -42,7 +42,7 @@ pub keeps_but : (rows : List (Option PageRow)) (flagged words new : List ℕ) (p
     → slice_get (flags_of flagged (2048 * page) old.class) index ≡ Some false → length new ≡ length words
     → ((n : ℕ) → ((d : ℕ) → d < size_of old.class → n ≢ 2048 * page + index * size_of old.class + d) → get_or new n 0 ≡ get_or words n 0) → KeepsAllocated (pages_in rows flagged) words new
 keeps_but rows flagged words new page old index classes there free len same = record {
-  len = len;
+  len = omega (arith, len);
   each = λ k p i j at h l. by_place k p i j (allocated_place rows flagged k p i at h) l;
 } where
   by_place : (k : ℕ) (p : Page) (i j : ℕ) → AllocatedPlace rows flagged k p i → j < size_of p.class → get_or new (2048 * k + i * size_of p.class + j) 0 ≡ get_or words (2048 * k + i * size_of p.class + j) 0
@@ -155,7 +155,7 @@ module _ (rows : List (Option PageRow)) (words new : List ℕ) (t : Together row
   unchanged = ap (set rows page) (sym there) ∙ set-get_or rows page None
 
   pub write_keeps : Together rows new
-  write_keeps = subst (λ l. Together l new) unchanged (together_changed rows words new t page row below row_known' chain' outside')
+  write_keeps = subst (λ l. Together l new) unchanged (together_changed rows words new t page row below row_known' chain' outside' (words_present rows words t page row there))
 
   pub write_same : pages_in rows new ≡ pages_in rows words
   write_same =
@@ -167,12 +167,12 @@ pub leaving_keeps : (rows : List (Option PageRow)) (words : List ℕ) → Togeth
     → Together (set rows page (Some (record row { evacuating = true }))) words
 leaving_keeps rows words t page row below there =
     together_changed rows words words t page (record row { evacuating = true }) below (subst (λ o. IfSome o (λ r. r.class < CLASSES)) there (t.classes page)) (subst (λ o. IsRow words (2048 * page) o) there (t.each page))
-    (record { len = refl; below = λ _ _. refl; above = λ _ _. refl })
+    (record { len = refl; below = λ _ _. refl; above = λ _ _. refl }) (words_present rows words t page row there)
 
 -- the words of a free page are written
 pub keeps_outside : (rows : List (Option PageRow)) (words new : List ℕ) (page : ℕ) → ((k : ℕ) → IfSome (row_at rows k) (λ r. r.class < CLASSES)) → row_at rows page ≡ None → SameOutside words new (2048 * page) → KeepsAllocated (pages_in rows words) words new
 keeps_outside rows words new page classes none out = record {
-  len = out.len;
+  len = omega (arith, out.len);
   each = λ k p i j at h l. by_place k p i j (allocated_place rows words k p i at h) l;
 } where
   by_place : (k : ℕ) (p : Page) (i j : ℕ) → AllocatedPlace rows words k p i → j < size_of p.class → get_or new (2048 * k + i * size_of p.class + j) 0 ≡ get_or words (2048 * k + i * size_of p.class + j) 0
@@ -190,15 +190,16 @@ keeps_outside rows words new page classes none out = record {
 pub keeps_both : (rows : List (Option PageRow)) (words mid new : List ℕ) (page : ℕ) (pages : List (Option Page)) (p' : Option Page) → page < length rows → row_at rows page ≡ None → pages ≡ set (pages_in rows words) page p'
     → KeepsAllocated (pages_in rows words) words mid → KeepsAllocated pages mid new → KeepsAllocated (pages_in rows words) words new
 keeps_both rows words mid new page pages p' below none is one two = record {
-  len = two.len ∙ one.len;
+  len = omega (arith, two.len, one.len);
   each = λ k p i j at h l.
       let ne : k ≢ page = λ e. none-some p (sym (page_is rows words page None below ∙ ap (page_by words (2048 * page)) none) ∙ ap (page_at (pages_in rows words)) (sym e) ∙ at) in
       two.each k p i j (ap (λ l. page_at l k) is ∙ get_or-set_other (pages_in rows words) page k p' None ne ∙ at) h l ∙ one.each k p i j at h l;
 }
 
-pub fresh_together : (n : ℕ) → Together (replicate n None) (replicate (2048 * n) 0)
+pub fresh_together : (n : ℕ) → Together (replicate n None) []
 fresh_together n = record {
-  len = length-replicate (2048 * n) 0 ∙ ap (λ m. 2048 * m) (sym (length-replicate {A = Option PageRow} n None));
+  present = λ k. subst (λ o. IfSome o (λ (r : PageRow). 2048 * k + 2048 ≤ 0)) (sym (row_none n k)) tt;
+  within = omega arith;
   classes = λ k. subst (λ o. IfSome o (λ (r : PageRow). r.class < CLASSES)) (sym (row_none n k)) tt;
-  each = λ k. subst (IsRow (replicate (2048 * n) 0) (2048 * k)) (sym (row_none n k)) tt;
+  each = λ k. subst (IsRow [] (2048 * k)) (sym (row_none n k)) tt;
 }

@@ -1,7 +1,7 @@
 -- What the table itself keeps: a record for each page, bits and numbers.
 use Rattle.std.specs.Prelude.{◌≡◌, ℕ, ◌-◌, ◌<◌, ◌≤◌, Bool, true, false, ◌&&◌, not, ◌==◌, nat_lt, if◌then◌else◌, List, map, length, slice_index, slice_index_or, Option, Some, None, IsSomeAnd, count_by, sum_by}
 use Rattle.size_classes.specs.declared.class.TheConstants.{CLASSES}
-use Rattle.settings.specs.declared.config.TheConstants.{MOST_PAGES}
+use Rattle.settings.specs.declared.config.TheConstants.{MOST_HEAP_PAGES}
 use Rattle.size_classes.specs.Sizes.{blocks_in}
 use Rattle.pages.specs.declared.bits.BitRow.{BitRow}
 use Rattle.pages.specs.declared.page.PageRow.{PageRow}
@@ -55,7 +55,7 @@ room_of_class usable class = slice_index (map room_of usable) class
 -- the bits and the numbers are those of the rows
 pub record IsIndex (rows : List (Option PageRow)) (usable : List BitRow) (free : BitRow) (free_blocks : List ℕ)
     (free_pages : ℕ) : Type 0 where
-  pub few : length rows ≤ MOST_PAGES
+  pub few : length rows ≤ MOST_HEAP_PAGES
   pub classes : length usable ≡ CLASSES
   pub counts : length free_blocks ≡ CLASSES
   pub wide : (class : ℕ) → class < CLASSES → length rows ≤ room_of_class usable class

@@ -1,5 +1,5 @@
 -- The records and the words together, as a list of pages.
-use Rattle.std.specs.Prelude.{◌≡◌, ℕ, ◌+◌, ◌*◌, ◌<◌, true, List, map, length, slice_get, slice_index, Option, Some, option_map, IfSome}
+use Rattle.std.specs.Prelude.{◌≡◌, ℕ, ◌+◌, ◌*◌, ◌<◌, ◌≤◌, true, List, map, length, slice_get, slice_index, Option, Some, option_map, IfSome}
 use Rattle.std.specs.List.{enumerate_from}
 use Rattle.size_classes.specs.declared.class.TheConstants.{CLASSES, PAGE_WORDS}
 use Rattle.size_classes.specs.Sizes.{size_of}
@@ -26,16 +26,17 @@ pages_in rows words = map (λ p. page_by words (PAGE_WORDS * p.0) p.1) (enumerat
 abbrev pub joined : List (Option PageRow) → List ℕ → Store
 joined rows words = record { pages = pages_in rows words; words = words }
 
--- The table and the arena go together: there are 2048 words for each page, and each page in use has a
--- list that runs through just its free blocks, each once.
+-- The table and the arena go together: each page in use has its 2048 words, no page behind the last has any, and each
+-- page in use has a list that runs through just its free blocks, each once.
 pub record Together (rows : List (Option PageRow)) (words : List ℕ) : Type 0 where
-  pub len : length words ≡ PAGE_WORDS * length rows
+  pub present : (k : ℕ) → IfSome (row_at rows k) (λ _. PAGE_WORDS * k + PAGE_WORDS ≤ length words)
+  pub within : length words ≤ PAGE_WORDS * length rows
   pub classes : (k : ℕ) → IfSome (row_at rows k) (λ r. r.class < CLASSES)
   pub each : (k : ℕ) → IfSome (row_at rows k) (λ r. IsFreeList words (PAGE_WORDS * k) r.class r.first r.allocated)
 
--- the words of the blocks that are allocated stay
+-- the words of the blocks that are allocated stay, and no word goes
 pub record KeepsAllocated (pages : List (Option Page)) (old new : List ℕ) : Type 0 where
-  pub len : length new ≡ length old
+  pub len : length old ≤ length new
   pub each : (k : ℕ) (p : Page) (i j : ℕ) → page_at pages k ≡ Some p → slice_get p.allocated i ≡ Some true
       → j < size_of p.class
       → slice_index new (PAGE_WORDS * k + i * size_of p.class + j)

@@ -17,18 +17,19 @@ use size_classes::Class;
 /// itself.
 #[inline(always)]
 pub fn pop(arena: &mut Arena, page: usize, row: &mut PageRow) -> usize
-    requires page { page < 4096 }
-    requires within { 2048 * page + 2048 ≤ length arena.old }
-    requires chain { IsFreeList arena.old (2048 * page) row.old.class row.old.first row.old.allocated }
+    requires page { page < 1048576 }
+    requires within { 2048 * page + 2048 ≤ length arena.old.words }
+    requires chain { IsFreeList arena.old.words (2048 * page) row.old.class row.old.first row.old.allocated }
     requires some { row.old.allocated < blocks_in row.old.class }
     ensures place { result ≡ 2048 * page + index_on row.old.class page result * size_of row.old.class }
-    ensures free { slice_get (flags_of arena.old (2048 * page) row.old.class) (index_on row.old.class page result)
+    ensures free { slice_get (flags_of arena.old.words (2048 * page) row.old.class) (index_on row.old.class page result)
         ≡ Some false }
-    ensures flags { flags_of arena.new (2048 * page) row.old.class
-        ≡ slice_set (flags_of arena.old (2048 * page) row.old.class) (index_on row.old.class page result) true }
-    ensures chain { IsFreeList arena.new (2048 * page) row.old.class row.new.first (row.old.allocated + 1) }
+    ensures flags { flags_of arena.new.words (2048 * page) row.old.class
+        ≡ slice_set (flags_of arena.old.words (2048 * page) row.old.class) (index_on row.old.class page result) true }
+    ensures chain { IsFreeList arena.new.words (2048 * page) row.old.class row.new.first (row.old.allocated + 1) }
     ensures row { row.new ≡ record row.old { first = row.new.first; allocated = row.old.allocated + 1 } }
-    ensures words { arena.new ≡ slice_set arena.old result result }
+    ensures words { arena.new.words ≡ slice_set arena.old.words result result }
+    ensures pages { arena.new.pages ≡ arena.old.pages }
 {
     let block = row.first as usize - 1;
     row.first = arena.link(block);
@@ -40,8 +41,9 @@ pub fn pop(arena: &mut Arena, page: usize, row: &mut PageRow) -> usize
 /// Says of a block that it is free, and names the next free one.
 #[inline(always)]
 fn link_free(arena: &mut Arena, block: usize, next: u64)
-    requires { block + 3 < length arena.old }
-    ensures { arena.new ≡ slice_set (slice_set arena.old block free_mark) (block + 3) next }
+    requires { block + 3 < length arena.old.words }
+    ensures words { arena.new.words ≡ slice_set (slice_set arena.old.words block free_mark) (block + 3) next }
+    ensures pages { arena.new.pages ≡ arena.old.pages }
 {
     arena.set_forward(block, u64::MAX);
     arena.set_link(block, next);
@@ -50,17 +52,18 @@ fn link_free(arena: &mut Arena, block: usize, next: u64)
 /// Puts an allocated block on a page's list: it is free.
 #[inline(always)]
 fn push(arena: &mut Arena, page: usize, row: &mut PageRow, index: usize)
-    requires page { page < 4096 }
-    requires within { 2048 * page + 2048 ≤ length arena.old }
-    requires chain { IsFreeList arena.old (2048 * page) row.old.class row.old.first row.old.allocated }
-    requires allocated { slice_get (flags_of arena.old (2048 * page) row.old.class) index ≡ Some true }
-    ensures flags { flags_of arena.new (2048 * page) row.old.class
-        ≡ slice_set (flags_of arena.old (2048 * page) row.old.class) index false }
-    ensures chain { IsFreeList arena.new (2048 * page) row.old.class row.new.first (row.old.allocated - 1) }
+    requires page { page < 1048576 }
+    requires within { 2048 * page + 2048 ≤ length arena.old.words }
+    requires chain { IsFreeList arena.old.words (2048 * page) row.old.class row.old.first row.old.allocated }
+    requires allocated { slice_get (flags_of arena.old.words (2048 * page) row.old.class) index ≡ Some true }
+    ensures flags { flags_of arena.new.words (2048 * page) row.old.class
+        ≡ slice_set (flags_of arena.old.words (2048 * page) row.old.class) index false }
+    ensures chain { IsFreeList arena.new.words (2048 * page) row.old.class row.new.first (row.old.allocated - 1) }
     ensures some { 0 < row.old.allocated }
     ensures row { row.new ≡ record row.old { first = row.new.first; allocated = row.old.allocated - 1 } }
-    ensures words { arena.new ≡ slice_set (slice_set arena.old (2048 * page + index * size_of row.old.class) free_mark)
+    ensures words { arena.new.words ≡ slice_set (slice_set arena.old.words (2048 * page + index * size_of row.old.class) free_mark)
         (2048 * page + index * size_of row.old.class + 3) row.old.first }
+    ensures pages { arena.new.pages ≡ arena.old.pages }
 {
     let block = 2048 * page + index * row.class.size() as usize;
     link_free(arena, block, row.first);
@@ -70,10 +73,10 @@ fn push(arena: &mut Arena, page: usize, row: &mut PageRow, index: usize)
 
 /// Puts all blocks of a page that gets a class on its list.
 pub fn link_blocks(arena: &mut Arena, page: usize, class: Class) -> PageRow
-    requires page { page < 4096 }
-    requires within { 2048 * page + 2048 ≤ length arena.old }
-    ensures flags { flags_of arena.new (2048 * page) class ≡ replicate (blocks_in class) false }
-    ensures chain { IsFreeList arena.new (2048 * page) class result.first 0 }
+    requires page { page < 1048576 }
+    requires within { 2048 * page + 2048 ≤ length arena.old.words }
+    ensures flags { flags_of arena.new.words (2048 * page) class ≡ replicate (blocks_in class) false }
+    ensures chain { IsFreeList arena.new.words (2048 * page) class result.first 0 }
     ensures row { result ≡ record {
       class = class;
       first = result.first;
@@ -81,7 +84,8 @@ pub fn link_blocks(arena: &mut Arena, page: usize, class: Class) -> PageRow
       evacuating = false;
       is_target = false;
     } }
-    ensures words { SameOutside arena.old arena.new (2048 * page) }
+    ensures words { SameOutside arena.old.words arena.new.words (2048 * page) }
+    ensures pages { arena.new.pages ≡ arena.old.pages }
     ensures known { class < CLASSES }
 {
     let size = class.size() as usize;
@@ -104,10 +108,10 @@ pub fn link_blocks(arena: &mut Arena, page: usize, class: Class) -> PageRow
 
 /// Whether a block of a page of a class is allocated.
 pub fn is_taken(arena: &Arena, page: usize, class: Class, index: usize) -> bool
-    requires page { page < 4096 }
-    requires within { 2048 * page + 2048 ≤ length arena.now }
+    requires page { page < 1048576 }
+    requires within { 2048 * page + 2048 ≤ length arena.now.words }
     requires block { index < blocks_in class }
-    ensures { slice_get (flags_of arena.now (2048 * page) class) index ≡ Some result }
+    ensures { slice_get (flags_of arena.now.words (2048 * page) class) index ≡ Some result }
 {
     let block = 2048 * page + index * class.size() as usize;
     arena.forward_of(block) != u64::MAX
@@ -116,13 +120,13 @@ pub fn is_taken(arena: &Arena, page: usize, class: Class, index: usize) -> bool
 /// Whether a block of a page of a class isn't allocated, or has a colour.
 #[inline(always)]
 fn stays(arena: &Arena, page: usize, class: Class, index: usize, colour: bool) -> bool
-    requires page { page < 4096 }
-    requires within { 2048 * page + 2048 ≤ length arena.now }
+    requires page { page < 1048576 }
+    requires within { 2048 * page + 2048 ≤ length arena.now.words }
     requires block { index < blocks_in class }
-    ensures stays { result ≡ true → slice_get (flags_of arena.now (2048 * page) class) index ≡ Some true
-        → has_colour arena.now colour (address_of class page index) ≡ true }
-    ensures goes { result ≡ false → (slice_get (flags_of arena.now (2048 * page) class) index ≡ Some true)
-        × (has_colour arena.now colour (address_of class page index) ≡ false) }
+    ensures stays { result ≡ true → slice_get (flags_of arena.now.words (2048 * page) class) index ≡ Some true
+        → has_colour arena.now.words colour (address_of class page index) ≡ true }
+    ensures goes { result ≡ false → (slice_get (flags_of arena.now.words (2048 * page) class) index ≡ Some true)
+        × (has_colour arena.now.words colour (address_of class page index) ≡ false) }
 {
     if is_taken(arena, page, class, index) {
         let block = 2048 * page + index * class.size() as usize;
@@ -135,17 +139,18 @@ fn stays(arena: &Arena, page: usize, class: Class, index: usize, colour: bool) -
 /// records of other pages the page's record and the words go together with, they still do.
 #[inline(always)]
 fn look(arena: &mut Arena, page: usize, row: &mut PageRow, index: usize, colour: bool)
-    requires page { page < 4096 }
-    requires within { 2048 * page + 2048 ≤ length arena.old }
-    requires chain { IsFreeList arena.old (2048 * page) row.old.class row.old.first row.old.allocated }
+    requires page { page < 1048576 }
+    requires within { 2048 * page + 2048 ≤ length arena.old.words }
+    requires chain { IsFreeList arena.old.words (2048 * page) row.old.class row.old.first row.old.allocated }
     requires block { index < blocks_in row.old.class }
-    ensures len { length arena.new ≡ length arena.old }
-    ensures chain { IsFreeList arena.new (2048 * page) row.old.class row.new.first row.new.allocated }
+    ensures len { length arena.new.words ≡ length arena.old.words }
+    ensures pages { arena.new.pages ≡ arena.old.pages }
+    ensures chain { IsFreeList arena.new.words (2048 * page) row.old.class row.new.first row.new.allocated }
     ensures row { row.new ≡ record row.old { first = row.new.first; allocated = row.new.allocated } }
-    ensures together { (rows : List (Option Row)) → Together rows arena.old → row_at rows page ≡ Some row.old
-        → Together (slice_set rows page (Some row.new)) arena.new }
-    ensures looks { (rows : List (Option Row)) → Together rows arena.old → row_at rows page ≡ Some row.old
-        → LooksAt colour page index (joined rows arena.old) (joined (slice_set rows page (Some row.new)) arena.new) }
+    ensures together { (rows : List (Option Row)) → Together rows arena.old.words → row_at rows page ≡ Some row.old
+        → Together (slice_set rows page (Some row.new)) arena.new.words }
+    ensures looks { (rows : List (Option Row)) → Together rows arena.old.words → row_at rows page ≡ Some row.old
+        → LooksAt colour page index (joined rows arena.old.words) (joined (slice_set rows page (Some row.new)) arena.new.words) }
 {
     if stays(arena, page, row.class, index, colour) {
         return;
@@ -162,15 +167,16 @@ pub fn sweep(
     count: usize,
     colour: bool,
 )
-    requires page { page < 4096 }
-    requires within { 2048 * page + 2048 ≤ length arena.old }
-    requires chain { IsFreeList arena.old (2048 * page) row.old.class row.old.first row.old.allocated }
+    requires page { page < 1048576 }
+    requires within { 2048 * page + 2048 ≤ length arena.old.words }
+    requires chain { IsFreeList arena.old.words (2048 * page) row.old.class row.old.first row.old.allocated }
     requires blocks { from + count ≤ blocks_in row.old.class }
     ensures row { row.new ≡ record row.old { first = row.new.first; allocated = row.new.allocated } }
-    ensures together { (rows : List (Option Row)) → Together rows arena.old → row_at rows page ≡ Some row.old
-        → Together (slice_set rows page (Some row.new)) arena.new }
-    ensures looks { (rows : List (Option Row)) → Together rows arena.old → row_at rows page ≡ Some row.old
-        → Looks colour page from (joined rows arena.old) count (joined (slice_set rows page (Some row.new)) arena.new) }
+    ensures together { (rows : List (Option Row)) → Together rows arena.old.words → row_at rows page ≡ Some row.old
+        → Together (slice_set rows page (Some row.new)) arena.new.words }
+    ensures looks { (rows : List (Option Row)) → Together rows arena.old.words → row_at rows page ≡ Some row.old
+        → Looks colour page from (joined rows arena.old.words) count (joined (slice_set rows page (Some row.new)) arena.new.words) }
+    ensures pages { arena.new.pages ≡ arena.old.pages }
 {
     let mut looked = 0;
     while looked < count {
@@ -182,12 +188,12 @@ pub fn sweep(
 /// The first allocated block of a page of a class from a place on.
 #[inline(never)]
 pub fn next_allocated(arena: &Arena, page: usize, class: Class, from: usize) -> Option<usize>
-    requires page { page < 4096 }
-    requires within { 2048 * page + 2048 ≤ length arena.now }
-    ensures some { IfSome result (λ i. (from ≤ i) × (slice_get (flags_of arena.now (2048 * page) class) i ≡ Some true)
-        × ((k : ℕ) → from ≤ k → k < i → slice_get (flags_of arena.now (2048 * page) class) k ≡ Some false)) }
+    requires page { page < 1048576 }
+    requires within { 2048 * page + 2048 ≤ length arena.now.words }
+    ensures some { IfSome result (λ i. (from ≤ i) × (slice_get (flags_of arena.now.words (2048 * page) class) i ≡ Some true)
+        × ((k : ℕ) → from ≤ k → k < i → slice_get (flags_of arena.now.words (2048 * page) class) k ≡ Some false)) }
     ensures none { IsNone result → (k : ℕ) → from ≤ k → k < blocks_in class
-        → slice_get (flags_of arena.now (2048 * page) class) k ≡ Some false }
+        → slice_get (flags_of arena.now.words (2048 * page) class) k ≡ Some false }
 {
     let blocks = class.blocks_per_page() as usize;
     for i in from..blocks {

@@ -54,7 +54,7 @@ impl Model for PageTable {
 /// A number of pages, once one that was counted or not is counted or not.
 fn counted(pages: usize, was: bool, is: bool) -> usize
     requires some { bit was ≤ pages }
-    requires room { pages ≤ 4096 }
+    requires room { pages ≤ 1048576 }
     ensures { result + bit was ≡ pages + bit is }
 {
     pages - was as usize + is as usize
@@ -63,7 +63,7 @@ fn counted(pages: usize, was: bool, is: bool) -> usize
 impl PageTable {
     /// This many free pages. Refused only for lack of memory.
     pub fn new(alloc: Global, pages: u32) -> Result<PageTable, NoMemory>
-        requires { pages ≤ 4096 }
+        requires { pages ≤ 1048576 }
         ensures { IfOk result (λ t. t ≡ replicate pages None) }
     {
         let mut rows = Vec::with_capacity(alloc, pages as usize)?;
@@ -101,7 +101,7 @@ impl PageTable {
     #[inline(always)]
     fn first_free(&self) -> Option<usize>
         ensures place { result ≡ position row_free self.now }
-        ensures within { IfSome result (λ k. k < 4096) }
+        ensures within { IfSome result (λ k. k < 1048576) }
     {
         self.free.first()
     }
@@ -111,7 +111,7 @@ impl PageTable {
     fn row(&self, page: usize) -> Option<PageRow>
         requires { page < length self.now }
         ensures row { result ≡ row_at self.now page }
-        ensures few { page < 4096 }
+        ensures few { page < 1048576 }
     {
         self.rows[page]
     }
@@ -156,20 +156,23 @@ impl PageTable {
         self.rows[page] = row;
     }
 
-    /// Gives a free page a class, and puts all its blocks on its list.
+    /// Gives a free page a class, and puts all its blocks on its list. Where the page was never used, it gets its words.
     #[inline(never)]
     fn use_page(&mut self, arena: &mut Arena, page: usize, class: Class)
         requires page { page < length self.old }
-        requires small { page < 4096 }
-        requires together { Together self.old arena.old }
+        requires small { page < 1048576 }
+        requires pages { arena.old.pages ≡ length self.old }
+        requires together { Together self.old arena.old.words }
         requires free { row_at self.old page ≡ None }
-        ensures together { Together self.new arena.new }
-        ensures page { pages_in self.new arena.new
-            ≡ slice_set (pages_in self.old arena.old) page (Some (fresh_page class)) }
+        ensures together { Together self.new arena.new.words }
+        ensures page { pages_in self.new arena.new.words
+            ≡ slice_set (pages_in self.old arena.old.words) page (Some (fresh_page class)) }
         ensures len { length self.new ≡ length self.old }
-        ensures words { KeepsAllocated (pages_in self.old arena.old) arena.old arena.new }
+        ensures words { KeepsAllocated (pages_in self.old arena.old.words) arena.old.words arena.new.words }
         ensures usable { HasFree class (row_at self.new page) }
+        ensures pages { arena.new.pages ≡ arena.old.pages }
     {
+        arena.touch(page + 1);
         let row = link_blocks(arena, page, class);
         self.put(page, class, Some(row));
     }
@@ -179,17 +182,19 @@ impl PageTable {
     #[inline(always)]
     fn take_on(&mut self, arena: &mut Arena, page: usize, class: Class) -> usize
         requires page { page < length self.old }
-        requires together { Together self.old arena.old }
+        requires together { Together self.old arena.old.words }
         requires usable { HasFree class (row_at self.old page) }
-        ensures together { Together self.new arena.new }
+        ensures together { Together self.new arena.new.words }
         ensures place { result ≡ address_of class page (index_on class page result) }
-        ensures free { IsOpen (page_of_class class (page_at (pages_in self.old arena.old) page))
+        ensures free { IsOpen (page_of_class class (page_at (pages_in self.old arena.old.words) page))
             (index_on class page result) }
-        ensures allocated { pages_in self.new arena.new
-            ≡ slice_set (pages_in self.old arena.old) page
-            (Some (with_allocated (page_of_class class (page_at (pages_in self.old arena.old) page))
+        ensures allocated { pages_in self.new arena.new.words
+            ≡ slice_set (pages_in self.old arena.old.words) page
+            (Some (with_allocated (page_of_class class (page_at (pages_in self.old arena.old.words) page))
             (index_on class page result) true)) }
-        ensures words { KeepsAllocated (pages_in self.old arena.old) arena.old arena.new }
+        ensures words { KeepsAllocated (pages_in self.old arena.old.words) arena.old.words arena.new.words }
+        ensures len { length self.new ≡ length self.old }
+        ensures pages { arena.new.pages ≡ arena.old.pages }
     {
         let number = class.number();
         let row = self.rows[page].as_mut().unwrap();
@@ -207,13 +212,15 @@ impl PageTable {
     /// no such page, and then nothing changes. The words of allocated blocks stay.
     #[inline(always)]
     pub fn take(&mut self, arena: &mut Arena, class: Class) -> Option<usize>
-        requires { Together self.old arena.old }
-        ensures together { Together self.new arena.new }
-        ensures none { IsNone result ↔ IsNone (page_for (pages_in self.old arena.old) class) }
-        ensures taken { IfSome result (λ block. TakesAt (pages_in self.old arena.old) class block
-            (pages_in self.new arena.new)) }
-        ensures words { IfSome result (λ _. KeepsAllocated (pages_in self.old arena.old) arena.old arena.new) }
+        requires together { Together self.old arena.old.words }
+        requires pages { arena.old.pages ≡ length self.old }
+        ensures together { Together self.new arena.new.words }
+        ensures none { IsNone result ↔ IsNone (page_for (pages_in self.old arena.old.words) class) }
+        ensures taken { IfSome result (λ block. TakesAt (pages_in self.old arena.old.words) class block
+            (pages_in self.new arena.new.words)) }
+        ensures words { IfSome result (λ _. KeepsAllocated (pages_in self.old arena.old.words) arena.old.words arena.new.words) }
         ensures kept { IsNone result → (self.new ≡ self.old) × (arena.new ≡ arena.old) }
+        ensures pages { arena.new.pages ≡ length self.new }
     {
         match self.first_usable(class) {
             Some(page) => Some(self.take_on(arena, page, class)),
@@ -231,13 +238,15 @@ impl PageTable {
     /// back. Every other block, and every other page, stays, and so do the words of the blocks that are allocated
     /// then.
     pub fn sweep(&mut self, arena: &mut Arena, block: Block, count: usize, colour: bool)
-        requires together { Together self.old arena.old }
+        requires together { Together self.old arena.old.words }
         requires page { block.page < length self.old }
-        requires blocks { IsSomeAnd (page_at (pages_in self.old arena.old) block.page)
+        requires blocks { IsSomeAnd (page_at (pages_in self.old arena.old.words) block.page)
             (λ p. block.index + count ≤ length p.allocated) }
-        ensures together { Together self.new arena.new }
-        ensures looks { Looks colour block.page block.index (joined self.old arena.old) count
-            (joined self.new arena.new) }
+        ensures together { Together self.new arena.new.words }
+        ensures looks { Looks colour block.page block.index (joined self.old arena.old.words) count
+            (joined self.new arena.new.words) }
+        ensures len { length self.new ≡ length self.old }
+        ensures pages { arena.new.pages ≡ arena.old.pages }
     {
         let mut row = self.row(block.page).unwrap();
         sweep(arena, block.page, &mut row, block.index, count, colour);
@@ -247,16 +256,18 @@ impl PageTable {
     /// Takes the first free block of a page that isn't evacuating, for one that is moved there: it is allocated,
     /// and the page a target. The words of allocated blocks stay.
     pub fn take_on_target(&mut self, arena: &mut Arena, page: usize) -> usize
-        requires together { Together self.old arena.old }
+        requires together { Together self.old arena.old.words }
         requires page { page < length self.old }
-        requires free { CanBeTarget (page_at (pages_in self.old arena.old) page) }
-        ensures together { Together self.new arena.new }
-        ensures open { IsSomeAnd (page_at (pages_in self.old arena.old) page) (λ p. IsOpen p result) }
-        ensures allocated { IfSome (page_at (pages_in self.old arena.old) page)
-            (λ p. pages_in self.new arena.new
-            ≡ slice_set (pages_in self.old arena.old) page
+        requires free { CanBeTarget (page_at (pages_in self.old arena.old.words) page) }
+        ensures together { Together self.new arena.new.words }
+        ensures open { IsSomeAnd (page_at (pages_in self.old arena.old.words) page) (λ p. IsOpen p result) }
+        ensures allocated { IfSome (page_at (pages_in self.old arena.old.words) page)
+            (λ p. pages_in self.new arena.new.words
+            ≡ slice_set (pages_in self.old arena.old.words) page
             (Some (record (with_allocated p result true) { is_target = true }))) }
-        ensures words { KeepsAllocated (pages_in self.old arena.old) arena.old arena.new }
+        ensures words { KeepsAllocated (pages_in self.old arena.old.words) arena.old.words arena.new.words }
+        ensures len { length self.new ≡ length self.old }
+        ensures pages { arena.new.pages ≡ arena.old.pages }
     {
         let mut row = self.row(page).unwrap();
         let block = pop(arena, page, &mut row);
@@ -275,6 +286,7 @@ impl PageTable {
             → IfSome (page_at (pages_in self.old words) page)
             (λ p. pages_in self.new words ≡ slice_set (pages_in self.old words) page
             (Some (record p { evacuating = true }))) }
+        ensures len { length self.new ≡ length self.old }
     {
         let mut row = self.row(page).unwrap();
         row.evacuating = true;
@@ -289,6 +301,7 @@ impl PageTable {
         ensures closed { (words : List ℕ) → Together self.old words
             → pages_in self.new words ≡ slice_set (pages_in self.old words) page
             (closed (page_at (pages_in self.old words) page)) }
+        ensures len { length self.new ≡ length self.old }
     {
         if let Some(mut row) = self.row(page) {
             if row.allocated == 0 {

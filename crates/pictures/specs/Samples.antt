@@ -1,8 +1,7 @@
 -- Samples of a heap along a run.
-use Rattle.std.specs.Prelude.{◌≡◌, ℕ, ◌+◌, ◌*◌, ◌^◌, ◌<◌, ◌≤◌, max, Bool, true, false, if◌then◌else◌, List, [], ◌∷◌, length, slice_get, option_map, unwrap_or}
+use Rattle.std.specs.Prelude.{◌≡◌, ℕ, ◌+◌, ◌*◌, ◌^◌, ◌<◌, ◌≤◌, max, List, [], ◌∷◌, length, slice_get, option_map, unwrap_or}
 use Rattle.std.specs.List.{fold}
-use Rattle.heap_model.specs.declared.phase.Phase.{Phase}
-use Rattle.heap_model.specs.declared.phase.Phase.TheVariants as phases
+use Rattle.heap_model.specs.Phases.{is_idle}
 use Rattle.heap_model.specs.Event.{Event}
 use Rattle.heap_model.specs.State.{HeapState}
 use Rattle.trace.specs.declared.version.Version.{Version}
@@ -14,11 +13,6 @@ use Rattle.player.specs.Observing.{Moment, moment, moments_in, brought}
 use Rattle.pictures.specs.declared.sample.Sample.{Sample}
 use Rattle.pictures.specs.declared.over_time.TheConstants.{MOST_SAMPLES}
 use Rattle.pictures.specs.OverTime.{sample_of}
-
--- no cycle runs
-abbrev pub is_idle : Phase → Bool
-is_idle phases.Idle = true
-is_idle phase = false
 
 -- a sample of a moment: the objects are counted where no cycle runs
 abbrev pub sampled : Moment → Sample

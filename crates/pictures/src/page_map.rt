@@ -25,7 +25,7 @@ fn write_number<K: Sink>(
     number: u32,
     sink: &mut K,
 ) -> Result<(), WriteFailed>
-    requires within { (y ≤ 65536) × (scale ≤ 4) }
+    requires within { (y ≤ 3000000) × (scale ≤ 4) }
     ensures ok { OnOk result (K.taken sink.new ≡ K.taken sink.old ++ svg_text (row_number x y scale number)) }
     ensures err { OnErr result (GrowsByPart (K.taken sink.old) (K.taken sink.new)
         (svg_text (row_number x y scale number))) }
@@ -68,7 +68,7 @@ fn paper(page: &PageView) -> Colour
 
 /// The square of a page in use.
 fn used_page(x: u32, y: u32, scale: u32, number: u32, page: PageView) -> [Element; 6]
-    requires within { (x ≤ 65536) × (y ≤ 65536) × (1 ≤ scale) × (scale ≤ 4) }
+    requires within { (x ≤ 65536) × (y ≤ 3000000) × (1 ≤ scale) × (scale ≤ 4) }
     requires allocated { page.allocated ≤ 512 }
     ensures { result ≡ used_square x y scale number page }
 {
@@ -97,7 +97,7 @@ fn write_page<K: Sink>(
     page: Option<PageView>,
     sink: &mut K,
 ) -> Result<(), WriteFailed>
-    requires within { (x ≤ 65536) × (y ≤ 65536) × (1 ≤ scale) × (scale ≤ 4) }
+    requires within { (x ≤ 65536) × (y ≤ 3000000) × (1 ≤ scale) × (scale ≤ 4) }
     requires allocated { IfSome page (λ v. v.allocated ≤ 512) }
     ensures ok { OnOk result (K.taken sink.new ≡ K.taken sink.old ++ svg_text (page_square x y scale number page)) }
     ensures err { OnErr result (GrowsByPart (K.taken sink.old) (K.taken sink.new)
@@ -117,7 +117,7 @@ fn write_square<K: Sink>(
     number: u32,
     sink: &mut K,
 ) -> Result<(), WriteFailed>
-    requires { number < 4096 }
+    requires { number < 1048576 }
     ensures ok { OnOk result (K.taken sink.new
         ≡ K.taken sink.old ++ svg_text (square squares number (view_of (page_at heap.now.store.pages number)))) }
     ensures err { OnErr result (GrowsByPart (K.taken sink.old) (K.taken sink.new)
@@ -176,7 +176,7 @@ fn legend(heap: &Heap) -> [Element; 15]
 /// Writes the map of the pages of a heap to a sink, as an SVG document of lines that end with LF: the
 /// phase, the units of work since the last cycle began, how many pages there are and how many are free,
 /// a legend with the number of old copies, and a square for each page. Up to 256 pages stand 16 in a row, up to 1024
-/// 32, and more 64, so all pages that a heap may have fit on 1200 by 800 units; the number of the first stands before
+/// 32, and more 64, so all pages that a file may ask for fit on 1200 by 800 units; the number of the first stands before
 /// each row. The square of a page in use tells the words of a block, and a bar shows how many of its blocks are
 /// allocated; it has a colour of its own where the page is evacuating, and another where it is a target. Under the
 /// pointer a square shows its page's number, the words of a block, the allocated blocks of all, and its marks. It takes

@@ -50,9 +50,9 @@ impl Squares {
 
     /// The upper edge of the square of a page.
     pub(crate) fn y(self, number: u32) -> u32
-        requires { number < 4096 }
+        requires { number < 1048576 }
         ensures y { result ≡ square_y self number }
-        ensures within { result ≤ 12000 }
+        ensures within { result ≤ 3000000 }
     {
         match self {
             Squares::Large => 84 + 44 * (number / 16),
@@ -64,7 +64,7 @@ impl Squares {
 
 /// How high a map of this many pages is.
 pub(crate) fn height(pages: usize) -> u32
-    requires { pages ≤ 4096 }
+    requires { pages ≤ 1048576 }
     ensures { result ≡ map_height pages }
 {
     let squares = Squares::for_pages(pages);

@@ -2,7 +2,7 @@
 mod observing;
 mod sampler;
 mod samples;
-mod taking;
+mod surveying;
 
+pub use sampler::Sampler;
 pub use samples::Samples;
-pub use taking::take_samples;

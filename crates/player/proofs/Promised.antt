@@ -27,7 +27,7 @@ use Rattle.player.proofs.Closing.{LeftBehind, left_behind}
 use Rattle.player.proofs.Lines.{due_runs}
 
 -- a player after some events
-abbrev Reaches : PlayerState → PlayerState → Type 0
+abbrev pub Reaches : PlayerState → PlayerState → Type 0
 Reaches old new = (es : List Event) × Runs old.course es new.course
 
 same_reached : (old new : PlayerState) → new ≡ old → Reaches old new
@@ -58,7 +58,8 @@ play_reaches style given old new result p =
     let last = left_reached style here (session new.player o.mid.taken) behind in
     (o.events ++ last.0, runs_then o.events last.0 old.player.course o.mid.player.course new.player.course p.runs last.1)
 
-up_to_reaches : (most : Option ℕ) (style : Style) (given : Given) (old new : Session) (result : Result (Unit {0}) PlayFault) → PlayedUpTo most style given old new result → Reaches old.player new.player
+-- a player after what was played up to some event
+pub up_to_reaches : (most : Option ℕ) (style : Style) (given : Given) (old new : Session) (result : Result (Unit {0}) PlayFault) → PlayedUpTo most style given old new result → Reaches old.player new.player
 up_to_reaches None style given old new result p = play_reaches style given old new result p
 up_to_reaches (Some n) style given old new result (inl (all, few)) = play_reaches style given old new result all
 up_to_reaches (Some n) style given old new result (inr w) = play_reaches style (record given { after = w.0; ended = true }) old new result w.2

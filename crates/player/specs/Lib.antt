@@ -5,3 +5,4 @@ pub mod Ticking
 pub mod Closing
 pub mod Steps
 pub mod Observing
+pub mod Surveying

@@ -10,11 +10,11 @@ mod observing;
 mod player;
 mod playing;
 mod style;
+mod surveying;
 
 pub use laws::plays_are_promised;
-pub use observed::Observed;
 pub use observer::{Mark, Observer};
-pub use observing::observe;
 pub use player::{Player, TickFault};
-pub use playing::{play, play_first};
+pub use playing::{play, play_first, play_up_to};
 pub use style::Style;
+pub use surveying::{Survey, survey_run};

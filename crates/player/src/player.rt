@@ -1,6 +1,5 @@
 //! A player: a heap with its history, and the schedule of its collector.
-ghost use Rattle.std.specs.Prelude.{◌≡◌, ◌≤◌, [], ◌∷◌, ◌↔◌, IfOk, IfErr, IsTrue, OnErr, OnOk};
-ghost use Rattle.heap_model.specs.declared.phase.Phase.TheVariants as phases;
+ghost use Rattle.std.specs.Prelude.{◌≡◌, ◌≤◌, [], ◌∷◌, length, IfOk, IfErr, OnErr, OnOk};
 ghost use Rattle.heap_model.specs.Event.{IsBudget, Command_done, Does};
 ghost use Rattle.quanta.specs.Timetable as timetables;
 ghost use Rattle.trace.specs.declared.line.Line.{Line};
@@ -12,7 +11,6 @@ ghost use Rattle.player.specs.Ticking.{DueDone, Spent};
 
 use crate::observer::{Mark, Observer};
 use graph_heap::{Command, NoMemory};
-use heap_model::phase::Phase;
 use machine::{Receipt, Recorded};
 use quanta::{CLOCK_LIMIT, Schedule};
 use settings::Config;
@@ -87,13 +85,6 @@ impl TickFault {
     }
 }
 
-/// Whether no cycle is running in a phase.
-fn is_idle(phase: Phase) -> bool
-    ensures { IsTrue result ↔ (phase ≡ phases.Idle) }
-{
-    matches!(phase, Phase::Idle)
-}
-
 impl Player {
     /// A new heap without history, at time 0. Refused only for lack of memory.
     pub fn new(alloc: Global, config: &Config) -> Result<Player, NoMemory>
@@ -134,6 +125,7 @@ impl Player {
         ensures entry { IfOk result (λ r. (r.entry.mutator ≡ mutator) × (r.entry.command ≡ command)) }
         ensures does { IfOk result (λ r. DoesLine self.old (Line.Command mutator command)
             (Command_done mutator command r.entry.reply ∷ []) self.new) }
+        ensures place { IfOk result (λ r. r.place ≡ length self.old.course.history) }
         ensures err { IfErr result (λ e. self.new ≡ self.old) }
     {
         self.recorded.call(mutator, command)
@@ -161,7 +153,7 @@ impl Player {
         ensures { Spent self.old budget self.new }
     {
         let spent = self.recorded.quantum(budget).unwrap();
-        if is_idle(spent.phase) {
+        if spent.phase.is_idle() {
             self.schedule.end_cycle();
         }
     }

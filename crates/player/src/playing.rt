@@ -81,8 +81,13 @@ fn play_lines<S: Source, K: Sink>(
     Ok(())
 }
 
-/// Plays the lines of a source, up to the line of the nth event where there is an n, and writes what waits then.
-fn play_up_to<S: Source, K: Sink>(
+/// Plays the lines of a source, up to the line of the nth event where there is an n and as many, and writes to a sink
+/// what the style says of each command: each line is done, one after the other, and what was done and written before a
+/// fault stands. Skipped lines are no events. No line after that of the nth event is looked at, and for 0 nothing is
+/// read. What is written waits in a buffer of 65536 bytes, until that has no room for a line, until the source is asked
+/// for more, or until the end. What is left is promised all that is promised of a heap with its history, and space
+/// suffices for what is done from a new player.
+pub fn play_up_to<S: Source, K: Sink>(
     n: Option<u32>,
     source: &mut S,
     sink: &mut K,
@@ -95,17 +100,16 @@ fn play_up_to<S: Source, K: Sink>(
     ensures reads { S.failures source.new ≡ S.failures source.old + reads_failed result }
     ensures writes { K.failures sink.new ≡ K.failures sink.old + writes_failed result }
     ensures input { reads_failed result ≡ 0 → Stays (S.input source.old) (S.input source.new) }
+    ensures headline { Holds player.new.course × Follows player.old.course player.new.course }
+    ensures space { StartsWithSpace player.old }
 {
+    player.recorded().promise();
     let mut waiting = WriteBuffer::new();
     let ended = play_lines(n, source, sink, &mut waiting, player, style);
     close(&mut waiting, sink, ended)
 }
 
-/// Plays the lines of a source, and writes to a sink what the style says of each command: each line is
-/// done, one after the other, and what was done and written before a fault stands. What is written waits
-/// in a buffer of 65536 bytes, until that has no room for a line, until the source is asked for more, or until the end.
-/// What is left is promised all that is promised of a heap with its history, and space suffices for what is done from a
-/// new player.
+/// Plays the lines of a source as `play_up_to` does, all of them.
 pub fn play<S: Source, K: Sink>(
     source: &mut S,
     sink: &mut K,
@@ -113,21 +117,17 @@ pub fn play<S: Source, K: Sink>(
     style: Style,
 ) -> Result<(), PlayFault>
     ensures played { Played style (given_by S.given S.ended source.old source.new)
-        (session player.old (K.taken sink.old))
-        (session player.new (K.taken sink.new)) result }
+        (session player.old (K.taken sink.old)) (session player.new (K.taken sink.new)) result }
     ensures reads { S.failures source.new ≡ S.failures source.old + reads_failed result }
     ensures writes { K.failures sink.new ≡ K.failures sink.old + writes_failed result }
     ensures input { reads_failed result ≡ 0 → Stays (S.input source.old) (S.input source.new) }
     ensures headline { Holds player.new.course × Follows player.old.course player.new.course }
     ensures space { StartsWithSpace player.old }
 {
-    player.recorded().promise();
     play_up_to(None, source, sink, player, style)
 }
 
-/// Plays the lines of a source as `play` does, up to the line of the nth event, or all where there are
-/// fewer. Skipped lines are no events. No line after that of the nth event is looked at, and for 0 nothing is
-/// read.
+/// Plays the lines of a source as `play_up_to` does, up to the line of the nth event, or all where there are fewer.
 pub fn play_first<S: Source, K: Sink>(
     n: u32,
     source: &mut S,
@@ -144,6 +144,5 @@ pub fn play_first<S: Source, K: Sink>(
     ensures headline { Holds player.new.course × Follows player.old.course player.new.course }
     ensures space { StartsWithSpace player.old }
 {
-    player.recorded().promise();
     play_up_to(Some(n), source, sink, player, style)
 }

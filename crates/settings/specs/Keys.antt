@@ -1,6 +1,8 @@
 -- The keys of the configuration.
 use Rattle.std.specs.Prelude.{ℕ, ℤ, pos, nat_abs, int_le, Bool, ◌&&◌, ◌+◌, ◌≤◌, List, Option, Some, None, codes}
-use Rattle.settings.specs.declared.config.TheConstants.{MOST_PAGES}
+use Rattle.settings.specs.declared.ranges.Ranges.{Ranges}
+use Rattle.settings.specs.declared.ranges.Ranges.TheVariants.{File, Library}
+use Rattle.settings.specs.declared.config.TheConstants.{MOST_PAGES, MOST_HEAP_PAGES}
 use Rattle.settings.specs.declared.key.Key.{Key}
 use Rattle.settings.specs.declared.key.Key.TheVariants.{Pages, Mutators, Slots, Statics, Identities, DefragBelow, DefragPages, CollectorTicks, MutatorTicks, Rate, Live}
 
@@ -18,39 +20,45 @@ name_of MutatorTicks = codes "mutator_ticks"
 name_of Rate = codes "rate"
 name_of Live = codes "live"
 
--- what a file may say of a key: the range, and the value where it doesn't name the key (None where
+-- the most pages that a file may ask for, and a program of the library
+abbrev pub most_pages : Ranges → ℕ
+most_pages File = MOST_PAGES
+most_pages Library = MOST_HEAP_PAGES
+
+-- what may be said of a key: the range, and the value where a file doesn't name the key (None where
 -- it has to)
 pub record KeyRange : Type 0 where
   pub least : ℕ
   pub greatest : ℤ
   pub default : Option ℤ
 
--- the row of a key, in a file with this number of mutators
-abbrev pub row_of : ℤ → Key → KeyRange
-row_of mutators Pages = record { least = 1; greatest = pos MOST_PAGES; default = None }
-row_of mutators Mutators = record { least = 1; greatest = pos 64; default = None }
-row_of mutators Slots = record { least = 1; greatest = pos 256; default = None }
-row_of mutators Statics = record { least = 0; greatest = pos 256; default = Some (pos 0) }
-row_of mutators Identities = record {
+-- the row of a key, where there is this number of mutators
+abbrev pub row_of : Ranges → ℤ → Key → KeyRange
+row_of ranges mutators Pages = record { least = 1; greatest = pos (most_pages ranges); default = None }
+row_of ranges mutators Mutators = record { least = 1; greatest = pos 64; default = None }
+row_of ranges mutators Slots = record { least = 1; greatest = pos 256; default = None }
+row_of ranges mutators Statics = record { least = 0; greatest = pos 256; default = Some (pos 0) }
+row_of ranges mutators Identities = record {
   least = 1;
   greatest = pos 9223372036854775807;
   default = Some (pos 9223372036854775807);
 }
-row_of mutators DefragBelow = record { least = 0; greatest = pos (MOST_PAGES + 1); default = Some (pos 0) }
-row_of mutators DefragPages = record { least = 0; greatest = pos MOST_PAGES; default = Some (pos 0) }
-row_of mutators CollectorTicks = record { least = 1; greatest = pos 1000000; default = Some (pos 10) }
-row_of mutators MutatorTicks = record { least = 1; greatest = pos 1000000; default = Some (pos 12) }
-row_of mutators Rate = record { least = 1; greatest = pos 1000000; default = Some (pos 100) }
-row_of mutators Live = record { least = 0; greatest = mutators; default = Some mutators }
+row_of ranges mutators DefragBelow = record { least = 0; greatest = pos (most_pages ranges + 1); default = Some (pos 0) }
+row_of ranges mutators DefragPages = record { least = 0; greatest = pos (most_pages ranges); default = Some (pos 0) }
+row_of ranges mutators CollectorTicks = record { least = 1; greatest = pos 1000000; default = Some (pos 10) }
+row_of ranges mutators MutatorTicks = record { least = 1; greatest = pos 1000000; default = Some (pos 12) }
+row_of ranges mutators Rate = record { least = 1; greatest = pos 1000000; default = Some (pos 100) }
+row_of ranges mutators Live = record { least = 0; greatest = mutators; default = Some mutators }
 
 -- a value lies between two numbers, or is one of them
 unfoldable pub is_between : ℕ → ℤ → ℤ → Bool
 is_between least greatest value = int_le (pos least) value && int_le value greatest
 
 -- a value is in the range of a key
-abbrev pub is_allowed : ℤ → Key → ℤ → Bool
-is_allowed mutators key value = is_between (row_of mutators key).least (row_of mutators key).greatest value
+abbrev pub is_allowed : Ranges → ℤ → Key → ℤ → Bool
+is_allowed ranges mutators key value =
+    is_between (row_of ranges mutators key).least (row_of ranges mutators key).greatest value
 
--- a number is in the range of a key
+-- a heap can have a number of a key: it is in the library's range
 abbrev pub IsWithin : ℕ → Key → ℕ → Type 0
-IsWithin mutators key n = ((row_of (pos mutators) key).least ≤ n) × (n ≤ nat_abs (row_of (pos mutators) key).greatest)
+IsWithin mutators key n = ((row_of Library (pos mutators) key).least ≤ n) × (n ≤ nat_abs (row_of Library (pos mutators) key).greatest)

@@ -2,7 +2,7 @@
 ghost use Rattle.std.specs.Prelude.{◌≡◌, pos};
 ghost use Rattle.settings.specs.Keys.{name_of, row_of, is_allowed};
 
-use crate::config::MOST_PAGES;
+use crate::ranges::Ranges;
 use crate::settings::Settings;
 use std::fmt;
 
@@ -23,7 +23,7 @@ pub enum Key {
     Live,
 }
 
-/// What a file may say of a key.
+/// What may be said of a key.
 #[derive(Clone, Copy)]
 pub struct KeyRange {
     pub least: i64,
@@ -79,13 +79,13 @@ impl Key {
         }
     }
 
-    /// What a file may say of it, where `mutators` is the file's number of mutators.
-    pub fn row(self, mutators: i64) -> KeyRange
-        ensures least { result.least ≡ pos (row_of mutators self).least }
-        ensures greatest { result.greatest ≡ (row_of mutators self).greatest }
-        ensures default { result.default ≡ (row_of mutators self).default }
+    /// What may be said of it, where there are this many mutators.
+    pub fn row(self, ranges: Ranges, mutators: i64) -> KeyRange
+        ensures least { result.least ≡ pos (row_of ranges mutators self).least }
+        ensures greatest { result.greatest ≡ (row_of ranges mutators self).greatest }
+        ensures default { result.default ≡ (row_of ranges mutators self).default }
     {
-        let pages = MOST_PAGES as i64;
+        let pages = i64::from(ranges.most_pages());
         let most = 1000000;
         let base = Settings::DEFAULTS;
         match self {
@@ -105,10 +105,10 @@ impl Key {
 
     /// Whether a value is in its range, where there are this many mutators.
     #[tactic(auto, unfolding(crate::specs::Keys::is_between))]
-    pub fn allows(self, mutators: i64, value: i64) -> bool
-        ensures { result ≡ is_allowed mutators self value }
+    pub fn allows(self, ranges: Ranges, mutators: i64, value: i64) -> bool
+        ensures { result ≡ is_allowed ranges mutators self value }
     {
-        let row = self.row(mutators);
+        let row = self.row(ranges, mutators);
         row.least <= value && value <= row.greatest
     }
 }

@@ -5,7 +5,6 @@ pub mod Clocked
 pub mod Playing
 pub mod Roomy
 pub mod Buckets
-pub mod Same
 pub mod Appending
 pub mod Windows
 pub mod Reading

@@ -5,7 +5,7 @@ use Rattle.graph_heap.specs.declared.command.Limits.{Limits}
 use Rattle.graph_heap.specs.Graph.{Graph, object_of}
 use Rattle.graph_heap.specs.Shape.{fits}
 use Rattle.heap_model.specs.Event.{Course, Event, Quantum_done, Runs, HaveBudgets, present_of}
-use Rattle.space.specs.Tally.{awaits_sweep_end}
+use Rattle.heap_model.specs.Phases.{awaits_sweep_end}
 use Rattle.space.specs.Pace.{Pace, Beat, opening_beat, next_beat, in_cycle}
 use Rattle.fragmentation.specs.Season.{Season, Lives, opening_season, season_after, made_since, AllKeep}
 use Rattle.fragmentation.specs.Suffice.{WithinBlocks, WithinPages, pages_of, PageDemand, WithinPageDemand}

@@ -1,17 +1,14 @@
 -- What is played on a new player.
-use Rattle.std.specs.Prelude.{ℕ, ◌*◌, List, Result}
+use Rattle.std.specs.Prelude.{ℕ, ◌*◌, List}
 use Rattle.heap_model.specs.Event.{Event}
 use Rattle.graph_heap.specs.Graph.{opening}
 use Rattle.settings.specs.declared.config.Config.{Config}
 use Rattle.settings.specs.Config.{limits_of}
-use Rattle.trace.specs.declared.fault.PlayFault.{PlayFault}
 use Rattle.trace.specs.declared.version.Version.{Version}
 use Rattle.trace.specs.LinesProcessed.{LinesDone}
-use Rattle.streams.specs.Streams.{Given, Taken}
 use Rattle.player.specs.declared.style.Style.{Style}
 use Rattle.player.specs.New.{IsNew}
-use Rattle.player.specs.Player.{PlayerState}
-use Rattle.player.specs.Playing.{Session, session, PlaysLine, Played}
+use Rattle.player.specs.Playing.{Session, PlaysLine}
 use Rattle.space.specs.Fitting.{FitsIn}
 use Rattle.space.specs.Room.{AllHaveRoom}
 use Rattle.sizing.specs.AllocationProfile.{AllocationProfile, KeepsLoad, AllLive, pace_of}
@@ -28,14 +25,3 @@ LoadFindsRoom config l =
     → IsNew config old.player → LinesDone (PlaysLine style) old text version es new
     → KeepsLoad l (config.collector_ticks * config.rate) text → AllLive l.live (opening (limits_of config)) es
     → AllHaveRoom es
-
--- What was played of an input on a new player of a configuration. Where the lines that were done keep to a load
--- whose pace fits in the configuration's pages, no reply is the refusal for lack of space.
-pub record PlayedNew (config : Config) (style : Style) (given : Given) (taken : Taken) (new : PlayerState)
-    (result : Result (Unit {0}) PlayFault) : Type 0 where
-  pub old : PlayerState
-  pub is_new : IsNew config old
-  pub played : Played style given (session old taken.before) (session new taken.after) result
-  pub room : (l : AllocationProfile) → KeepsLoad l (config.collector_ticks * config.rate) played.over.lines
-      → AllLive l.live (opening (limits_of config)) played.over.events
-      → LoadFits config l → AllHaveRoom played.over.events

@@ -2,6 +2,8 @@
 ghost use Rattle.std.specs.Prelude.{◌≡◌, ◌<◌, ◌≤◌, ◌^◌, ◌↔◌, ◌⊎◌, ℕ, true, false, List, [], ◌∷◌, ◌++◌, length, IfOk, OnOk, IfSome, IsNone, IsTrue};
 ghost use Rattle.graph_heap.specs.declared.command.Limits.{Limits as Bounds};
 ghost use Rattle.graph_heap.specs.Graph.{root_cells};
+ghost use Rattle.graph_heap.specs.Shape.{fits};
+ghost use Rattle.size_classes.specs.Need.{needed};
 ghost use Rattle.settings.specs.declared.config.TheConstants.{LEAST_BUDGET};
 ghost use Rattle.graph_heap.specs.History.{IsEntryOf, after_entry};
 ghost use Rattle.graph_heap.specs.Reaching.{AreReached};
@@ -20,7 +22,7 @@ use crate::measured::Measured;
 use crate::most::Most;
 use crate::phases::in_cycle;
 use crate::season::Season;
-use graph_heap::{Entry, Limits, NoMemory, Reference};
+use graph_heap::{Entry, Limits, NoMemory, Reference, Shape};
 use heap_model::phase::Phase;
 use space::Pace;
 use std::alloc::Global;
@@ -42,6 +44,17 @@ pub struct Meter {
     budget: Option<u32>,
 }
 
+/// The blocks for which is asked by this shape, or by none.
+fn blocks_for(shape: Option<Shape>) -> Blocks
+    ensures some { IfSome shape (λ s. fits s ≡ true → AreBlocks result (needed s)) }
+    ensures none { IsNone shape → AreBlocks result (λ class. 0) }
+{
+    match shape {
+        Some(shape) => needed_by(&shape),
+        None => none(),
+    }
+}
+
 /// The lesser of two budgets, or the only one.
 fn least_of(least: Option<u32>, budget: u32) -> u32
     ensures { (k : ℕ) → k ≤ result ↔ (IfSome least (λ n. k ≤ n) × (k ≤ budget)) }
@@ -54,7 +67,7 @@ fn least_of(least: Option<u32>, budget: u32) -> u32
 
 impl Meter {
     /// Before the first event.
-    pub fn new(alloc: Global, limits: &Limits) -> Result<Meter, NoMemory>
+    pub(crate) fn new(alloc: Global, limits: &Limits) -> Result<Meter, NoMemory>
         ensures { IfOk result (λ m. (h : HeapState) → IsOpening h → h.limits ≡ limits.now
             → Measures h.limits [] (opened h) m) }
     {
@@ -73,21 +86,10 @@ impl Meter {
     }
 
     /// Whether a cycle is running.
-    pub fn is_cycle_running(&self) -> bool
+    pub(crate) fn is_cycle_running(&self) -> bool
         ensures { result ≡ self.now.cycle_running }
     {
         self.cycle_running
-    }
-
-    /// The blocks for which a command asks, where nothing but lack of space refuses it.
-    fn asked_by(&self, entry: &Entry) -> Blocks
-        ensures { length self.now.graph.roots ≡ root_cells self.now.graph.limits
-            → AreBlocks result (asked_for self.now.graph entry.now.mutator entry.now.command) }
-    {
-        match self.graph.asked_for(entry.mutator, &entry.command) {
-            Some(shape) => needed_by(&shape),
-            None => none(),
-        }
     }
 
     /// Notes that these blocks are asked for.
@@ -110,27 +112,31 @@ impl Meter {
         self.season.allocate(blocks);
     }
 
-    /// Does an entry on the graph heap. Answers whether an object was allocated.
-    fn record(&mut self, entry: &Entry) -> Result<bool, NoMemory>
+    /// Does an entry on the graph heap. Answers whether an object was allocated, and the blocks for which the command
+    /// asks, where nothing but lack of space refuses it.
+    fn record(&mut self, entry: &Entry) -> Result<(bool, Blocks), NoMemory>
         ensures stepped { IsEntryOf self.old.graph entry.now
             → OnOk result (self.new ≡ record self.old { graph = after_entry self.old.graph entry.now }) }
-        ensures grows { IfOk result (λ more. IsTrue more ↔
+        ensures same { OnOk result (self.new ≡ record self.old { graph = self.new.graph }) }
+        ensures grows { IfOk result (λ told. IsTrue told.0 ↔
             (length self.old.graph.objects < length self.new.graph.objects)) }
+        ensures asked { IfOk result (λ told. length self.old.graph.roots ≡ root_cells self.old.graph.limits
+            → AreBlocks told.1 (asked_for self.old.graph entry.now.mutator entry.now.command)) }
     {
         let before = self.graph.count();
-        self.graph.accepts(entry)?;
-        Ok(self.graph.count() > before)
+        let (_, shape) = self.graph.accepts_asking(entry)?;
+        Ok((self.graph.count() > before, blocks_for(shape)))
     }
 
     /// A command is done, and has this entry.
-    pub fn command(&mut self, entry: &Entry) -> Result<(), NoMemory>
+    pub(crate) fn command(&mut self, entry: &Entry) -> Result<(), NoMemory>
         ensures { OnOk result ((l : Bounds) (es : List Event) (r new : Course) → Measures l es r self.old → IsCourse r
             → Enters r entry.now.mutator entry.now.command entry.now.reply new
             → Measures l (es ++ Command_done entry.now.mutator entry.now.command entry.now.reply ∷ []) new self.new) }
     {
-        let asked = self.asked_by(entry);
+        let (is_allocated, asked) = self.record(entry)?;
         self.ask(&asked);
-        if self.record(entry)? {
+        if is_allocated {
             self.allocate(&asked);
         }
         Ok(())
@@ -150,7 +156,7 @@ impl Meter {
     }
 
     /// A cycle is begun.
-    pub fn begun(&mut self) -> Result<(), NoMemory>
+    pub(crate) fn begun(&mut self) -> Result<(), NoMemory>
         ensures { OnOk result ((l : Bounds) (es : List Event) (r new : Course) → Measures l es r self.old → IsCourse r
             → Begins r new → Measures l (es ++ Cycle_begun ∷ []) new self.new) }
     {
@@ -177,7 +183,7 @@ impl Meter {
     }
 
     /// Quanta of a budget are done, one at least, and the last of them ends in this phase.
-    pub fn quanta(&mut self, budget: u32, phase: Phase)
+    pub(crate) fn quanta(&mut self, budget: u32, phase: Phase)
         ensures { (l : Bounds) (es quanta : List Event) (r new : Course) → Measures l es r self.old → IsCourse r
             → Works budget quanta r new → new.heap.phase ≡ phase → Measures l (es ++ quanta) new self.new }
     {
@@ -201,7 +207,7 @@ impl Meter {
     }
 
     /// What the events needed.
-    pub fn measured(&self) -> Measured
+    pub(crate) fn measured(&self) -> Measured
         requires { IfSome self.now.budget (λ least. LEAST_BUDGET ≤ least) }
         ensures { (l : Bounds) (es : List Event) (r : Course) → Measures l es r self.now → IsMeasured l es result }
     {

@@ -1,7 +1,6 @@
-//! How far a cycle is in a phase.
+//! Whether a cycle is running.
 ghost use Rattle.std.specs.Prelude.{◌≡◌};
 ghost use Rattle.space.specs.Pace as pace;
-ghost use Rattle.space.specs.Tally as tally;
 
 use heap_model::phase::Phase;
 
@@ -9,15 +8,5 @@ use heap_model::phase::Phase;
 pub fn in_cycle(phase: Phase) -> bool
     ensures { result ≡ pace.in_cycle phase }
 {
-    !matches!(phase, Phase::Idle)
-}
-
-/// Whether a cycle is running, and its sweep hasn't ended.
-pub fn awaits_sweep_end(phase: Phase) -> bool
-    ensures { result ≡ tally.awaits_sweep_end phase }
-{
-    matches!(
-        phase,
-        Phase::Roots { .. } | Phase::Marking { .. } | Phase::Sweeping { .. }
-    )
+    !phase.is_idle()
 }

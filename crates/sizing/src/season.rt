@@ -1,11 +1,10 @@
 //! What objects need from one cycle to the next.
 ghost use Rattle.std.specs.Prelude.{◌≡◌, ◌⊎◌, false, true};
-ghost use Rattle.space.specs.Tally as tally;
+ghost use Rattle.heap_model.specs.Phases.{awaits_sweep_end};
 ghost use Rattle.sizing.specs.Counts.{AreNone};
 ghost use Rattle.sizing.specs.Season.{AddsBlocks, IsBegun, IsSwept};
 
 use crate::blocks::{Blocks, add, none};
-use crate::phases::awaits_sweep_end;
 use heap_model::phase::Phase;
 
 /// The blocks of each class that objects need: those live where a cycle began, and those allocated since.
@@ -78,12 +77,12 @@ impl Season {
 
     /// Quanta are done, which end in this phase: where it awaits no sweep's end, the sweep of the last cycle has ended.
     pub fn rest(&mut self, phase: Phase)
-        ensures awaiting_sweep_end { tally.awaits_sweep_end phase ≡ true → self.new ≡ self.old }
+        ensures awaiting_sweep_end { awaits_sweep_end phase ≡ true → self.new ≡ self.old }
         ensures rested { self.old.awaiting_sweep_end ≡ false → self.new ≡ self.old }
-        ensures swept { tally.awaits_sweep_end phase ≡ false → self.old.awaiting_sweep_end ≡ true
+        ensures swept { awaits_sweep_end phase ≡ false → self.old.awaiting_sweep_end ≡ true
             → IsSwept self.old self.new }
     {
-        if self.awaiting_sweep_end && !awaits_sweep_end(phase) {
+        if self.awaiting_sweep_end && !phase.awaits_sweep_end() {
             self.swept();
         }
     }

@@ -44,7 +44,8 @@ use Rattle.heap_model.proofs.Opening.{page_none}
 use Rattle.heap_model.proofs.Agreements.Implied.{consistent_agrees}
 use Rattle.heap_model.proofs.Event.Kept.{enters_graph, enters_present, enters_snapshot, begins_present, collects_limits, collects_present, does_course, opening_course}
 use Rattle.space.specs.Demand.{Demand, LiveWithin, blocks_of, blocks_for, asked_for, asked_by}
-use Rattle.space.specs.Tally.{Tally, opening_tally, after_event, awaits_sweep_end, KeepsTo, AllKeepTo, FindsRoom, NewFindsRoom, EveryNewFindsRoom}
+use Rattle.heap_model.specs.Phases.{awaits_sweep_end}
+use Rattle.space.specs.Tally.{Tally, opening_tally, after_event, KeepsTo, AllKeepTo, FindsRoom, NewFindsRoom, EveryNewFindsRoom}
 use Rattle.space.specs.Space.{pages_for, space_for, spare_of}
 use Rattle.space.specs.Counts.{is_of, main_blocks, evacuating_pages, IsBounded}
 use Rattle.space.specs.Placement.{MayEvacuate, MaySpare, HasBoundedPages, IsTidy, KeepsOnly, KeepsShapes}

@@ -82,7 +82,7 @@ pub record IsNeeded (c : Config) (p : Pace) (count : ℕ) (needs : Needs) : Type
 abbrev pub FitsIn : Config → Pace → ℕ → Type 0
 FitsIn c p pages = pages_needed c p pages ≤ pages
 
--- the least number of pages, of those that a configuration may have, in which a pace fits; or it fits in none
+-- the least number of pages, of those that a configuration file may ask for, in which a pace fits; or it fits in none
 abbrev pub IsLeast : Config → Pace → Option ℕ → Type 0
 IsLeast c p None = (pages : ℕ) → 1 ≤ pages → pages ≤ MOST_PAGES → FitsIn c p pages → ⊥
 IsLeast c p (Some least) = (1 ≤ least) × (least ≤ MOST_PAGES) × FitsIn c p least

@@ -1,5 +1,5 @@
 -- What a list of events adds up to, by the events alone: no heap is looked at.
-use Rattle.std.specs.Prelude.{◌≡◌, ℕ, ◌+◌, ◌<◌, ◌≤◌, Bool, true, false, if◌then◌else◌, List, [], ◌∷◌, length, drop}
+use Rattle.std.specs.Prelude.{◌≡◌, ℕ, ◌+◌, ◌<◌, ◌≤◌, true, if◌then◌else◌, List, [], ◌∷◌, length, drop}
 use Rattle.graph_heap.specs.declared.command.Limits.{Limits}
 use Rattle.graph_heap.specs.declared.command.Command.{Command}
 use Rattle.graph_heap.specs.declared.command.Command.TheVariants as commands
@@ -7,8 +7,7 @@ use Rattle.graph_heap.specs.declared.command.Reply.{Reply}
 use Rattle.graph_heap.specs.Graph.{Graph, opening}
 use Rattle.graph_heap.specs.History.{after_entry, had_room}
 use Rattle.size_classes.specs.declared.class.TheConstants.{CLASSES}
-use Rattle.heap_model.specs.declared.phase.Phase.{Phase}
-use Rattle.heap_model.specs.declared.phase.Phase.TheVariants as phases
+use Rattle.heap_model.specs.Phases.{awaits_sweep_end}
 use Rattle.heap_model.specs.Event.{Event, Command_done, Cycle_begun, Begin_refused, Quantum_done, Quantum_refused}
 use Rattle.space.specs.Demand.{Demand, LiveWithin, blocks_of, asked_for}
 
@@ -22,12 +21,6 @@ pub record Tally : Type 0 where
 -- where no event was done yet
 abbrev pub opening_tally : Limits → Tally
 opening_tally l = record { graph = opening l; last = 0; base = 0 }
-
--- a cycle runs, and its sweep hasn't ended
-abbrev pub awaits_sweep_end : Phase → Bool
-awaits_sweep_end phases.Idle = false
-awaits_sweep_end (phases.Moving m) = false
-awaits_sweep_end phase = true
 
 -- the tally after one more event
 abbrev pub after_event : Tally → Event → Tally

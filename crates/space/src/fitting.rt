@@ -4,6 +4,7 @@ ghost use Rattle.space.specs.Fitting.{pace_in, spare_in, below_in, swept_at, mov
 ghost use Rattle.space.specs.Fitting.{IsNeeded, FitsIn, IsLeast};
 ghost use Rattle.space.specs.Pace.{demand_of};
 ghost use Rattle.space.specs.Space.{space_for};
+ghost use Rattle.settings.specs.declared.config.TheConstants.{MOST_HEAP_PAGES};
 
 use crate::pace::{MOST_QUANTA, Pace};
 use settings::{Config, LEAST_BUDGET, MOST_PAGES};
@@ -33,9 +34,9 @@ pub fn below(config: &Config) -> u32
 
 /// The units that roots, marking and sweeping spend at most, in a heap of the configuration with this many pages.
 fn swept(config: &Config, pages: u32) -> u64
-    requires { pages ≤ MOST_PAGES }
+    requires { pages ≤ MOST_HEAP_PAGES }
     ensures swept { result ≡ swept_at config.now pages }
-    ensures within { result ≤ 11_000_000 }
+    ensures within { result ≤ 2_700_000_000 }
 {
     let count = u64::from(pages);
     let roots = u64::from(config.root_cells());
@@ -46,9 +47,9 @@ fn swept(config: &Config, pages: u32) -> u64
 
 /// The units that moving spends at most, in a heap of the configuration with this many pages.
 fn moving(config: &Config, pages: u32) -> u64
-    requires { pages ≤ MOST_PAGES }
+    requires { pages ≤ MOST_HEAP_PAGES }
     ensures moving { result ≡ moving_at config.now pages }
-    ensures within { result ≤ 26_000_000 }
+    ensures within { result ≤ 1_102_000_000_000 }
 {
     let count = u64::from(pages);
     let arena = u64::from(PAGE_WORDS) * count;
@@ -59,7 +60,7 @@ fn moving(config: &Config, pages: u32) -> u64
 /// The quanta of the schedule that a cycle takes at most, in a heap of the configuration with this many pages. Those
 /// that end in moving may leave a part of their budgets.
 fn quanta(config: &Config, pages: u32) -> u64
-    requires { pages ≤ MOST_PAGES }
+    requires { pages ≤ MOST_HEAP_PAGES }
     ensures quanta { result ≡ quanta_at config.now pages }
     ensures within { result ≤ MOST_QUANTA }
 {
@@ -72,7 +73,7 @@ fn quanta(config: &Config, pages: u32) -> u64
 
 /// The quanta that a cycle takes at most where moving never begins, so that each spends its whole budget.
 fn unmoved_quanta(config: &Config, pages: u32) -> u64
-    requires { pages ≤ MOST_PAGES }
+    requires { pages ≤ MOST_HEAP_PAGES }
     ensures quanta { result ≡ unmoved_quanta_at config.now pages }
     ensures within { result ≤ MOST_QUANTA }
 {
@@ -107,7 +108,7 @@ impl Needs {
 /// moving may leave sparse, or with as many free ones as moving begins below. In the second case it never begins, and
 /// fewer quanta suffice for a cycle.
 pub fn pace_needs(config: &Config, pace: &Pace, pages: u32) -> Needs
-    requires { pages ≤ MOST_PAGES }
+    requires { pages ≤ MOST_HEAP_PAGES }
     ensures { IsNeeded config.now (pace_in pace.now) pages result }
 {
     let unmoved = Needs::of(pace, unmoved_quanta(config, pages), 0, below(config));
@@ -121,7 +122,7 @@ pub fn pace_needs(config: &Config, pace: &Pace, pages: u32) -> Needs
 
 /// Whether a pace takes no more than this many pages in a heap that has this many.
 fn fits_in(config: &Config, pace: &Pace, pages: u32) -> bool
-    requires { pages ≤ MOST_PAGES }
+    requires { pages ≤ MOST_HEAP_PAGES }
     ensures { IsTrue result ↔ FitsIn config.now (pace_in pace.now) pages }
 {
     pace_needs(config, pace, pages).pages <= u128::from(pages)
@@ -135,7 +136,7 @@ pub fn pace_fits(config: &Config, pace: &Pace) -> bool
 }
 
 /// The least number of pages in which a pace fits, with all else as the configuration has it; None where it
-/// fits in no number of pages that a configuration may have.
+/// fits in no number of pages that a configuration file may ask for.
 pub fn least_pages(config: &Config, pace: &Pace) -> Option<u32>
     ensures { IsLeast config.now (pace_in pace.now) result }
 {

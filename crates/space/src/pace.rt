@@ -9,7 +9,7 @@ use crate::pages::{MOST_CLASS_PAGES, pages_of_class};
 use size_classes::{CLASSES, Class};
 
 /// More quanta than a cycle can take.
-pub const MOST_QUANTA: u64 = 7_000_000_000;
+pub const MOST_QUANTA: u64 = 300_000_000_000_000;
 
 /// Of each size class: how many blocks live objects need at most where a cycle begins; how many are asked for
 /// at most while a cycle runs, from its beginning or a quantum up to the next quantum; and how many from the

@@ -14,7 +14,7 @@ ghost use Rattle.heap_model.specs.Marks.{AreClosed};
 ghost use Rattle.heap_model.specs.Change.{DoesChange};
 ghost use Rattle.heap_model.specs.Represents.{Represents};
 ghost use Rattle.space.specs.Demand.{asked_by, blocks_of};
-ghost use Rattle.space.specs.Tally.{awaits_sweep_end};
+ghost use Rattle.heap_model.specs.Phases.{awaits_sweep_end};
 ghost use Rattle.space.specs.Space.{pages_for};
 ghost use Rattle.space.specs.Counts.{main_blocks, IsBounded};
 ghost use Rattle.space.specs.Placement.{HasBoundedPages, IsTidy, KeepsOnly, KeepsShapes};

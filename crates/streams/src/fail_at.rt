@@ -31,13 +31,6 @@ impl<T: Drop> FailAt<T> {
         }
     }
 
-    /// Whether that call has come.
-    pub fn has_failed(&self) -> bool
-        ensures { IsTrue result ↔ (own_failures self.now ≡ 1) }
-    {
-        self.failed
-    }
-
     /// What the calls are passed on to.
     pub fn get_ref(&self) -> &T
         ensures { result.now ≡ passes_to self.now }

@@ -65,11 +65,13 @@ fn free_until(nodes: &Nodes, from: usize, end: usize) -> usize
     ensures within { (from ≤ result) × (result ≤ end) }
     ensures free { (k : ℕ) → from ≤ k → k < result → page_at nodes.now.pages k ≡ None }
 {
+    // Each page behind those that were touched is free.
+    let last = end.min(nodes.pages_touched());
     let mut page = from;
-    while page < end && nodes.class(page).is_none() {
+    while page < last && nodes.class(page).is_none() {
         page += 1;
     }
-    page
+    if page < last { page } else { end }
 }
 
 /// Looks at `count` blocks of a page, from the next one on.

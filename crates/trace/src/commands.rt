@@ -1,7 +1,7 @@
 //! Commands as text: the words with which they begin, reading, and writing.
 ghost use Rattle.std.specs.Prelude.{◌≡◌, ◌≤◌, ◌+◌, ◌∷◌, [], ◌++◌, codes, get_or, length, option_map, take};
 ghost use Rattle.trace.specs.Spelling.{keyword_text, command_text};
-ghost use Rattle.trace.specs.Reading.{after_in, comparing, first_keyword_in, front_keyword_in, keywords_by};
+ghost use Rattle.trace.specs.Reading.{after_in, comparing, first_keyword_in, keyword_or};
 ghost use Rattle.trace.specs.Reading.{shape_in, arguments_in, bare_in, command_in, mutator_and_command_in};
 
 use crate::field::{Leading, Spelled, after};
@@ -91,69 +91,6 @@ impl Keyword {
             Keyword::Describe => after(b"describe ", bytes),
         }
     }
-
-    /// The kind with what stands after its word and a blank, where the bytes begin with them.
-    #[tactic(auto, unfolding(crate::specs::Reading::first_keyword_in))]
-    #[inline(always)]
-    fn one(self, bytes: &[u8]) -> Option<(Keyword, &[u8])>
-        ensures { option_map (λ c. (c.0, c.1.now)) result ≡ first_keyword_in (self ∷ []) bytes.now }
-    {
-        let rest = self.strip(bytes)?;
-        Some((self, rest))
-    }
-
-    /// The same of two kinds.
-    #[tactic(auto, unfolding(crate::specs::Reading::first_keyword_in))]
-    #[inline(always)]
-    fn either(self, other: Keyword, bytes: &[u8]) -> Option<(Keyword, &[u8])>
-        ensures { option_map (λ c. (c.0, c.1.now)) result ≡ first_keyword_in (self ∷ other ∷ []) bytes.now }
-    {
-        match self.strip(bytes) {
-            Some(rest) => Some((self, rest)),
-            None => other.one(bytes),
-        }
-    }
-
-    /// The kind of those that compare.
-    #[tactic(auto, unfolding(crate::specs::Reading::first_keyword_in))]
-    #[inline(always)]
-    fn comparing(bytes: &[u8]) -> Option<(Keyword, &[u8])>
-        ensures { option_map (λ c. (c.0, c.1.now)) result ≡ first_keyword_in comparing bytes.now }
-    {
-        match Keyword::CompareStore.strip(bytes) {
-            Some(rest) => Some((Keyword::CompareStore, rest)),
-            None => Keyword::ComparePut.either(Keyword::CompareStatic, bytes),
-        }
-    }
-
-    /// The kind, of those whose words begin with these two bytes.
-    #[tactic(auto, unfolding(crate::specs::Reading::keywords_by))]
-    #[inline(always)]
-    fn beginning(first: u8, second: u8, bytes: &[u8]) -> Option<(Keyword, &[u8])>
-        ensures { option_map (λ c. (c.0, c.1.now)) result ≡ first_keyword_in (keywords_by first second) bytes.now }
-    {
-        match (first, second) {
-            (b'n', _) => Keyword::New.one(bytes),
-            (b'g', _) => Keyword::Get.one(bytes),
-            (b'p', _) => Keyword::Put.one(bytes),
-            (b'd', _) => Keyword::Describe.one(bytes),
-            (b'l', _) => Keyword::Load.either(Keyword::LoadStatic, bytes),
-            (b's', b'a') => Keyword::Same.one(bytes),
-            (b's', _) => Keyword::Store.either(Keyword::StoreStatic, bytes),
-            (_, b'o') => Keyword::Copy.one(bytes),
-            (_, b'l') => Keyword::Clear.one(bytes),
-            _ => Keyword::comparing(bytes),
-        }
-    }
-
-    /// The kind whose word the bytes begin with, and what stands after it and a blank.
-    #[tactic(auto, unfolding(crate::specs::Reading::front_keyword_in))]
-    #[inline(always)]
-    pub(crate) fn front(bytes: &[u8]) -> Option<(Keyword, &[u8])>
-        ensures { option_map (λ c. (c.0, c.1.now)) result ≡ front_keyword_in bytes.now }
-    {
-        Keyword::beginning(byte(bytes, 0), byte(bytes, 1), bytes)
-    }
 }
 
 impl Spelled for Shape {
@@ -233,15 +170,59 @@ fn bare(version: Version, bytes: &[u8]) -> Option<Command>
     }
 }
 
-/// A command.
-#[tactic(auto, unfolding(crate::specs::Reading::command_in))]
+/// A command of a kind, if its word and a blank are at the front; else a word alone.
+#[tactic(auto, unfolding(crate::specs::Reading::first_keyword_in))]
 #[inline(always)]
+fn command_of(kind: Keyword, version: Version, bytes: &[u8]) -> Option<Command>
+    ensures { result ≡ keyword_or (first_keyword_in (kind ∷ []) bytes.now) (bare_in version bytes.now) }
+{
+    match kind.strip(bytes) {
+        Some(rest) => arguments(kind, rest),
+        None => bare(version, bytes),
+    }
+}
+
+/// The same of two kinds, the first of which is tried first.
+#[tactic(auto, unfolding(crate::specs::Reading::first_keyword_in))]
+#[inline(always)]
+fn command_of_two(kind: Keyword, other: Keyword, version: Version, bytes: &[u8]) -> Option<Command>
+    ensures { result ≡ keyword_or (first_keyword_in (kind ∷ other ∷ []) bytes.now) (bare_in version bytes.now) }
+{
+    match kind.strip(bytes) {
+        Some(rest) => arguments(kind, rest),
+        None => command_of(other, version, bytes),
+    }
+}
+
+/// The same of the kinds that compare.
+#[tactic(auto, unfolding(crate::specs::Reading::first_keyword_in))]
+#[inline(never)]
+fn comparing_command(version: Version, bytes: &[u8]) -> Option<Command>
+    ensures { result ≡ keyword_or (first_keyword_in comparing bytes.now) (bare_in version bytes.now) }
+{
+    match Keyword::CompareStore.strip(bytes) {
+        Some(rest) => arguments(Keyword::CompareStore, rest),
+        None => command_of_two(Keyword::ComparePut, Keyword::CompareStatic, version, bytes),
+    }
+}
+
+/// A command. The first two bytes tell the kinds that it can have, so that each arm reads the arguments of these alone.
+#[tactic(auto, unfolding(crate::specs::Reading::command_in, crate::specs::Reading::front_keyword_in, crate::specs::Reading::keywords_by))]
+#[inline(never)]
 fn command(version: Version, bytes: &[u8]) -> Option<Command>
     ensures { result ≡ command_in version bytes.now }
 {
-    match Keyword::front(bytes) {
-        Some((keyword, rest)) => arguments(keyword, rest),
-        None => bare(version, bytes),
+    match (byte(bytes, 0), byte(bytes, 1)) {
+        (b'n', _) => command_of(Keyword::New, version, bytes),
+        (b'g', _) => command_of(Keyword::Get, version, bytes),
+        (b'p', _) => command_of(Keyword::Put, version, bytes),
+        (b'd', _) => command_of(Keyword::Describe, version, bytes),
+        (b'l', _) => command_of_two(Keyword::Load, Keyword::LoadStatic, version, bytes),
+        (b's', b'a') => command_of(Keyword::Same, version, bytes),
+        (b's', _) => command_of_two(Keyword::Store, Keyword::StoreStatic, version, bytes),
+        (_, b'o') => command_of(Keyword::Copy, version, bytes),
+        (_, b'l') => command_of(Keyword::Clear, version, bytes),
+        _ => comparing_command(version, bytes),
     }
 }
 

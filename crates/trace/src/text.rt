@@ -18,8 +18,9 @@ pub fn put(out: &mut [u8], at: usize, bytes: &[u8]) -> usize
     end
 }
 
-/// Writes a number.
-pub(crate) fn put_number(out: &mut [u8], at: usize, n: u64) -> usize
+/// Writes a number of any digits.
+#[inline(never)]
+fn put_digits(out: &mut [u8], at: usize, n: u64) -> usize
     requires { at + 20 ≤ length out.old }
     ensures text { take result out.new ≡ take at out.old ++ decimal n }
     ensures place { result ≤ at + 20 }
@@ -27,6 +28,21 @@ pub(crate) fn put_number(out: &mut [u8], at: usize, n: u64) -> usize
     let mut buffer = Buffer::new();
     let text = buffer.format(n);
     put(out, at, text.as_bytes())
+}
+
+/// Writes a number. Most have one digit, which is written in place.
+#[tactic(auto, using(std::proofs::lemmas::Fmt::decimal_digit))]
+#[inline(always)]
+pub(crate) fn put_number(out: &mut [u8], at: usize, n: u64) -> usize
+    requires { at + 20 ≤ length out.old }
+    ensures text { take result out.new ≡ take at out.old ++ decimal n }
+    ensures place { result ≤ at + 20 }
+{
+    if n < 10 {
+        put(out, at, &[b'0' + n as u8])
+    } else {
+        put_digits(out, at, n)
+    }
 }
 
 /// Writes a word, and after it a number in decimal, at a place, and answers the place after them.

@@ -1,8 +1,8 @@
 //! A heap with its history, and the limits of cycles.
 use super::*;
-use graph_heap::{NoMemory, Reply};
+use graph_heap::{NoMemory, Refusal, Reply, Shape};
 use heap_model::phase::Phase;
-use machine::Recorded;
+use machine::{Heap, Recorded};
 
 const TWO_SLOTS: Settings = Settings {
     slots: 2,
@@ -67,4 +67,63 @@ fn the_limits_of_cycles(rt: HostRuntime) {
     for (settings, limit) in [(TWO_SLOTS, 6188), (emptied, 18565), (many, 210193)] {
         assert_eq!(rt; config_of(&rt, &settings).cycle_limit(), limit);
     }
+}
+
+/// Commands of mutators, and what is replied to each after those before it.
+const ASKED: [(u32, Command, Reply); 8] = [
+    (
+        0,
+        Command::Get { obj: 0, i: 0 },
+        Reply::Refused(Refusal::NullSlot),
+    ),
+    (
+        0,
+        Command::New {
+            dst: 0,
+            shape: Shape::Plain { refs: 0, words: 1 },
+        },
+        Reply::Made(1),
+    ),
+    (
+        0,
+        Command::Put {
+            obj: 0,
+            i: 0,
+            word: 9,
+        },
+        Reply::Done,
+    ),
+    (0, Command::Get { obj: 0, i: 0 }, Reply::Word(9)),
+    (
+        0,
+        Command::Get { obj: 0, i: 1 },
+        Reply::Refused(Refusal::BadIndex),
+    ),
+    (
+        0,
+        Command::Clear { dst: 9 },
+        Reply::Refused(Refusal::BadSlot),
+    ),
+    (0, Command::Join, Reply::Refused(Refusal::AlreadyLive)),
+    (
+        1,
+        Command::Clear { dst: 0 },
+        Reply::Refused(Refusal::BadSlot),
+    ),
+];
+
+/// A heap answers a command as often as it is asked, and then does it, with the same reply.
+fn answers(rt: &impl Abort, heap: &mut Heap, mutator: u32, command: Command, reply: Reply) {
+    assert_eq!(rt; heap.answer(mutator, &command), reply);
+    assert_eq!(rt; heap.answer(mutator, &command), reply);
+    assert_eq!(rt; heap.step(mutator, command), reply);
+}
+
+#[test]
+fn answers_change_nothing(rt: HostRuntime) -> Result<(), NoMemory> {
+    let mut heap = Heap::new(rt.alloc(), &config_of(&rt, &ONE_PAGE))?;
+    for (mutator, command, reply) in ASKED {
+        answers(&rt, &mut heap, mutator, command, reply);
+    }
+    Ok(())
 }

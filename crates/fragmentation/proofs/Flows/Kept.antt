@@ -7,7 +7,7 @@ use Rattle.heap_model.specs.Settings.{settings_of}
 use Rattle.heap_model.specs.Spent.{cycle_limit}
 use Rattle.heap_model.specs.ReachedFrom.{opened}
 use Rattle.heap_model.specs.Event.{Course, Event, Command_done, Cycle_begun, Begin_refused, Quantum_done, Quantum_refused, present_of}
-use Rattle.space.specs.Tally.{awaits_sweep_end}
+use Rattle.heap_model.specs.Phases.{awaits_sweep_end}
 use Rattle.fragmentation.specs.Season.{Season, Lives, opening_season, made_since}
 use Rattle.fragmentation.specs.Suffice.{pages_of}
 use Rattle.fragmentation.specs.declared.flow.TheConstants.{LEAST_PAGE_FILL}
@@ -45,6 +45,14 @@ lives_few f k n (Quantum_refused budget ∷ es) t keeps j = lives_few f k n es t
 abbrev pub words_since : ℕ → Season → ℕ
 words_since count s = words_of (made_since count s)
 
+-- What counts as made before the cycle whose sweep ended last: no more than was live where some cycle began, and what was
+-- made besides.
+pub record Earlier (f : Flow) (live : Lives) (before : ℕ → ℕ) : Type 0 where
+  pub made : ℕ → ℕ
+  pub number : ℕ
+  pub few : (class : ℕ) → class < CLASSES → before class ≤ live number class + made class
+  pub only : OnlyMade f made
+
 -- What is kept: how many words were made since the last cycle began, since the one began whose sweep ended last, and in
 -- all that the season counts.
 pub record IsFlowing (h : HeapState) (f : Flow) (k : ℕ) (live : Lives) (r : Course) (s : Season) (t : FlowMeter) : Type 0 where
@@ -61,12 +69,9 @@ pub record IsFlowing (h : HeapState) (f : Flow) (k : ℕ) (live : Lives) (r : Co
   pub words : t.words ≤ f.cycle_words
   pub since_last : words_since s.last s ≤ t.words
   pub since_base : words_since s.base s ≤ (if t.awaiting_sweep_end then f.cycle_words + t.words else t.words)
-  pub made : ℕ → ℕ
-  pub number : ℕ
-  pub before : (class : ℕ) → class < CLASSES → s.before class ≤ live number class + made class
+  pub earlier : Earlier f live s.before
   pub only : OnlyMade f (made_since 0 s)
-  pub only_made : OnlyMade f made
-  pub total : words_of made + words_since s.swept s ≤ (if t.awaiting_sweep_end then 2 * f.cycle_words + t.words else f.cycle_words + t.words)
+  pub total : words_of earlier.made + words_since s.swept s ≤ (if t.awaiting_sweep_end then 2 * f.cycle_words + t.words else f.cycle_words + t.words)
 
 -- at the opening nothing was made
 pub opening_flowing : (h : HeapState) (f : Flow) (k : ℕ) (live : Lives) → IsOpening h → IsFlowing h f k live (opened h) (opening_season h.limits) (opening_meter h.limits)
@@ -84,11 +89,8 @@ opening_flowing h f k live o = record {
   words = omega arith;
   since_last = (let z = none in omega (arith, z));
   since_base = (let z = none in omega (arith, z));
-  made = λ class. 0;
-  number = 0;
-  before = λ class l. omega arith;
+  earlier = record { made = λ class. 0; number = 0; few = λ class l. omega arith; only = λ class l e. refl };
   only = λ class l e. refl;
-  only_made = λ class l e. refl;
   total = (let z = none in let y = nothing in omega (arith, z, y));
 }
   where

@@ -15,15 +15,15 @@ use Rattle.heap_model.specs.Spent.{cycle_limit, swept_units}
 use Rattle.heap_model.specs.ReachedFrom.{opened}
 use Rattle.heap_model.specs.Left.{LeavesCycle}
 use Rattle.heap_model.specs.Event.{Course, Event, Command_done, Cycle_begun, Begin_refused, Quantum_done, Quantum_refused, Enters, Begins, Collects, Runs, IsCourse, present_of, snapshot_of, room_for, change_by}
-use Rattle.heap_model.proofs.Left.{change_left}
 use Rattle.heap_model.proofs.Event.Freed.{objects_stay}
 use Rattle.heap_model.proofs.QuantumSpending.Quanta.{chain_units}
 use Rattle.heap_model.proofs.Settings.{does_settings}
 use Rattle.heap_model.proofs.Event.Kept.{enters_graph, enters_present, begins_present, collects_present, does_course, opening_course}
 use Rattle.space.specs.Demand.{LiveWithin, blocks_of, asked_for}
-use Rattle.space.specs.Tally.{awaits_sweep_end, EveryNewFindsRoom}
+use Rattle.heap_model.specs.Phases.{awaits_sweep_end}
+use Rattle.space.specs.Tally.{EveryNewFindsRoom}
 use Rattle.space.specs.Pace.{unmoved_quanta}
-use Rattle.space.proofs.Paces.Pacing.{more_since, command_less}
+use Rattle.space.proofs.Paces.Pacing.{more_since, command_less, command_left}
 use Rattle.space.proofs.Paces.Spending.{limit_stays, same_swept, swept_kept, all_spent, few_quanta}
 use Rattle.space.proofs.Paces.Moved.{chain_tracing}
 use Rattle.fragmentation.specs.Season.{Season, Lives, opening_season, made_since, season_swept, season_after, AllKeep}
@@ -78,21 +78,21 @@ module _ (h : HeapState) (f : Flow) (k : ℕ) (great : 0 < k) (live : Lives) (li
       let a : words_of (asked_for t.graph m c) ≡ words_of (asked_for s.graph m c) = ap (λ z. words_of (asked_for z m c)) (i.same ∙ sym i.graph) in
       let b = words_both (made_since s.swept s) (asked_for s.graph m c) in
       let z = by_tracing t.awaiting_sweep_end refl i.total (asked_few r s t w i (words_of (asked_for t.graph m c)) keeps.0) in
-      words_fit s.before (live i.number) i.made (λ class. made_since s.swept s class + asked_for s.graph m c class) f.makes f.live_words (2 * f.cycle_words + traced_words f most) i.before none (lives i.number).few (omega (arith, b, z, a))
+      words_fit s.before (live i.earlier.number) i.earlier.made (λ class. made_since s.swept s class + asked_for s.graph m c class) f.makes f.live_words (2 * f.cycle_words + traced_words f most) i.earlier.few none (lives i.earlier.number).few (omega (arith, b, z, a))
     where
       none : (class : ℕ) → class < CLASSES → f.makes class ≡ false → (s.before class ≡ 0) × (made_since s.swept s class + asked_for s.graph m c class ≡ 0)
       none class l e =
-          let n = i.before class l in
-          let x = (lives i.number).only class l e in
-          let y = i.only_made class l e in
+          let n = i.earlier.few class l in
+          let x = (lives i.earlier.number).only class l e in
+          let y = i.earlier.only class l e in
           let v = none_since s s.swept i.only class l e in
           let u = keeps.1 class l e in
           let q : asked_for t.graph m c class ≡ asked_for s.graph m c class = ap (λ z. asked_for z m c class) (i.same ∙ sym i.graph) in
           (omega (arith, n, x, y), omega (arith, v, u, q))
 
-      by_tracing : (o : Bool) → t.awaiting_sweep_end ≡ o → words_of i.made + words_since s.swept s ≤ (if o then 2 * f.cycle_words + t.words else f.cycle_words + t.words)
+      by_tracing : (o : Bool) → t.awaiting_sweep_end ≡ o → words_of i.earlier.made + words_since s.swept s ≤ (if o then 2 * f.cycle_words + t.words else f.cycle_words + t.words)
           → t.words + words_of (asked_for t.graph m c) ≤ (if o then traced_words f most else f.cycle_words)
-          → words_of i.made + words_since s.swept s + words_of (asked_for t.graph m c) ≤ 2 * f.cycle_words + traced_words f most
+          → words_of i.earlier.made + words_since s.swept s + words_of (asked_for t.graph m c) ≤ 2 * f.cycle_words + traced_words f most
       by_tracing true e l n = omega (arith, l, n)
       by_tracing false e l n = omega (arith, l, n)
 
@@ -112,11 +112,8 @@ module _ (h : HeapState) (f : Flow) (k : ℕ) (great : 0 < k) (live : Lives) (li
     words = within t.awaiting_sweep_end (asked_few r s t w i asked keeps.0);
     since_last = (let l = i.since_last in let q = more s.last i.last in omega (arith, l, q));
     since_base = (let q = more s.base i.base in with_more t.awaiting_sweep_end f.cycle_words 0 i.since_base q);
-    made = i.made;
-    number = i.number;
-    before = i.before;
+    earlier = i.earlier;
     only = λ class l u. (let x = each 0 (omega arith) class in let y = i.only class l u in let z = keeps.1 class l u in omega (arith, x, y, z));
-    only_made = i.only_made;
     total = (let q = more s.swept i.swept in with_all t.awaiting_sweep_end i.total q);
   }
     where
@@ -127,7 +124,7 @@ module _ (h : HeapState) (f : Flow) (k : ℕ) (great : 0 < k) (live : Lives) (li
       change = change_by (room_for r.heap c) g m c
 
       left : LeavesCycle r.heap new.heap
-      left = change_left r.heap new.heap g change e.change
+      left = command_left r new m c reply e
 
       asked : ℕ
       asked = words_of (asked_for t.graph m c)
@@ -167,8 +164,8 @@ module _ (h : HeapState) (f : Flow) (k : ℕ) (great : 0 < k) (live : Lives) (li
       with_more true x y l q = omega (arith, l, q)
       with_more false x y l q = omega (arith, l, q)
 
-      with_all : (b : Bool) → words_of i.made + words_since s.swept s ≤ (if b then 2 * f.cycle_words + t.words else f.cycle_words + t.words) → words_since s.swept next ≤ words_since s.swept s + asked
-          → words_of i.made + words_since s.swept next ≤ (if b then 2 * f.cycle_words + (t.words + asked) else f.cycle_words + (t.words + asked))
+      with_all : (b : Bool) → words_of i.earlier.made + words_since s.swept s ≤ (if b then 2 * f.cycle_words + t.words else f.cycle_words + t.words) → words_since s.swept next ≤ words_since s.swept s + asked
+          → words_of i.earlier.made + words_since s.swept next ≤ (if b then 2 * f.cycle_words + (t.words + asked) else f.cycle_words + (t.words + asked))
       with_all true l q = omega (arith, l, q)
       with_all false l q = omega (arith, l, q)
 
@@ -190,11 +187,8 @@ module _ (h : HeapState) (f : Flow) (k : ℕ) (great : 0 < k) (live : Lives) (li
     words = omega arith;
     since_last = (let z = none_made s in omega (arith, z));
     since_base = by_base t.awaiting_sweep_end off i.since_base;
-    made = i.made;
-    number = i.number;
-    before = i.before;
+    earlier = i.earlier;
     only = i.only;
-    only_made = i.only_made;
     total = by_total t.awaiting_sweep_end off i.total;
   }
     where
@@ -205,7 +199,7 @@ module _ (h : HeapState) (f : Flow) (k : ℕ) (great : 0 < k) (live : Lives) (li
       by_base true z l = absurd (cc)
       by_base false z l = let x = i.words in omega (arith, l, x)
 
-      by_total : (b : Bool) → b ≡ false → words_of i.made + words_since s.swept s ≤ (if b then 2 * f.cycle_words + t.words else f.cycle_words + t.words) → words_of i.made + words_since s.swept s ≤ 2 * f.cycle_words + 0
+      by_total : (b : Bool) → b ≡ false → words_of i.earlier.made + words_since s.swept s ≤ (if b then 2 * f.cycle_words + t.words else f.cycle_words + t.words) → words_of i.earlier.made + words_since s.swept s ≤ 2 * f.cycle_words + 0
       by_total true z l = absurd (cc)
       by_total false z l = let x = i.words in omega (arith, l, x)
 
@@ -225,43 +219,40 @@ module _ (h : HeapState) (f : Flow) (k : ℕ) (great : 0 < k) (live : Lives) (li
       settings : settings_of new.heap ≡ settings_of h
       settings = does_settings r (Quantum_done budget units phase) new q ∙ i.settings
 
-      -- before the end of the sweep
-      on : awaits_sweep_end phase ≡ true → IsFlowing h f k live new s (record t { awaiting_sweep_end = true; quanta = t.quanta + 1 })
-      on e = record {
+      -- a sweep that hasn't ended hadn't before
+      was : awaits_sweep_end new.heap.phase ≡ true → awaits_sweep_end r.heap.phase ≡ true
+      was now = chain_tracing r.heap new.heap units q.turn.chain now
+
+      -- up to the sweep's end each quantum spends its units
+      spends : (b : Bool) → awaits_sweep_end phase ≡ b → awaits_sweep_end new.heap.phase ≡ true → (t.quanta + 1) * k ≤ new.heap.units
+      spends false e now = absurd (not_true _ now (out_phase ∙ e))
+      spends true e now =
+          let x = i.spent (was now) in
+          let u = chain_units r.heap new.heap units q.turn.chain in
+          let l = all_spent r.heap new.heap budget units q.turn (λ m y. not_true _ now (ap awaits_sweep_end y)) (λ y. not_true _ now (ap awaits_sweep_end y)) in
+          let z = times_next t.quanta k in
+          omega (arith, x, u, l, z, enough)
+
+      -- where no sweep ends
+      stays : (b : Bool) → t.awaiting_sweep_end ≡ b → awaits_sweep_end phase ≡ b → IsFlowing h f k live new s (record t { awaiting_sweep_end = b; quanta = t.quanta + 1 })
+      stays b at e = record {
         graph = i.graph ∙ sym present;
         same = i.same ∙ sym present;
         awaiting_sweep_end = sym (out_phase ∙ e);
-        alike = i.alike ∙ was ∙ sym (out_phase ∙ e);
+        alike = i.alike ∙ sym i.awaiting_sweep_end ∙ at ∙ sym (out_phase ∙ e);
         limit = limit;
         settings = settings;
-        spent = λ o. (
-            let x = i.spent was in
-            let u = chain_units r.heap new.heap units q.turn.chain in
-            let l = all_spent r.heap new.heap budget units q.turn (λ m y. not_true _ now (ap awaits_sweep_end y)) (λ y. not_true _ now (ap awaits_sweep_end y)) in
-            let z = times_next t.quanta k in
-            omega (arith, x, u, l, z, enough));
+        spent = spends b e;
         last = i.last;
         base = i.base;
         swept = i.swept;
         words = i.words;
         since_last = i.since_last;
         since_base = subst (λ b. words_since s.base s ≤ (if b then f.cycle_words + t.words else t.words)) at i.since_base;
-        made = i.made;
-        number = i.number;
-        before = i.before;
+        earlier = i.earlier;
         only = i.only;
-        only_made = i.only_made;
-        total = subst (λ b. words_of i.made + words_since s.swept s ≤ (if b then 2 * f.cycle_words + t.words else f.cycle_words + t.words)) at i.total;
+        total = subst (λ b. words_of i.earlier.made + words_since s.swept s ≤ (if b then 2 * f.cycle_words + t.words else f.cycle_words + t.words)) at i.total;
       }
-        where
-          now : awaits_sweep_end new.heap.phase ≡ true
-          now = out_phase ∙ e
-
-          was : awaits_sweep_end r.heap.phase ≡ true
-          was = chain_tracing r.heap new.heap units q.turn.chain now
-
-          at : t.awaiting_sweep_end ≡ true
-          at = i.awaiting_sweep_end ∙ was
 
       -- at the sweep's end
       ends : t.awaiting_sweep_end ≡ true → awaits_sweep_end phase ≡ false → IsFlowing h f k live new (season_swept live s) (record t { awaiting_sweep_end = false; quanta = t.quanta + 1 })
@@ -279,44 +270,17 @@ module _ (h : HeapState) (f : Flow) (k : ℕ) (great : 0 < k) (live : Lives) (li
         words = i.words;
         since_last = i.since_last;
         since_base = i.since_last;
-        made = made_since s.base s;
-        number = s.number;
-        before = λ class l. omega arith;
+        earlier = record { made = made_since s.base s; number = s.number; few = λ class l. omega arith; only = none_since s s.base i.only };
         only = i.only;
-        only_made = none_since s s.base i.only;
         total = (let z = none_made s in let b = subst (λ b. words_since s.base s ≤ (if b then f.cycle_words + t.words else t.words)) at i.since_base in omega (arith, z, b));
-      }
-
-      -- after it
-      out : t.awaiting_sweep_end ≡ false → awaits_sweep_end phase ≡ false → IsFlowing h f k live new s (record t { awaiting_sweep_end = false; quanta = t.quanta + 1 })
-      out at e = record {
-        graph = i.graph ∙ sym present;
-        same = i.same ∙ sym present;
-        awaiting_sweep_end = sym (out_phase ∙ e);
-        alike = i.alike ∙ sym i.awaiting_sweep_end ∙ at ∙ sym (out_phase ∙ e);
-        limit = limit;
-        settings = settings;
-        spent = λ o. absurd (not_true _ o (out_phase ∙ e));
-        last = i.last;
-        base = i.base;
-        swept = i.swept;
-        words = i.words;
-        since_last = i.since_last;
-        since_base = subst (λ b. words_since s.base s ≤ (if b then f.cycle_words + t.words else t.words)) at i.since_base;
-        made = i.made;
-        number = i.number;
-        before = i.before;
-        only = i.only;
-        only_made = i.only_made;
-        total = subst (λ b. words_of i.made + words_since s.swept s ≤ (if b then 2 * f.cycle_words + t.words else f.cycle_words + t.words)) at i.total;
       }
 
       by_tracing : (b : Bool) → s.awaiting_sweep_end ≡ b → awaits_sweep_end phase ≡ false → IsFlowing h f k live new (if b then season_swept live s else s) (record t { awaiting_sweep_end = false; quanta = t.quanta + 1 })
       by_tracing true y e = ends (i.awaiting_sweep_end ∙ sym i.alike ∙ y) e
-      by_tracing false y e = out (i.awaiting_sweep_end ∙ sym i.alike ∙ y) e
+      by_tracing false y e = stays false (i.awaiting_sweep_end ∙ sym i.alike ∙ y) e
 
       by_phase : (b : Bool) → awaits_sweep_end phase ≡ b → IsFlowing h f k live new (if b then s else (if s.awaiting_sweep_end then season_swept live s else s)) (record t { awaiting_sweep_end = b; quanta = t.quanta + 1 })
-      by_phase true e = on e
+      by_phase true e = stays true (i.awaiting_sweep_end ∙ was (out_phase ∙ e)) e
       by_phase false e = by_tracing s.awaiting_sweep_end refl e
 
   -- of the events from here on, what live objects need is what was said

@@ -19,7 +19,8 @@ use Rattle.heap_model.specs.ReachedFrom.{opened}
 use Rattle.heap_model.proofs.Settings.{does_settings, change_settings}
 use Rattle.heap_model.proofs.Event.Kept.{begins_present, collects_present, opening_course}
 use Rattle.space.specs.Demand.{blocks_of, asked_for, asked_by}
-use Rattle.space.specs.Tally.{awaits_sweep_end, FindsRoom, NewFindsRoom, EveryNewFindsRoom}
+use Rattle.heap_model.specs.Phases.{awaits_sweep_end}
+use Rattle.space.specs.Tally.{FindsRoom, NewFindsRoom, EveryNewFindsRoom}
 use Rattle.space.specs.Counts.{is_of, main_blocks, used_pages}
 use Rattle.space.proofs.Counts.{class_sum_le}
 use Rattle.space.proofs.Paces.Pacing.{more_since}

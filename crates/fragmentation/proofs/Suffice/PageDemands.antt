@@ -15,7 +15,8 @@ use Rattle.heap_model.specs.ReachedFrom.{opened}
 use Rattle.heap_model.specs.Event.{Course, Event, Command_done, Cycle_begun, Begin_refused, Quantum_done, Quantum_refused, Enters, Does, Runs, IsCourse, present_of}
 use Rattle.heap_model.proofs.Event.Kept.{opening_course}
 use Rattle.space.specs.Demand.{blocks_of, asked_for}
-use Rattle.space.specs.Tally.{awaits_sweep_end, NewFindsRoom, EveryNewFindsRoom}
+use Rattle.heap_model.specs.Phases.{awaits_sweep_end}
+use Rattle.space.specs.Tally.{NewFindsRoom, EveryNewFindsRoom}
 use Rattle.space.specs.Space.{class_sum}
 use Rattle.space.proofs.Counts.{class_sum_le, class_sum_both}
 use Rattle.space.proofs.Paces.Pacing.{command_less}

@@ -24,7 +24,7 @@ use Rattle.heap_model.proofs.Grey.Relinked.{represents_relinked, relinked_settin
 use Rattle.heap_model.proofs.Settings.{action_settings}
 use Rattle.heap_model.proofs.Represents.{represents_action}
 use Rattle.space.specs.Demand.{asked_by}
-use Rattle.space.specs.Tally.{awaits_sweep_end}
+use Rattle.heap_model.specs.Phases.{awaits_sweep_end}
 use Rattle.space.specs.Counts.{main_blocks, used_pages}
 use Rattle.space.specs.Placement.{IsTidy}
 use Rattle.space.proofs.Counts.{used, both_true}

@@ -20,7 +20,7 @@ use Rattle.heap_model.specs.Action.{IsNext, Action, Scans_root, Ends_roots, Scan
 use Rattle.heap_model.proofs.Store.Allocated.{set_page, set_page_here, page_within}
 use Rattle.heap_model.proofs.Rooms.{set_sum}
 use Rattle.heap_model.proofs.Action.Moving.{same_number, usable_fits}
-use Rattle.space.specs.Tally.{awaits_sweep_end}
+use Rattle.heap_model.specs.Phases.{awaits_sweep_end}
 use Rattle.space.specs.Counts.{is_of, used_pages}
 use Rattle.space.proofs.Counts.{one_if, used_set, both_true, flags_all}
 use Rattle.space.proofs.Space.{shades_same}

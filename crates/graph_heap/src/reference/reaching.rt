@@ -1,12 +1,13 @@
 //! What the slow heap tells of its objects: which can be reached, their shapes, and for which a command asks.
-ghost use Rattle.std.specs.Prelude.{◌≡◌, ◌+◌, ◌<◌, ◌≤◌, ◌∷◌, [], true, length, slice_index, nat_eq, IfOk, OnOk, IfSome, IsNone};
+ghost use Rattle.std.specs.Prelude.{◌≡◌, ◌↔◌, ◌+◌, ◌<◌, ◌≤◌, ◌∷◌, [], true, length, slice_index, nat_eq, IfOk, IsOkAnd, OnOk, OnErr, IfSome, IsNone, IsTrue};
 ghost use Rattle.std.specs.List.{IsDistinct};
 ghost use Rattle.graph_heap.specs.Graph as graph;
-ghost use Rattle.graph_heap.specs.Effect.{effect_of, settled};
+ghost use Rattle.graph_heap.specs.Effect.{effect_of, settled, TellsMade};
+ghost use Rattle.graph_heap.specs.History.{IsEntryOf, after_entry};
 ghost use Rattle.graph_heap.specs.Reaching.{IsAmong, AreReached, Finds, new_shape};
 
-use super::Reference;
-use crate::command::{Change, Command, Shape};
+use super::{Reference, had_room_of};
+use crate::command::{Change, Entry, Shape};
 use crate::no_memory::NoMemory;
 use crate::stored::object_of;
 use std::alloc::Global;
@@ -124,14 +125,38 @@ impl Reference {
         }
     }
 
-    /// The shape of the object for which a command of a mutator asks, where nothing but lack of space refuses
-    /// it.
-    pub fn asked_for(&self, mutator: u32, command: &Command) -> Option<Shape>
-        ensures { result ≡ new_shape (settled (effect_of true self.now mutator command.now)).1 }
+    /// Whether the entry is a step, which is then done, as `accepts` does; and the shape of the object for which its
+    /// command asks, where nothing but lack of space refuses it.
+    #[tactic(auto, unfolding(crate::specs::Effect::reply_of, crate::specs::Effect::next_of))]
+    pub fn accepts_asking(&mut self, entry: &Entry) -> Result<(bool, Option<Shape>), NoMemory>
+        ensures asked { IfOk result (λ told. told.1
+            ≡ new_shape (settled (effect_of true self.old entry.now.mutator entry.now.command)).1) }
+        ensures exact { IfOk result (λ told. IsTrue told.0 ↔ IsEntryOf self.old entry.now) }
+        ensures yes { IsOkAnd result (λ told. IsTrue told.0) → self.new ≡ after_entry self.old entry.now }
+        ensures no { IsOkAnd result (λ told. ¬ IsTrue told.0) → self.new ≡ self.old }
+        ensures err { OnErr result (self.new ≡ self.old) }
+        // Memory is refused only where the entry is a step that makes an object.
+        ensures made { OnErr result (IsEntryOf self.old entry.now × TellsMade entry.now.reply) }
     {
-        match self.plan(true, mutator, command) {
-            Ok((_, Change::New { shape, .. })) => Some(shape),
-            _ => None,
+        let (reply, change) = self.reply_and_change(true, entry.mutator, &entry.command);
+        let asked = shape_made(&change);
+        if !had_room_of(&entry.reply) {
+            return Ok((self.accepts(entry)?, asked));
         }
+        if reply != entry.reply {
+            return Ok((false, asked));
+        }
+        self.apply(&change)?;
+        Ok((true, asked))
+    }
+}
+
+/// The shape of the object that a change makes.
+fn shape_made(change: &Change) -> Option<Shape>
+    ensures { result ≡ new_shape change.now }
+{
+    match *change {
+        Change::New { shape, .. } => Some(shape),
+        _ => None,
     }
 }

@@ -1,5 +1,5 @@
 -- Allocated blocks lie apart in the arena.
-use Rattle.std.proofs.Common.{◌≡◌, ℕ, ◌+◌, ◌-◌, ◌*◌, ◌/◌, ◌<◌, ◌≤◌, Bool, true, false, List, length, take, drop, refl, ap, sym, ◌∙◌, arith, ◌==◌, nat_lt, length-drop}
+use Rattle.std.proofs.Common.{◌≡◌, ℕ, ◌+◌, ◌-◌, ◌*◌, ◌/◌, ◌<◌, ◌≤◌, Bool, true, false, List, length, take, drop, Option, Some, None, refl, ap, sym, ◌∙◌, arith, ◌==◌, nat_lt, length-drop}
 use Rattle.std.specs.Prelude.{slice_index}
 use Rattle.std.proofs.lemmas.Option.{slice_get_within, same_Some}
 use Rattle.std.proofs.lemmas.List.{length-take}
@@ -7,7 +7,7 @@ use Rattle.std.proofs.Math.Nat.{mul-le-mul_right}
 use Rattle.graph_heap.specs.Shape.{ref_cells, word_cells}
 use Rattle.size_classes.specs.Sizes.{size_of}
 use Rattle.size_classes.specs.Parts.{part_cells, cells_of}
-use Rattle.size_classes.proofs.Table.{size_low}
+use Rattle.size_classes.proofs.Table.{size_low, size_high}
 use Rattle.heap_model.specs.Header.{header_in}
 use Rattle.heap_model.specs.Block.{record_in}
 use Rattle.heap_model.specs.Pages.{ArePages, Page, page_at}
@@ -62,6 +62,15 @@ two_apart a b i j size page page' size' e f l lt up same = by_page (nat_lt page 
         let m = mul-le-mul_right size (less_index i j size less) in
         let s = sum in
         omega arith
+
+-- no block has more than 256 words
+pub size_small : (s : Store) → ArePages s.pages → (b : ℕ) → size_at s b ≤ 256
+unfolding size_at
+size_small s w b = of_page (page_at s.pages (b / 2048)) refl
+  where
+    of_page : (o : Option Page) → page_at s.pages (b / 2048) ≡ o → size_in o ≤ 256
+    of_page None e = omega arith
+    of_page (Some p) e = size_high p.class (w.each (b / 2048) p e).class
 
 pub lie_apart : (h : HeapState) → ArePages h.store.pages → IsWhole h.store → LieApart (seen h) (size_behind h) (2048 * length h.store.pages)
 lie_apart h w whole = record {

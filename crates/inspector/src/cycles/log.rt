@@ -19,14 +19,14 @@ use std::alloc::Global;
 /// The cycles of a run so far: those that another followed, and the last one.
 #[derive(Drop)]
 pub struct Log {
-    pub closed: Vec<Cycle>,
-    pub last: Option<Open>,
-    pub base: Base,
+    pub(crate) closed: Vec<Cycle>,
+    pub(crate) last: Option<Open>,
+    pub(crate) base: Base,
 }
 
 impl Log {
     /// Before the first step.
-    pub fn new(alloc: Global) -> Log
+    pub(crate) fn new(alloc: Global) -> Log
         ensures { (now : Course) → IsLog [] now result }
     {
         Log {
@@ -49,7 +49,7 @@ impl Log {
     }
 
     /// A quantum was done, before which the collector was at this mark.
-    pub fn quantum(&mut self, before: &Mark, recorded: &Recorded)
+    pub(crate) fn quantum(&mut self, before: &Mark, recorded: &Recorded)
         ensures { (steps : List Step) (s : Step) → IsLog steps s.before self.old → is_quantum s.event ≡ true
             → IsMark s.before.heap before.now → s.after ≡ recorded.now.course
             → IsLog (steps ++ s ∷ []) s.after self.new }
@@ -62,7 +62,7 @@ impl Log {
     }
 
     /// The last cycle is followed by another, or by the end of the run, at this heap.
-    pub fn close(&mut self, heap: &Heap) -> Result<(), NoMemory>
+    pub(crate) fn close(&mut self, heap: &Heap) -> Result<(), NoMemory>
         ensures cycles { OnOk result ((steps : List Step) (now : Course) → IsLog steps now self.old
             → now.heap ≡ heap.now → AreCycles steps self.new.closed.items) }
         ensures base { self.new.base ≡ self.old.base }
@@ -77,7 +77,7 @@ impl Log {
     }
 
     /// A line begins a cycle.
-    pub fn begin_at(&mut self, line: u64, recorded: &Recorded) -> Result<(), NoMemory>
+    pub(crate) fn begin_at(&mut self, line: u64, recorded: &Recorded) -> Result<(), NoMemory>
         ensures { OnOk result ((steps : List Step) (s : Step) → IsLog steps s.before self.old → begins s ≡ true
             → s.line ≡ line → s.before ≡ recorded.now.course → IsLog (steps ++ s ∷ []) s.after self.new) }
     {
@@ -87,7 +87,7 @@ impl Log {
     }
 
     /// The cycles of a run that ends at this heap; the last one is still running, or no other follows it.
-    pub fn cycles(mut self, heap: &Heap) -> Result<Cycles, NoMemory>
+    pub(crate) fn cycles(mut self, heap: &Heap) -> Result<Cycles, NoMemory>
         ensures { IfOk result (λ cycles. (steps : List Step) (now : Course) → IsLog steps now self → now.heap ≡ heap.now
             → AreCycles steps cycles.items.items) }
     {

@@ -9,7 +9,7 @@ ghost use Rattle.inspector.specs.Steps.{is_quantum};
 use machine::Heap;
 use nodes::Copies;
 use player::Mark;
-use sizing::{awaits_sweep_end, in_cycle};
+use sizing::in_cycle;
 
 /// What a quantum was to the cycle that it found.
 #[derive(Clone, Copy, Debug, PartialEq, Eq)]
@@ -34,7 +34,7 @@ impl QuantumEffect {
         let after = heap.phase();
         QuantumEffect {
             works,
-            ends_sweep: works && awaits_sweep_end(before.phase) && !awaits_sweep_end(after),
+            ends_sweep: works && before.phase.awaits_sweep_end() && !after.awaits_sweep_end(),
             ends_cycle: works && !in_cycle(after),
             units: if works {
                 heap.units().saturating_sub(before.units)

@@ -105,7 +105,7 @@ fn fewest_line(alloc: Global, still: u128, moved: u128, pages: u128) -> Result<S
     ensures { IfOk result (λ line. string_bytes line ≡ fewest_line still moved pages) }
 {
     if pages > u128::from(MOST_PAGES) {
-        return format!(in alloc; "fewest {pages}: more than a heap may have\n");
+        return format!(in alloc; "fewest {pages}: more than a file may ask for\n");
     }
     keys_line(alloc, still, moved, pages)
 }

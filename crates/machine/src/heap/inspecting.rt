@@ -15,7 +15,7 @@ impl Heap {
     /// How many pages there are.
     pub fn pages(&self) -> usize
         ensures pages { result ≡ length self.now.store.pages }
-        ensures within { result ≤ 4096 }
+        ensures within { result ≤ 1048576 }
     {
         self.fields.nodes.pages()
     }
@@ -23,7 +23,7 @@ impl Heap {
     /// How many pages are free.
     pub fn free_pages(&self) -> usize
         ensures free { result ≡ page_list.free_pages self.now.store.pages }
-        ensures within { result ≤ 4096 }
+        ensures within { result ≤ 1048576 }
     {
         self.fields.nodes.free_pages()
     }

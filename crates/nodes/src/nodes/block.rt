@@ -47,9 +47,9 @@ impl Nodes {
     pub fn reference_of(&self, block: usize) -> u64
         requires { is_allocated self.now block ≡ true }
         ensures reference { result ≡ block + 1 }
-        ensures within { result ≤ 8388608 }
+        ensures within { result ≤ 2147483648 }
     {
-        // The words are read here only to know how many there are.
+        // The words are read here only to know that the block is on a page.
         let _words = &self.arena;
         block as u64 + 1
     }

@@ -21,7 +21,7 @@ impl PageTable {
     /// How many pages there are.
     pub fn len(&self) -> usize
         ensures pages { result ≡ length self.now }
-        ensures within { result ≤ 4096 }
+        ensures within { result ≤ 1048576 }
     {
         self.rows.len()
     }
@@ -29,7 +29,7 @@ impl PageTable {
     /// How many pages are free.
     pub fn free_pages(&self) -> usize
         ensures free { Tells self.now (λ pages. result ≡ page_list.free_pages pages) }
-        ensures within { result ≤ 4096 }
+        ensures within { result ≤ 1048576 }
     {
         self.free_pages
     }
@@ -37,7 +37,7 @@ impl PageTable {
     /// How many blocks of a class are free, on pages that aren't evacuating.
     pub fn free_blocks(&self, class: Class) -> usize
         ensures free { Tells self.now (λ pages. result ≡ free_blocks pages class) }
-        ensures within { result ≤ 2097152 }
+        ensures within { result ≤ 536870912 }
     {
         self.free_blocks[class.number()]
     }
@@ -144,9 +144,9 @@ impl PageTable {
 
     /// Whether a block is allocated. On a free page none is.
     pub fn is_allocated(&self, arena: &Arena, block: Block) -> bool
-        requires together { Together self.now arena.now }
+        requires together { Together self.now arena.now.words }
         requires page { block.page < length self.now }
-        ensures { IsTrue result ↔ IsSomeAnd (page_at (pages_in self.now arena.now) block.page)
+        ensures { IsTrue result ↔ IsSomeAnd (page_at (pages_in self.now arena.now.words) block.page)
             (λ p. slice_get p.allocated block.index ≡ Some true) }
     {
         match self.row(block.page) {
@@ -160,9 +160,9 @@ impl PageTable {
 
     /// The first allocated block of a page from a place on. On a free page none is.
     pub fn next_allocated(&self, arena: &Arena, page: usize, from: usize) -> Option<usize>
-        requires together { Together self.now arena.now }
+        requires together { Together self.now arena.now.words }
         requires page { page < length self.now }
-        ensures finds { FindsAllocated (page_at (pages_in self.now arena.now) page) from result }
+        ensures finds { FindsAllocated (page_at (pages_in self.now arena.now.words) page) from result }
         ensures within { IfSome result (λ i. i < 512) }
     {
         next_allocated(arena, page, self.row(page)?.class, from)

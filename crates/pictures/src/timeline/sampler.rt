@@ -7,14 +7,13 @@ ghost use Rattle.pictures.specs.Sampler.{IsAlong};
 use crate::timeline::samples::Samples;
 use crate::{MOST_SAMPLES, Sample};
 use graph_heap::NoMemory;
-use heap_model::phase::Phase;
 use machine::Heap;
 use std::alloc::Global;
 
 /// Samples of a run so far, and how many events were done since the last of them.
 #[derive(Drop)]
 pub struct Sampler {
-    pub samples: Samples,
+    pub(crate) samples: Samples,
     since: u64,
 }
 
@@ -22,13 +21,12 @@ pub struct Sampler {
 fn sample(line: u64, heap: &Heap) -> Sample
     ensures { result ≡ sampled (moment line heap.now) }
 {
-    let is_idle = matches!(heap.phase(), Phase::Idle);
-    Sample::from_heap(heap, line, is_idle)
+    Sample::from_heap(heap, line, heap.phase().is_idle())
 }
 
 impl Sampler {
     /// A sample of a heap before the first line.
-    pub fn new(alloc: Global, heap: &Heap) -> Result<Sampler, NoMemory>
+    pub(crate) fn new(alloc: Global, heap: &Heap) -> Result<Sampler, NoMemory>
         ensures { IfOk result (IsAlong (moment 0 heap.now ∷ [])) }
     {
         let mut items = Vec::new(alloc);
@@ -44,7 +42,7 @@ impl Sampler {
     }
 
     /// The event of this line led to this heap: a sample of it is taken where the stride is full.
-    pub fn event(&mut self, line: u64, heap: &Heap) -> Result<(), NoMemory>
+    pub(crate) fn event(&mut self, line: u64, heap: &Heap) -> Result<(), NoMemory>
         requires { (moments : List Moment) × IsAlong moments self.old × (length moments < 2 ^ 64) }
         ensures { OnOk result ((moments : List Moment) → IsAlong moments self.old
             → IsAlong (moments ++ moment line heap.now ∷ []) self.new) }

@@ -12,7 +12,7 @@ use Rattle.heap_model.specs.Event.{Course, Event, Cycle_begun, Begins, IsCourse,
 use Rattle.heap_model.proofs.Event.Kept.{begins_present}
 use Rattle.heap_model.proofs.Agreements.Implied.{consistent_agrees}
 use Rattle.space.specs.Demand.{LiveWithin, blocks_of, blocks_by}
-use Rattle.space.specs.Tally.{awaits_sweep_end}
+use Rattle.heap_model.specs.Phases.{awaits_sweep_end}
 use Rattle.space.specs.Pace.{Pace, Beat, opening_beat, in_cycle}
 use Rattle.fragmentation.specs.Season.{Season, Lives, opening_season, season_after, season_swept, made_since, AllKeep}
 use Rattle.sizing.specs.declared.meter.Meter.{Meter}

@@ -17,7 +17,7 @@ use Rattle.heap_model.proofs.Left.{change_left}
 use Rattle.heap_model.proofs.Event.Freed.{objects_stay}
 use Rattle.heap_model.proofs.Event.Kept.{founded, present_row, enters_step, enters_present}
 use Rattle.space.specs.Demand.{blocks_of, asked_by, asked_for}
-use Rattle.space.specs.Tally.{awaits_sweep_end}
+use Rattle.heap_model.specs.Phases.{awaits_sweep_end}
 use Rattle.space.specs.Pace.{Pace, Beat, AllKeepPace, opening_beat, next_beat, in_cycle}
 use Rattle.space.proofs.Paces.Pacing.{more_since}
 use Rattle.fragmentation.specs.Season.{Season, opening_season, season_after, made_since}
@@ -95,6 +95,22 @@ not_more more a b up off = elim (le_or b a) [
   where
     le_or : (x y : ℕ) → (x ≤ y) ⊎ (y < x)
     le_or x y = grind arith
+
+-- what is asked for is noted after the entry was done as it would be before
+pub asks_before : (asked : List ℕ) (old done noted : Meter) → done ≡ record old { graph = done.graph } → Asks asked done noted → Asks asked old (record noted { graph = old.graph })
+asks_before asked old done noted same asks = let s = subst (λ (x : Meter). Asks asked x noted) same asks in record {
+  graph = refl;
+  cycle_running = s.cycle_running;
+  season = s.season;
+  live = s.live;
+  budget = s.budget;
+  most = s.most;
+  sum = s.sum;
+  busy = s.busy;
+  idle = s.idle;
+  not_busy = s.not_busy;
+  not_idle = s.not_idle;
+}
 
 -- a command
 module _ (l : Limits) (es : List Event) (r new : Course) (m : ℕ) (c : Command) (reply : Reply) (old : Meter) (v : Measures l es r old) (w : IsCourse r) (e : Enters r m c reply new) where

@@ -1,6 +1,6 @@
 -- What a command allocates, and asks for.
-use Rattle.std.proofs.Common.{◌≡◌, ℕ, ◌+◌, ◌<◌, ◌≤◌, ◌⊎◌, inl, inr, Bool, true, false, ◌==◌, if◌then◌else◌, [], ◌∷◌, length, length-append, arith, refl, ap, ◌∙◌, sym, subst, Result, Ok, Err}
-use Rattle.std.specs.Prelude.{Some, None}
+use Rattle.std.proofs.Common.{◌≡◌, ℕ, ◌+◌, ◌<◌, ◌≤◌, ◌⊎◌, inl, inr, Bool, true, false, ◌==◌, if◌then◌else◌, List, [], ◌∷◌, length, length-append, arith, refl, ap, ◌∙◌, sym, subst, Result, Ok, Err}
+use Rattle.std.specs.Prelude.{Option, Some, None, IfSome, IsNone}
 use Rattle.graph_heap.specs.declared.command.Limits.{Limits}
 use Rattle.graph_heap.specs.declared.command.Shape.{Shape}
 use Rattle.graph_heap.specs.declared.command.Command.{Command}
@@ -20,7 +20,9 @@ use Rattle.heap_model.proofs.Cut.Changes.{length-put, put_each, object-append}
 use Rattle.heap_model.proofs.Agreements.Written.{reaches_some}
 use Rattle.space.specs.Demand.{asked_by, asked_for}
 use Rattle.space.proofs.Rooms.{new_effect}
+use Rattle.sizing.specs.Counts.{AreBlocks}
 use Rattle.sizing.specs.Meter.{AllFit}
+use Rattle.sizing.proofs.Counts.Counting.{are_same}
 
 -- the object for which a change asks
 asked_some : (g : Graph) (x : Change) (shape : Shape) → IsFounded g x → new_shape x ≡ Some shape → (fits shape ≡ true) × ((class : ℕ) → asked_by x class ≡ needed shape class)
@@ -46,6 +48,12 @@ asked_none (changes.Leave m) class e = refl
 
 pub asks_none : (g : Graph) (m : ℕ) (c : Command) (class : ℕ) → new_shape (change_by true g m c) ≡ None → asked_for g m c class ≡ 0
 asks_none g m c class e = asked_none (change_by true g m c) class e
+
+-- the blocks of the shape for which is asked, or of none
+pub asked_so : (g : Graph) (m : ℕ) (c : Command) (blocks : List ℕ) (shape : Option Shape) → length g.roots ≡ root_cells g.limits → shape ≡ new_shape (change_by true g m c) → IfSome shape (λ s. fits s ≡ true → AreBlocks blocks (needed s))
+    → (IsNone shape → AreBlocks blocks (λ class. 0)) → AreBlocks blocks (asked_for g m c)
+asked_so g m c blocks (Some shape) row e some none = let a = asks_some g m c shape row (sym e) in are_same blocks (needed shape) (asked_for g m c) (λ class low. a.1 class) (some a.0)
+asked_so g m c blocks None row e some none = are_same blocks (λ class. 0) (asked_for g m c) (λ class low. asks_none g m c class (sym e)) (none refl)
 
 -- whether a change makes an object
 abbrev makes : Change → Bool

@@ -6,7 +6,7 @@ use Rattle.heap_model.specs.State.{HeapState}
 use Rattle.heap_model.specs.Event.{Course, Event, Command_done, Cycle_begun, Begin_refused, Quantum_done, Quantum_refused, Runs, Collects, IsCourse, present_of}
 use Rattle.heap_model.proofs.Represents.{idle_chain}
 use Rattle.heap_model.proofs.Event.Kept.{does_course, collects_present}
-use Rattle.space.specs.Tally.{awaits_sweep_end}
+use Rattle.heap_model.specs.Phases.{awaits_sweep_end}
 use Rattle.space.specs.Pace.{Beat, next_beat, in_cycle}
 use Rattle.space.proofs.Paces.Pacing.{idle_phase}
 use Rattle.space.proofs.Paces.Moved.{chain_tracing}

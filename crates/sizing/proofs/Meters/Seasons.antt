@@ -5,7 +5,7 @@ use Rattle.graph_heap.specs.History.{after_entry}
 use Rattle.heap_model.specs.declared.phase.Phase.{Phase}
 use Rattle.heap_model.specs.Event.{Course, Event, Command_done, Cycle_begun, Begin_refused, Quantum_done, Quantum_refused, Runs}
 use Rattle.space.specs.Demand.{blocks_of}
-use Rattle.space.specs.Tally.{awaits_sweep_end}
+use Rattle.heap_model.specs.Phases.{awaits_sweep_end}
 use Rattle.space.proofs.Paces.Moved.{chain_tracing}
 use Rattle.fragmentation.specs.Season.{Season, Lives, made_since, season_swept, season_after, Keeps, AllKeep}
 use Rattle.sizing.specs.Meter.{season_at, none_live, Anything, AreQuanta}

@@ -66,7 +66,7 @@ module _ (config : Config) (h : HeapState) (o : IsOpening h) (same : settings_of
       let k = config.collector_ticks * config.rate in
       ap (λ z. (z + moving_units h + 255 * (moving_units h / (k - 255) + 1)) / k + 1) same_swept ∙ ap (λ z. (swept_at config config.pages + z + 255 * (z / (k - 255) + 1)) / k + 1) same_moving
 
-  same_unmoved : unmoved_quanta h (config.collector_ticks * config.rate) ≡ unmoved_quanta_at config config.pages
+  pub same_unmoved : unmoved_quanta h (config.collector_ticks * config.rate) ≡ unmoved_quanta_at config config.pages
   same_unmoved = ap (λ z. z / (config.collector_ticks * config.rate) + 1) same_swept
 
   pub same_spare : spare_of h ≡ spare_in config

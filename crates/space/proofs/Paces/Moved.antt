@@ -25,7 +25,8 @@ use Rattle.heap_model.proofs.QuantumSpending.Costs.{turn_left}
 use Rattle.heap_model.proofs.Left.{change_left}
 use Rattle.heap_model.proofs.Change.Changed.{represents_changed}
 use Rattle.heap_model.proofs.Event.Kept.{founded, present_row, opening_course}
-use Rattle.space.specs.Tally.{Tally, opening_tally, after_event, awaits_sweep_end, AllKeepTo}
+use Rattle.heap_model.specs.Phases.{awaits_sweep_end}
+use Rattle.space.specs.Tally.{Tally, opening_tally, after_event, AllKeepTo}
 use Rattle.space.specs.Pace.{Pace, Beat, opening_beat, in_cycle, KeepsPace, AllKeepPace, moving_units, moved_quanta, demand_of}
 use Rattle.space.proofs.Paces.Pacing.{idle_phase, quanta_after, runs_keep, opening_paced}
 use Rattle.space.proofs.Paces.Spending.{limit_stays, same_swept, swept_kept, all_spent, few_quanta}

@@ -29,7 +29,8 @@ use Rattle.heap_model.proofs.Cut.Changes.{length-put}
 use Rattle.heap_model.proofs.Event.Freed.{objects_stay}
 use Rattle.heap_model.proofs.Event.Kept.{enters_graph, enters_present, begins_present, collects_present, does_course}
 use Rattle.space.specs.Demand.{LiveWithin, blocks_of, asked_for, asked_by}
-use Rattle.space.specs.Tally.{Tally, opening_tally, after_event, awaits_sweep_end, KeepsTo, AllKeepTo}
+use Rattle.heap_model.specs.Phases.{awaits_sweep_end}
+use Rattle.space.specs.Tally.{Tally, opening_tally, after_event, KeepsTo, AllKeepTo}
 use Rattle.space.specs.Placement.{KeepsShapes}
 use Rattle.space.specs.Pace.{Pace, Beat, opening_beat, next_beat, in_cycle, KeepsPace, AllKeepPace, demand_of}
 use Rattle.space.proofs.Placement.Changing.{shapes_kept}
@@ -132,6 +133,10 @@ idle_phase (phases.Marking part cell) e = absurd (cc)
 idle_phase (phases.Sweeping page block) e = absurd (cc)
 idle_phase (phases.Moving m) e = absurd (cc)
 
+-- a command leaves the cycle as it is
+pub command_left : (r new : Course) (m : ℕ) (c : Command) (reply : Reply) → Enters r m c reply new → LeavesCycle r.heap new.heap
+command_left r new m c reply e = change_left r.heap new.heap (present_of r) (change_by (room_for r.heap c) (present_of r) m c) e.change
+
 module _ (p : Pace) (k most : ℕ) where
   times : (class : ℕ) (n : ℕ) → n + 1 ≤ most → n * p.busy class + p.busy class ≤ most * p.busy class
   times class n l = let m = mul-le-mul_right (p.busy class) l in let e : (n + 1) * p.busy class ≡ n * p.busy class + p.busy class = next_times n (p.busy class) in omega (arith, m, e)
@@ -156,7 +161,7 @@ module _ (p : Pace) (k most : ℕ) where
   paced_command r new t b n m c reply w i keeps e = record {
     graph = enters_graph r new m c reply w e t.graph i.graph;
     same = enters_graph r new m c reply w e b.graph i.same;
-    cycle_running = i.cycle_running ∙ ap in_cycle (sym left.phase);
+    cycle_running = i.cycle_running ∙ ap in_cycle (sym (command_left r new m c reply e).phase);
     last = (let l = i.last in let q = longer in omega (arith, l, q));
     base = (let l = i.base in let q = longer in omega (arith, l, q));
     asked = keeps;
@@ -169,9 +174,6 @@ module _ (p : Pace) (k most : ℕ) where
 
       change : Change
       change = change_by (room_for r.heap c) g m c
-
-      left : LeavesCycle r.heap new.heap
-      left = change_left r.heap new.heap g change e.change
 
       next : Graph
       next = (after_event t (Command_done m c reply)).graph

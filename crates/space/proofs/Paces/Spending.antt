@@ -18,7 +18,7 @@ use Rattle.heap_model.proofs.Represents.{idle_chain}
 use Rattle.heap_model.proofs.QuantumSpending.Quanta.{chain_units}
 use Rattle.heap_model.proofs.Bound.{chain_limit, spent_more}
 use Rattle.heap_model.proofs.Left.{change_left}
-use Rattle.space.specs.Tally.{awaits_sweep_end}
+use Rattle.heap_model.specs.Phases.{awaits_sweep_end}
 use Rattle.space.specs.Pace.{in_cycle}
 use Rattle.space.proofs.Paces.Pacing.{idle_phase, quanta_after}
 

@@ -19,7 +19,8 @@ use Rattle.heap_model.proofs.Action.Moving.{same_number}
 use Rattle.heap_model.proofs.Settings.{does_settings}
 use Rattle.heap_model.proofs.Event.Kept.{does_course, opening_course}
 use Rattle.space.specs.Demand.{Demand, blocks_for}
-use Rattle.space.specs.Tally.{Tally, opening_tally, after_event, awaits_sweep_end, KeepsTo, AllKeepTo, EveryNewFindsRoom}
+use Rattle.heap_model.specs.Phases.{awaits_sweep_end}
+use Rattle.space.specs.Tally.{Tally, opening_tally, after_event, KeepsTo, AllKeepTo, EveryNewFindsRoom}
 use Rattle.space.specs.Space.{space_for, pages_for, below_of}
 use Rattle.space.specs.Counts.{evacuating_pages}
 use Rattle.space.specs.Placement.{MayEvacuate, MaySpare, HasBoundedPages}

@@ -26,7 +26,7 @@ use Rattle.heap_model.proofs.Store.Allocated.{set_page, page_within, allocated_b
 use Rattle.heap_model.proofs.Action.Moving.{same_number, usable_fits, below_end}
 use Rattle.heap_model.proofs.Collector.Coherence.{stage_at}
 use Rattle.heap_model.proofs.Spent.Actions.{moved_main}
-use Rattle.space.specs.Tally.{awaits_sweep_end}
+use Rattle.heap_model.specs.Phases.{awaits_sweep_end}
 use Rattle.space.specs.Placement.{class_in, IsTidy, KeepsOnly}
 
 pub not_same : (a b : ℕ) → (a == b) ≡ false → a ≢ b

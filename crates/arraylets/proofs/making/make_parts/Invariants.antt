@@ -12,5 +12,5 @@ invariant-loop-part l = record {
   made : Made l.fn.nodes l.shape l.colour l.identity l.spines l.part l.nodes;
   room : has_room l.nodes.pages (needed_from (cells_of l.shape) l.part (parts_in (cells_of l.shape))) ≡ true;
   links : KeepsLinks l.fn.nodes l.nodes;
-  within : get_or l.spines 0 0 ≤ 8388608;
+  within : get_or l.spines 0 0 ≤ 2147483648;
 }

@@ -1,5 +1,6 @@
 use Rattle.std.proofs.Common.{rules, ◌≡◌, ◌∙◌, refl, sym, true, false, SFits, w64, to_z, of_z}
 use Rattle.std.proofs.lemmas.Int.{to_z-of_z}
+use Rattle.settings.specs.declared.ranges.Ranges.TheVariants.{File}
 use Rattle.settings.specs.Keys.{row_of, is_allowed}
 use Rattle.toml.proofs.Views.{table_get}
 use Rattle.toml.specs.View.{table_view}
@@ -16,7 +17,7 @@ returns-in_default c =
     let told = c.mutators_in-mutators in
     let fits : SFits w64 told.result = search rules in
     let same : to_z w64 (of_z w64 told.result) ≡ m = to_z-of_z w64 told.result fits ∙ told.ensures in
-    let default : c.row.result.default ≡ (row_of m key).default = rw same at c.row.ensures.default in
+    let default : c.row.result.default ≡ (row_of File m key).default = rw same at c.row.ensures.default in
     record {
       fault = rw (← here, c.ok_or.ensures.value) (missing_fault m key _ default);
       value = rw (← here, c.ok_or.ensures.value) (missing_value m key _ default);
@@ -35,7 +36,7 @@ returns-in-Some-as_integer c =
     let told = c.mutators_in-mutators in
     let told_fits : SFits w64 told.result = search rules in
     let mutators : to_z w64 (of_z w64 told.result) ≡ m = to_z-of_z w64 told.result told_fits ∙ told.ensures in
-    let allowed : is_allowed m c.args.key (to_z w64 (of_z w64 number)) ≡ true = rw mutators at (sym c.allows.ensures ∙ c.if-allows.true) in
+    let allowed : is_allowed File m c.args.key (to_z w64 (of_z w64 number)) ≡ true = rw mutators at (sym c.allows.ensures ∙ c.if-allows.true) in
     record {
       fault = rw (← here, whole, rw same at allowed) refl;
       value = rw (← here, whole) same;
@@ -53,7 +54,7 @@ returns-in-Some-2 c =
     let told = c.mutators_in-mutators in
     let told_fits : SFits w64 told.result = search rules in
     let mutators : to_z w64 (of_z w64 told.result) ≡ m = to_z-of_z w64 told.result told_fits ∙ told.ensures in
-    let outside : is_allowed m c.args.key number ≡ false = rw (mutators, to_z-of_z w64 number fits) at (sym c.allows.ensures ∙ c.if-allows.false) in
+    let outside : is_allowed File m c.args.key number ≡ false = rw (mutators, to_z-of_z w64 number fits) at (sym c.allows.ensures ∙ c.if-allows.false) in
     record { fault = rw (← here, whole, outside) refl; value = tt; within = λ some. tt }
 
 pub returns-in-None : goal.returns-in-None

@@ -2,6 +2,7 @@ use Rattle.std.proofs.Common.{◌≡◌, ◌∙◌, None, refl, true, SFits, w64
 use Rattle.std.proofs.lemmas.Int.{ints, to_z-of_z}
 use Rattle.settings.specs.declared.key.Key.TheVariants.{Pages, Mutators, Slots, Statics, Identities, DefragBelow, DefragPages, CollectorTicks, MutatorTicks, Rate, Live}
 use Rattle.settings.specs.declared.settings.Settings.{Settings}
+use Rattle.settings.specs.declared.ranges.Ranges.TheVariants.{File}
 use Rattle.settings.specs.Keys.{is_allowed}
 use Rattle.settings.specs.Config.{first_outside}
 use Rattle.toml.specs.Data.{Members}
@@ -12,21 +13,21 @@ use Rattle.command_line.proofs.document.settings_in.Goals as goal
 
 -- settings, each of which is in its range, where that has a number
 settings_within : (document : Members) (s : Settings) → s.mutators ≡ number_for document Mutators
-    → (HasRange document Pages → is_allowed (mutators_of document) Pages s.pages ≡ true)
-    → (HasRange document Mutators → is_allowed (mutators_of document) Mutators s.mutators ≡ true)
-    → (HasRange document Slots → is_allowed (mutators_of document) Slots s.slots ≡ true)
-    → (HasRange document Statics → is_allowed (mutators_of document) Statics s.statics ≡ true)
-    → (HasRange document Identities → is_allowed (mutators_of document) Identities s.identities ≡ true)
-    → (HasRange document DefragBelow → is_allowed (mutators_of document) DefragBelow s.defrag_below ≡ true)
-    → (HasRange document DefragPages → is_allowed (mutators_of document) DefragPages s.defrag_pages ≡ true)
-    → (HasRange document CollectorTicks → is_allowed (mutators_of document) CollectorTicks s.collector_ticks ≡ true)
-    → (HasRange document MutatorTicks → is_allowed (mutators_of document) MutatorTicks s.mutator_ticks ≡ true)
-    → (HasRange document Rate → is_allowed (mutators_of document) Rate s.rate ≡ true)
-    → (HasRange document Live → is_allowed (mutators_of document) Live s.live ≡ true)
-    → first_outside s ≡ None
+    → (HasRange document Pages → is_allowed File (mutators_of document) Pages s.pages ≡ true)
+    → (HasRange document Mutators → is_allowed File (mutators_of document) Mutators s.mutators ≡ true)
+    → (HasRange document Slots → is_allowed File (mutators_of document) Slots s.slots ≡ true)
+    → (HasRange document Statics → is_allowed File (mutators_of document) Statics s.statics ≡ true)
+    → (HasRange document Identities → is_allowed File (mutators_of document) Identities s.identities ≡ true)
+    → (HasRange document DefragBelow → is_allowed File (mutators_of document) DefragBelow s.defrag_below ≡ true)
+    → (HasRange document DefragPages → is_allowed File (mutators_of document) DefragPages s.defrag_pages ≡ true)
+    → (HasRange document CollectorTicks → is_allowed File (mutators_of document) CollectorTicks s.collector_ticks ≡ true)
+    → (HasRange document MutatorTicks → is_allowed File (mutators_of document) MutatorTicks s.mutator_ticks ≡ true)
+    → (HasRange document Rate → is_allowed File (mutators_of document) Rate s.rate ≡ true)
+    → (HasRange document Live → is_allowed File (mutators_of document) Live s.live ≡ true)
+    → first_outside File s ≡ None
 settings_within document s same pages mutators slots statics identities defrag_below defrag_pages collector_ticks mutator_ticks rate live =
     let e : s.mutators ≡ mutators_of document = same ∙ mutators_same document in
-    let m : is_allowed (mutators_of document) Mutators (mutators_of document) ≡ true = rw e at (mutators (omega (arith, ints))) in
+    let m : is_allowed File (mutators_of document) Mutators (mutators_of document) ≡ true = rw e at (mutators (omega (arith, ints))) in
     rw (e, m, pages (omega (arith, ints)), slots (omega (arith, ints)), statics (omega (arith, ints)), identities (omega (arith, ints)), defrag_below (omega (arith, ints)), defrag_pages (omega (arith, ints)), collector_ticks (omega (arith, ints)), mutator_ticks (omega (arith, ints)), rate (omega (arith, ints)), live (some_live _ m)) refl
 
 pub returns-clause-ranges : goal.returns-clause-ranges

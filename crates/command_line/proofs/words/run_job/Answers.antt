@@ -1,7 +1,7 @@
-use Rattle.std.proofs.Common.{List, ℕ, ◌∙◌, [], map, subst, refl, sym, Some, rules}
-use Rattle.std.specs.Prelude.{codes, unwrap_or}
+use Rattle.std.proofs.Common.{List, ℕ, ◌∙◌, map, subst, refl, sym, Some, rules}
+use Rattle.std.specs.Prelude.{codes}
 use Rattle.std.specs.List.{AllZip}
-use Rattle.clap.specs.Words.{found_of, rows_of, all_of}
+use Rattle.clap.specs.Words.{found_of}
 use Rattle.command_line.specs.Words.{IsNumber}
 use Rattle.command_line.proofs.Found.{all_found, words_in}
 use Rattle.command_line.proofs.words.run_job.Goals as goal

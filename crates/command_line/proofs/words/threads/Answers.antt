@@ -1,4 +1,4 @@
-use Rattle.std.proofs.Common.{rules, arith}
+use Rattle.std.proofs.Common.{arith}
 use Rattle.command_line.proofs.words.threads.Goals as goal
 
 pub returns-clause-range : goal.returns-clause-range

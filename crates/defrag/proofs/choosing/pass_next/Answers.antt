@@ -15,6 +15,9 @@ use Rattle.defrag.proofs.choosing.pass_next.Goals as goal
 pub look_next-requires-clause-pass : goal.look_next-requires-clause-pass
 look_next-requires-clause-pass c = In_pass c.args.class c.args.page c.args.candidate c.args.chosen c.requires.phase
 
+pub look_next-requires-clause-chosen : goal.look_next-requires-clause-chosen
+look_next-requires-clause-chosen c = (subst (IsWithin (state_of c.args.heap.now)) c.requires.phase c.requires.heap.heap.represents.within).3
+
 pub charge-requires : goal.charge-requires
 charge-requires c = let u = units_small c.args.heap.now c.requires.heap in omega arith
 

@@ -11,7 +11,7 @@ use Rattle.nodes.specs.declared.heap_fields.HeapFields.{HeapFields}
 use Rattle.nodes.specs.HeapFields.{state_of}
 use Rattle.nodes.proofs.Chains.{runs_once}
 use Rattle.nodes.proofs.Representing.{units_small}
-use Rattle.defrag.proofs.Moves.{page_in, class_small, chosen_small, looks_again, ends, costs_words, can_move, moves_block}
+use Rattle.defrag.proofs.Moves.{page_in, class_small, looks_again, ends, costs_words, can_move, moves_block}
 use Rattle.defrag.proofs.moving.empty_next.Goals as goal
 
 pub next_move-requires : goal.next_move-requires
@@ -19,9 +19,6 @@ next_move-requires c = page_in c.args.heap.now c.requires.heap c.args.class c.ar
 
 pub page_done-requires-clause-class : goal.page_done-requires-clause-class
 page_done-requires-clause-class c = class_small c.args.heap.now c.requires.heap c.args.class c.args.page c.args.block c.args.chosen c.requires.phase
-
-pub page_done-requires-clause-chosen : goal.page_done-requires-clause-chosen
-page_done-requires-clause-chosen c = chosen_small c.args.heap.now c.requires.heap c.args.class c.args.page c.args.block c.args.chosen c.requires.phase
 
 pub page_done-requires-clause-again : goal.page_done-requires-clause-again
 page_done-requires-clause-again c = looks_again c.args.heap.now c.requires.heap c.args.class c.args.page c.args.block c.args.chosen c.requires.phase (c.next_move.ensures.none (ap is_some c.in_default.is))

@@ -7,7 +7,7 @@ use Rattle.inspector.proofs.by_size.write_classes.Given as goal
 abbrev pub invariant-loop-number : goal.invariant-loop-number
 invariant-loop-number g l = record {
   sum : l.all ≡ summed (filling_of l.heap.store) l.number;
-  within : IsWithin l.all (536870912 * l.number);
+  within : IsWithin l.all (137438953472 * l.number);
   written : g.K.Sink.taken l.sink ≡ g.K.Sink.taken l.fn.sink ++ text_of (classes_lines l.heap.store l.number);
   failures : g.K.Sink.failures l.sink ≡ g.K.Sink.failures l.fn.sink;
 }

@@ -10,10 +10,10 @@ loop-number-init c = record {
 }
 
 pub both-all-requires-clause-some : goal.both-all-requires-clause-some
-both-all-requires-clause-some c = within_more c.loop-number.all (131072 * c.loop-number.number) 1099511627776 c.loop-number.invariant.within (omega (arith, c.loop-number-test.true, c.pages-number-end.ensures.within))
+both-all-requires-clause-some c = within_more c.loop-number.all (131072 * c.loop-number.number) 8796093022208 c.loop-number.invariant.within (omega (arith, c.loop-number-test.true, c.pages-number-end.ensures.within))
 
 pub both-all-requires-clause-others : goal.both-all-requires-clause-others
-both-all-requires-clause-others c = within_more c.filling_on.result 131072 1099511627776 c.filling_on.ensures.within (omega arith)
+both-all-requires-clause-others c = within_more c.filling_on.result 131072 8796093022208 c.filling_on.ensures.within (omega arith)
 
 pub loop-number-preserved : goal.loop-number-preserved
 loop-number-preserved c =
@@ -29,4 +29,4 @@ returns-clause-filling c =
     c.loop-number.invariant.filling ∙ ap (summed (filling_on c.args.heap.now.store c.args.class)) e
 
 pub returns-clause-within : goal.returns-clause-within
-returns-clause-within c = within_more c.loop-number.all (131072 * c.loop-number.number) 536870912 c.loop-number.invariant.within (omega (arith, c.pages-number-end.ensures.within))
+returns-clause-within c = within_more c.loop-number.all (131072 * c.loop-number.number) 137438953472 c.loop-number.invariant.within (omega (arith, c.pages-number-end.ensures.within))

@@ -72,3 +72,6 @@ returns-in_err-part-clause-buffers c = ap (λ (x : HeapFields). x.grey.buffers) 
 
 pub returns-in_err-part-clause-same : goal.returns-in_err-part-clause-same
 returns-in_err-part-clause-same c = taken_same c.args.heap.now c.pop_grey.new.heap c.pop_grey.ensures.same
+
+pub returns-clause-count : goal.returns-clause-count
+returns-clause-count c = (omega arith, omega (arith, c.requires.room))

@@ -1,4 +1,5 @@
 use Rattle.std.proofs.Common.{inl, inr, refl, arith}
+use Rattle.player.specs.declared.style.Style.TheVariants.{Nothing}
 use Rattle.player.specs.Playing.{session}
 use Rattle.streams.specs.Streams.{given_by}
 use Rattle.trace.specs.declared.fault.PlayFault.TheVariants as texts
@@ -11,19 +12,19 @@ use Rattle.metronome.proofs.after.player_after.Goals as goal
 pub returns-in_err-player-clause-play : goal.returns-in_err-player-clause-play
 returns-in_err-player-clause-play g c = rw (failed_so c.from_residual.result (faults.Text texts.NoMemory) c.from_residual.ensures.1) (inl (refl, refl, refl))
 
-pub returns-in_err-play_silently-clause-play : goal.returns-in_err-play_silently-clause-play
-returns-in_err-play_silently-clause-play g c =
-    rw (failed_so c.from_residual-in_err-play_silently.result _ c.from_residual-in_err-play_silently.ensures.1)
-    (inr (c.in_ok-player.player, c.play_silently.new.player, c.in_err-play_silently.field-0.0, c.in_ok-player.ensures, c.in_err-play_silently.ensures.played, refl))
+pub returns-in_err-play_up_to-clause-play : goal.returns-in_err-play_up_to-clause-play
+returns-in_err-play_up_to-clause-play g c =
+    rw (failed_so c.from_residual-in_err-play_up_to.result _ c.from_residual-in_err-play_up_to.ensures.1)
+    (inr (c.in_ok-player.player, c.play_up_to.new.player, c.in_err-play_up_to.field-0.0, c.in_ok-player.ensures, c.in_err-play_up_to.ensures.played, refl))
 
 pub returns-clause-play : goal.returns-clause-play
-returns-clause-play g c = (c.in_ok-player.player, c.in_ok-player.ensures, c.in_ok-play_silently.ensures.played)
+returns-clause-play g c = (c.in_ok-player.player, c.in_ok-player.ensures, c.in_ok-play_up_to.ensures.played)
 
 pub returns-clause-settings : goal.returns-clause-settings
 returns-clause-settings g c =
-    let given = given_by g.S.Source.given g.S.Source.ended c.args.source.now c.play_silently.new.source in
-    let new = session c.play_silently.new.player (g.K.Sink.taken c.play_silently.new.sink) in
-    played_settings c.args.config.now c.args.after given (session c.in_ok-player.player (g.K.Sink.taken c.args.sink.now)) new c.in_ok-player.ensures c.in_ok-play_silently.ensures.played
+    let given = given_by g.S.Source.given g.S.Source.ended c.args.source.now c.play_up_to.new.source in
+    let new = session c.play_up_to.new.player (g.K.Sink.taken c.play_up_to.new.sink) in
+    played_settings c.args.config.now c.args.after Nothing given (session c.in_ok-player.player (g.K.Sink.taken c.args.sink.now)) new c.in_ok-player.ensures c.in_ok-play_up_to.ensures.played
 
 pub returns-in_err-player-clause-reads : goal.returns-in_err-player-clause-reads
 returns-in_err-player-clause-reads g c = omega (arith, memory_unread c.from_residual.result c.from_residual.ensures.1)
@@ -31,8 +32,8 @@ returns-in_err-player-clause-reads g c = omega (arith, memory_unread c.from_resi
 pub returns-in_err-player-clause-writes : goal.returns-in_err-player-clause-writes
 returns-in_err-player-clause-writes g c = omega (arith, memory_unwritten c.from_residual.result c.from_residual.ensures.1)
 
-pub returns-in_err-play_silently-clause-reads : goal.returns-in_err-play_silently-clause-reads
-returns-in_err-play_silently-clause-reads g c = reads_text c.from_residual-in_err-play_silently.result c.in_err-play_silently.field-0.0 _ _ c.from_residual-in_err-play_silently.ensures.1 c.in_err-play_silently.ensures.reads
+pub returns-in_err-play_up_to-clause-reads : goal.returns-in_err-play_up_to-clause-reads
+returns-in_err-play_up_to-clause-reads g c = reads_text c.from_residual-in_err-play_up_to.result c.in_err-play_up_to.field-0.0 _ _ c.from_residual-in_err-play_up_to.ensures.1 c.in_err-play_up_to.ensures.reads
 
-pub returns-in_err-play_silently-clause-writes : goal.returns-in_err-play_silently-clause-writes
-returns-in_err-play_silently-clause-writes g c = writes_text c.from_residual-in_err-play_silently.result c.in_err-play_silently.field-0.0 _ _ c.from_residual-in_err-play_silently.ensures.1 c.in_err-play_silently.ensures.writes
+pub returns-in_err-play_up_to-clause-writes : goal.returns-in_err-play_up_to-clause-writes
+returns-in_err-play_up_to-clause-writes g c = writes_text c.from_residual-in_err-play_up_to.result c.in_err-play_up_to.field-0.0 _ _ c.from_residual-in_err-play_up_to.ensures.1 c.in_err-play_up_to.ensures.writes

@@ -5,5 +5,5 @@ use Rattle.metronome.proofs.load_job.measure_text.Goals as goal
 pub returns-clause-measured : goal.returns-clause-measured
 returns-clause-measured c =
     let s = c.new-source in
-    let m = c.measure in
-    (_, reads_text _ s.result m.new.source s.ensures.bytes s.ensures.place (m.ensures.input (omega (arith, m.ensures.reads))), m.ensures.measured)
+    let m = c.survey_run in
+    (_, reads_text _ s.result m.new.source s.ensures.bytes s.ensures.place (m.ensures.input (omega (arith, m.ensures.reads))), m.ensures.surveyed)

@@ -1,4 +1,4 @@
-use Rattle.std.proofs.Common.{List, ℕ, Err, Ok, inl, inr, refl, subst, arith}
+use Rattle.std.proofs.Common.{Err, Ok, inl, inr, refl, subst, arith}
 use Rattle.command_line.specs.Document.{IsRead}
 use Rattle.trace.proofs.LinesProcessed.{stays_same}
 use Rattle.streams.specs.Streams.{taken_by}
@@ -38,7 +38,7 @@ returns-then-eq-clause-done g c =
     let taken = taken_by g.K.Sink.taken c.args.sink.now c.serve.new.sink in
     let read = config_read (contents request.config.now) c.in_ok-bytes.bytes.items (Ok config) c.in_ok-bytes.ensures.bytes (subst (λ bytes. IsRead bytes (Ok config)) c.as_slice.ensures.value c.in_ok-config.ensures) in
     let stays = none_given input (g.R.Read.remaining c.new.result.reader) _ c.new.ensures.given (left_of input g.R.Read.remaining c.new.result.reader c.args.input c.new.ensures.reader (stays_same input)) in
-    let done = job_on _ input _ request.job config taken c.serve.result c.new.ensures.given stays c.serve.ensures.done.1 c.serve.ensures.done.3 in
+    let done = job_on contents _ input _ request.job config taken c.serve.result c.new.ensures.given stays c.serve.ensures.done.1 c.serve.ensures.done.3 in
     inl (config, read, on_input contents input request.file.now request.job config taken c.serve.result c.if-eq.ensures done)
 
 pub returns-clause-done : goal.returns-clause-done
@@ -51,5 +51,5 @@ returns-clause-done g c =
     let read = config_read (contents request.config.now) c.in_ok-bytes.bytes.items (Ok config) c.in_ok-bytes.ensures.bytes (subst (λ bytes. IsRead bytes (Ok config)) c.as_slice.ensures.value c.in_ok-config.ensures) in
     let known = contents request.file.now in
     let stays = none_given known (g.O.File.Read.remaining c.new-2.result.reader) _ c.new-2.ensures.given (left_of known g.O.File.Read.remaining c.new-2.result.reader c.in_ok-file.file c.new-2.ensures.reader c.in_ok-file.ensures.file) in
-    let done = job_on _ known _ request.job config taken c.serve-2.result c.new-2.ensures.given stays c.serve-2.ensures.done.1 c.serve-2.ensures.done.3 in
+    let done = job_on contents _ known _ request.job config taken c.serve-2.result c.new-2.ensures.given stays c.serve-2.ensures.done.1 c.serve-2.ensures.done.3 in
     inl (config, read, on_file contents input request.file.now request.job config taken c.serve-2.result c.if-eq.ensures done)

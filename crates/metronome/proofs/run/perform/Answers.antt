@@ -1,4 +1,5 @@
-use Rattle.std.proofs.Common.{inl, inr, refl}
+use Rattle.std.proofs.Common.{inl, inr, refl, subst, sym}
+use Rattle.command_line.specs.Words.{IsHelp}
 use Rattle.streams.specs.Streams.{taken_by}
 use Rattle.trace.specs.declared.fault.PlayFault.TheVariants as texts
 use Rattle.metronome.specs.declared.fault.Ending.TheVariants.{Done}
@@ -13,4 +14,4 @@ returns-in_err-write_all-in-Err-Help-clause-done g c =
     let taken = taken_by g.K.Sink.taken c.args.sink.now c.write_all.new.sink in
     let told : TextWritten Done help taken c.from_residual.result =
     rw (failed_so c.from_residual.result (faults.Text texts.Write) c.from_residual.ensures.1) (refl, c.in_err-write_all-in-Err-Help.ensures.err) in
-    inr (inl (help, told))
+    inr (inl (c.in-Err-Help.ensures.help (subst IsHelp (sym c.in-Err-Help.field-0-is) tt), help, told))

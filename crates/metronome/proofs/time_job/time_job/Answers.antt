@@ -4,13 +4,14 @@ use Rattle.streams.specs.Streams.{GrowsByPart, given_by}
 use Rattle.pictures.specs.declared.sample.Sample.{Sample}
 use Rattle.pictures.specs.declared.over_time.Scale.{Scale}
 use Rattle.pictures.specs.OverTime.{time_picture}
+use Rattle.pictures.specs.Taking.{AreSamplesOf}
 use Rattle.metronome.specs.declared.fault.Ending.{Ending}
 use Rattle.metronome.specs.declared.fault.RunFault.{RunFault}
 use Rattle.metronome.specs.declared.fault.Ending.TheVariants.{Done}
 use Rattle.metronome.specs.OverTime.{samples_picture}
 use Rattle.metronome.specs.Told.{TextWritten}
 use Rattle.metronome.proofs.Finishing.{failed_so}
-use Rattle.metronome.proofs.Failing.{reads_text, text_unwritten, samples_unwritten, none_read, one_written}
+use Rattle.metronome.proofs.Failing.{reads_text, text_unwritten, surveyed_unwritten, none_read, one_written}
 use Rattle.metronome.proofs.time_job.time_job.Goals as goal
 
 pub returns-in_err-draw_time-clause-done : goal.returns-in_err-draw_time-clause-done
@@ -23,13 +24,13 @@ returns-in_err-draw_time-clause-done g c =
     let Drawn : Result Ending RunFault → Type 0 = λ r. TextWritten Done (samples_picture c.args.config.now samples) (record { before = old; after = new }) r in
     let part = subst Scaled c.scale-scale.ensures (subst Items c.as_slice.ensures.value c.in_err-draw_time.ensures.err) in
     let failed = failed_so c.from_residual-in_err-draw_time.result _ c.from_residual-in_err-draw_time.ensures.1 in
-    (Ok samples, c.in_ok-samples.ensures.taken, subst Drawn (sym failed) (refl, part))
+    (Ok samples, c.in_ok-samples.ensures.surveyed, subst Drawn (sym failed) (refl, part))
 
 pub returns-in_err-samples-clause-reads : goal.returns-in_err-samples-clause-reads
 returns-in_err-samples-clause-reads g c = reads_text c.from_residual.result c.in_err-samples.field-0.0 _ _ c.from_residual.ensures.1 c.in_err-samples.ensures.reads
 
 pub returns-in_err-samples-clause-writes : goal.returns-in_err-samples-clause-writes
-returns-in_err-samples-clause-writes g c = omega (arith, text_unwritten c.from_residual.result c.in_err-samples.field-0.0 c.from_residual.ensures.1 (samples_unwritten c.args.config.now (given_by g.S.Source.given g.S.Source.ended c.args.source.now c.take_samples.new.source) (Err c.in_err-samples.field-0.0) c.in_err-samples.ensures.taken))
+returns-in_err-samples-clause-writes g c = omega (arith, text_unwritten c.from_residual.result c.in_err-samples.field-0.0 c.from_residual.ensures.1 (surveyed_unwritten AreSamplesOf c.args.config.now (given_by g.S.Source.given g.S.Source.ended c.args.source.now c.survey_run.new.source) (Err c.in_err-samples.field-0.0) c.in_err-samples.ensures.surveyed))
 
 pub returns-in_err-draw_time-clause-reads : goal.returns-in_err-draw_time-clause-reads
 returns-in_err-draw_time-clause-reads g c = omega (arith, none_read c.from_residual-in_err-draw_time.result c.from_residual-in_err-draw_time.ensures.1, c.in_ok-samples.ensures.reads)

@@ -1,6 +1,7 @@
 use Rattle.std.proofs.Common.{rules, ◌≡◌, ◌∙◌, sym, ap}
 use Rattle.std.specs.Prelude.{Some, None}
 use Rattle.std.specs.Result.{result_err}
+use Rattle.settings.specs.declared.ranges.Ranges.TheVariants.{Library}
 use Rattle.settings.specs.Config.{fault_of}
 use Rattle.metronome_c.proofs.Limits.{limit_told, limit_refused}
 use Rattle.metronome_c.proofs.limit.metronome_cycle_limit.Goals as goal
@@ -8,11 +9,11 @@ use Rattle.metronome_c.proofs.limit.metronome_cycle_limit.Goals as goal
 pub returns-in-Ok : goal.returns-in-Ok
 returns-in-Ok c =
     let s = c.args.settings.now in
-    let f : None ≡ fault_of s = ap result_err (sym c.in-Ok.is) ∙ c.check.ensures.fault in
+    let f : None ≡ fault_of Library s = ap result_err (sym c.in-Ok.is) ∙ c.check.ensures.fault in
     limit_told s c.in-Ok.config _ _ _ f c.in-Ok.ensures.values (search rules) (search rules)
 
 pub returns-in-Err : goal.returns-in-Err
 returns-in-Err c =
     let s = c.args.settings.now in
-    let f : Some c.in-Err.fault ≡ fault_of s = ap result_err (sym c.in-Err.is) ∙ c.check.ensures.fault in
+    let f : Some c.in-Err.fault ≡ fault_of Library s = ap result_err (sym c.in-Err.is) ∙ c.check.ensures.fault in
     limit_refused s c.in-Err.fault _ _ f (search rules)

@@ -12,4 +12,4 @@ pub forward_of-requires : goal.forward_of-requires
 forward_of-requires c = omega (arith, thread_within c.args.page c.args.class c.args.index c.size.result c.size.ensures.size c.size.ensures.within.0 c.requires.block, c.requires.within)
 
 pub returns : goal.returns
-returns c = flag_by c.args.arena.now c.args.page c.args.class c.size.result c.args.index c.forward_of.result _ c.size.ensures.size c.requires.block c.forward_of.ensures refl
+returns c = flag_by c.args.arena.now.words c.args.page c.args.class c.size.result c.args.index c.forward_of.result _ c.size.ensures.size c.requires.block c.forward_of.ensures refl

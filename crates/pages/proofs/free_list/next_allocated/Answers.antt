@@ -10,6 +10,6 @@ returns-then-is_taken-clause-some c = (omega arith, c.is_taken.ensures ∙ ap So
 pub loop-i-preserved : goal.loop-i-preserved
 loop-i-preserved c =
     λ k l h. elim (cases_eq k c.loop-i.i) [
-      | inl e ↦ subst (λ n. slice_get (flags_of c.args.arena.now (2048 * c.args.page) c.args.class) n ≡ Some false) (let f : c.loop-i.i ≡ k = omega (arith, e) in f) (c.is_taken.ensures ∙ ap Some c.if-is_taken.false)
+      | inl e ↦ subst (λ n. slice_get (flags_of c.args.arena.now.words (2048 * c.args.page) c.args.class) n ≡ Some false) (let f : c.loop-i.i ≡ k = omega (arith, e) in f) (c.is_taken.ensures ∙ ap Some c.if-is_taken.false)
       | inr ne ↦ c.loop-i.invariant k l (omega (arith, h, ne))
     ]

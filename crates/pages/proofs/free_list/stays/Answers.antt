@@ -13,7 +13,7 @@ pub has_colour-requires : goal.has_colour-requires
 has_colour-requires c = omega (arith, thread_within c.args.page c.args.class c.args.index c.size.result c.size.ensures.size c.size.ensures.within.0 c.requires.block, c.requires.within)
 
 pub returns-then-is_taken-clause-stays : goal.returns-then-is_taken-clause-stays
-returns-then-is_taken-clause-stays c = λ e allocated. colour_there c.args.arena.now c.args.colour c.args.page c.args.class c.args.index c.size.result c.has_colour.result c.size.ensures.size c.has_colour.ensures ∙ e
+returns-then-is_taken-clause-stays c = λ e allocated. colour_there c.args.arena.now.words c.args.colour c.args.page c.args.class c.args.index c.size.result c.has_colour.result c.size.ensures.size c.has_colour.ensures ∙ e
 
 pub returns-then-is_taken-clause-goes : goal.returns-then-is_taken-clause-goes
-returns-then-is_taken-clause-goes c = λ e. (c.if-is_taken.ensures, colour_there c.args.arena.now c.args.colour c.args.page c.args.class c.args.index c.size.result c.has_colour.result c.size.ensures.size c.has_colour.ensures ∙ e)
+returns-then-is_taken-clause-goes c = λ e. (c.if-is_taken.ensures, colour_there c.args.arena.now.words c.args.colour c.args.page c.args.class c.args.index c.size.result c.has_colour.result c.size.ensures.size c.has_colour.ensures ∙ e)

@@ -9,38 +9,39 @@ use Rattle.pages.proofs.Threading.{blocks_few}
 use Rattle.pages.proofs.free_list.sweep.Goals as goal
 
 pub loop-looked-init : goal.loop-looked-init
-loop-looked-init c = (omega arith, refl, c.requires.chain, refl, λ rows t there. none_yet rows c.args.arena.now c.args.page c.args.row.now there c.args.colour c.args.from t)
+loop-looked-init c = (omega arith, refl, refl, c.requires.chain, refl, λ rows t there. none_yet rows c.args.arena.now.words c.args.page c.args.row.now there c.args.colour c.args.from t)
 
 pub overflow_add-from : goal.overflow_add-from
 overflow_add-from c = let f = blocks_few c.args.row.now.class in omega (arith, c.requires.blocks, f, c.loop-looked-test.true)
 
 pub look-requires-clause-within : goal.look-requires-clause-within
-look-requires-clause-within c = omega (arith, c.requires.within, c.loop-looked.invariant.1)
+look-requires-clause-within c = omega (arith, c.requires.within, c.loop-looked.invariant.2)
 
 pub look-requires-clause-chain : goal.look-requires-clause-chain
 look-requires-clause-chain c =
     let i = c.loop-looked.invariant in
-    subst (λ n. IsFreeList c.loop-looked.arena (2048 * c.args.page) n c.loop-looked.row.first c.loop-looked.row.allocated) (sym (ap (λ (r : PageRow). r.class) i.3)) i.2
+    subst (λ n. IsFreeList c.loop-looked.arena.words (2048 * c.args.page) n c.loop-looked.row.first c.loop-looked.row.allocated) (sym (ap (λ (r : PageRow). r.class) i.4)) i.3
 
 pub look-requires-clause-block : goal.look-requires-clause-block
 look-requires-clause-block c =
-    let e = ap (λ (r : PageRow). blocks_in r.class) c.loop-looked.invariant.3 in
+    let e = ap (λ (r : PageRow). blocks_in r.class) c.loop-looked.invariant.4 in
     omega (arith, c.requires.blocks, c.loop-looked-test.true, e)
 
 pub loop-looked-preserved : goal.loop-looked-preserved
 loop-looked-preserved c =
     let i = c.loop-looked.invariant in let e = c.look.ensures in let next = c.look.new.row in (
       omega (arith, c.loop-looked-test.true),
-      e.len ∙ i.1,
-      subst (λ n. IsFreeList c.look.new.arena (2048 * c.args.page) n next.first next.allocated) (ap (λ (r : PageRow). r.class) i.3) e.chain,
-      e.row ∙ ap (λ (r : PageRow). record r { first = next.first; allocated = next.allocated }) i.3,
-      λ rows t there. one_more rows c.args.arena.now c.args.page c.args.row.now there c.args.colour c.args.from c.loop-looked.looked c.loop-looked.row next c.loop-looked.arena c.look.new.arena (i.4 rows t there) e.together e.looks,
+      e.pages ∙ i.1,
+      e.len ∙ i.2,
+      subst (λ n. IsFreeList c.look.new.arena.words (2048 * c.args.page) n next.first next.allocated) (ap (λ (r : PageRow). r.class) i.4) e.chain,
+      e.row ∙ ap (λ (r : PageRow). record r { first = next.first; allocated = next.allocated }) i.4,
+      λ rows t there. one_more rows c.args.arena.now.words c.args.page c.args.row.now there c.args.colour c.args.from c.loop-looked.looked c.loop-looked.row next c.loop-looked.arena.words c.look.new.arena.words (i.5 rows t there) e.together e.looks,
     )
 
 pub returns-clause-together : goal.returns-clause-together
-returns-clause-together c = λ rows t there. (c.loop-looked.invariant.4 rows t there).0
+returns-clause-together c = λ rows t there. (c.loop-looked.invariant.5 rows t there).0
 
 pub returns-clause-looks : goal.returns-clause-looks
 returns-clause-looks c =
     let i = c.loop-looked.invariant in let all : c.loop-looked.looked ≡ c.args.count = omega (arith, i.0, c.loop-looked-test.false) in λ rows t there.
-    subst (λ n. Looks c.args.colour c.args.page c.args.from (joined rows c.args.arena.now) n (joined (set rows c.args.page (Some c.loop-looked.row)) c.loop-looked.arena)) all (i.4 rows t there).1
+    subst (λ n. Looks c.args.colour c.args.page c.args.from (joined rows c.args.arena.now.words) n (joined (set rows c.args.page (Some c.loop-looked.row)) c.loop-looked.arena.words)) all (i.5 rows t there).1

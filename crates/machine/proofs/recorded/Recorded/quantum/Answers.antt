@@ -1,9 +1,9 @@
 use Rattle.std.proofs.Common.{subst}
-use Rattle.heap_model.specs.Event.{Does, IsCourse, present_of, snapshot_of}
+use Rattle.heap_model.specs.Event.{Does, IsCourse}
 use Rattle.heap_model.proofs.Event.Kept.{does_course}
-use Rattle.heap_model.proofs.Represents.{represents_chain, sweep_change}
 use Rattle.machine.specs.Recorded.{RecordedHeap, recorded_of, quantum_done}
 use Rattle.machine.proofs.Courses.{quantum_does}
+use Rattle.machine.proofs.Headline.{sweeps_end}
 use Rattle.machine.proofs.recorded.Recorded.quantum.Goals as goal
 
 pub invariant_of-self : goal.invariant_of-self
@@ -17,7 +17,4 @@ returns-clause-does c =
     subst (λ (x : RecordedHeap). Does x.course (quantum_done c.args.budget c.quantum.result) (record r { heap = c.quantum.new.self })) c.self.view_is (quantum_does r c.args.budget c.quantum.new.self c.quantum.result c.quantum.ensures.spends)
 
 pub returns-clause-swept : goal.returns-clause-swept
-returns-clause-swept c spent cost h after chain action from to =
-    let r = c.args.self.now.course in
-    let w = subst (λ (x : RecordedHeap). IsCourse x.course) c.self.view_is c.self.invariant in
-    sweep_change h after cost (present_of r) (snapshot_of r) (represents_chain r.heap h spent (present_of r) (snapshot_of r) w.represents chain) action from to
+returns-clause-swept c = sweeps_end c.args.self.now.course (subst (λ (x : RecordedHeap). IsCourse x.course) c.self.view_is c.self.invariant)

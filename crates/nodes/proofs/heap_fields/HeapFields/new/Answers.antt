@@ -15,7 +15,7 @@ pub returns-clause-heap : goal.returns-clause-heap
 returns-clause-heap c =
     let count : length c.in_ok-nodes.nodes.pages ≡ c.args.config.now.pages = new_count c.in_ok-nodes.nodes c.args.config.now.pages _ c.in_ok-nodes.ensures in
     let some : 0 < length c.in_ok-nodes.nodes.pages = (let p = c.args.config.now.pages_in_range.0 in omega arith) in
-    let few : length c.in_ok-nodes.nodes.pages ≤ 4096 = (let p = c.args.config.now.pages_in_range.1 in omega arith) in
+    let few : length c.in_ok-nodes.nodes.pages ≤ 1048576 = (let p = c.args.config.now.pages_in_range.1 in omega arith) in
     let row : length c.in_ok-roots.roots.cells ≤ 16640 = subst (λ (x : RootTable). length x.cells ≤ 16640) c.roots.view_is (subst (λ n. n ≤ 16640) (sym c.roots.invariant.whole) c.roots.invariant.few) in
     opening_heap _ (returns-clause-opening c) some few row c.args.config.now.defrag_pages_in_range
     (ap (λ (g : GreySet). length g.buffers) c.in_ok-grey.ensures ∙ length-replicate {A = ArrayVec ℕ} c.args.config.now.mutators (record { items = [] }) ∙ sym (ap (λ (l : Limits). l.mutators) c.in_ok-roots.ensures.limits))

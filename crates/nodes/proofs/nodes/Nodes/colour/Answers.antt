@@ -3,7 +3,7 @@ use Rattle.nodes.proofs.Writing.{header_inside, colour_by}
 use Rattle.nodes.proofs.nodes.Nodes.colour.Goals as goal
 
 pub colour-requires : goal.colour-requires
-colour-requires c = omega (arith, header_inside _ _ c.self.view_is c.self.invariant.whole c.args.block c.requires)
+colour-requires c = omega (arith, header_inside _ _ c.self.view_is c.self.invariant.0.whole c.args.block c.requires)
 
 pub returns : goal.returns
-returns c = c.colour.ensures ∙ colour_by _ _ c.self.view_is c.self.invariant.whole c.args.block c.requires
+returns c = c.colour.ensures ∙ colour_by _ _ c.self.view_is c.self.invariant.0.whole c.args.block c.requires

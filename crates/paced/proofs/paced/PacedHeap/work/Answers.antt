@@ -18,18 +18,18 @@ invariant_of-self-in-Err c = (
 
 pub returns-in-Ok-clause-collected : goal.returns-in-Ok-clause-collected
 returns-in-Ok-clause-collected c =
-    let old : PacedView = record { course = c.self.inside.heap.course; room = c.self.inside.heap.room; plan = c.self.inside.plan; budget = c.self.inside.budget; words = c.self.inside.words; quanta = c.self.inside.quanta } in
-    let new : PacedView = record { course = c.begin.new.self.course; room = c.begin.new.self.room; plan = c.self.inside.plan; budget = c.self.inside.budget; words = 0; quanta = 0 } in
+    let old : PacedView = record { heap = c.self.inside.heap; plan = c.self.inside.plan; budget = c.self.inside.budget; words = c.self.inside.words; quanta = c.self.inside.quanta } in
+    let new : PacedView = record { heap = c.begin.new.self; plan = c.self.inside.plan; budget = c.self.inside.budget; words = 0; quanta = 0 } in
     subst (λ z. Collected z new) c.self.view_is (begin_works old new (record { plan = refl; budget = refl }) c.in-Ok.ensures.does refl refl)
 
 pub returns-in-Err-clause-collected : goal.returns-in-Err-clause-collected
 returns-in-Err-clause-collected c =
-    let old : PacedView = record { course = c.self.inside.heap.course; room = c.self.inside.heap.room; plan = c.self.inside.plan; budget = c.self.inside.budget; words = c.self.inside.words; quanta = c.self.inside.quanta } in
-    let new : PacedView = record { course = c.quantum-spent.new.self.course; room = c.quantum-spent.new.self.room; plan = c.self.inside.plan; budget = c.self.inside.budget; words = c.self.inside.words; quanta = c.saturating_add-self-inside.result } in
+    let old : PacedView = record { heap = c.self.inside.heap; plan = c.self.inside.plan; budget = c.self.inside.budget; words = c.self.inside.words; quanta = c.self.inside.quanta } in
+    let new : PacedView = record { heap = c.quantum-spent.new.self; plan = c.self.inside.plan; budget = c.self.inside.budget; words = c.self.inside.words; quanta = c.saturating_add-self-inside.result } in
     subst (λ z. Collected z new) c.self.view_is (spent_works old new c.begin.new.self.course c.quantum-spent.result (record { plan = refl; budget = refl }) c.self.invariant.0 c.self.invariant.1 c.in-Err.ensures.does c.quantum-spent.ensures.does refl (search rules))
 
 pub returns-in-Err-clause-less : goal.returns-in-Err-clause-less
 returns-in-Err-clause-less c = λ any.
-    let old : PacedView = record { course = c.self.inside.heap.course; room = c.self.inside.heap.room; plan = c.self.inside.plan; budget = c.self.inside.budget; words = c.self.inside.words; quanta = c.self.inside.quanta } in
-    let new : PacedView = record { course = c.quantum-spent.new.self.course; room = c.quantum-spent.new.self.room; plan = c.self.inside.plan; budget = c.self.inside.budget; words = c.self.inside.words; quanta = c.saturating_add-self-inside.result } in
+    let old : PacedView = record { heap = c.self.inside.heap; plan = c.self.inside.plan; budget = c.self.inside.budget; words = c.self.inside.words; quanta = c.self.inside.quanta } in
+    let new : PacedView = record { heap = c.quantum-spent.new.self; plan = c.self.inside.plan; budget = c.self.inside.budget; words = c.self.inside.words; quanta = c.saturating_add-self-inside.result } in
     subst (λ z. work_left new < work_left z) c.self.view_is (spent_less old new c.begin.new.self.course c.quantum-spent.result c.self.invariant.0 c.self.invariant.1 c.in-Err.ensures.does c.quantum-spent.ensures.does c.quantum-spent.ensures.ends refl)

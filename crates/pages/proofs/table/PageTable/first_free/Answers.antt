@@ -11,4 +11,4 @@ returns-clause-place c =
     c.first.result c.first.ensures.here c.first.ensures.first c.first.ensures.none ∙ ap (position row_free) c.self.view_is
 
 pub returns-clause-within : goal.returns-clause-within
-returns-clause-within c = low_place _ 4096 (has_bit c.self.inside.free) c.self.invariant.free_past c.self.invariant.few c.first.result c.first.ensures.here
+returns-clause-within c = low_place _ 1048576 (has_bit c.self.inside.free) c.self.invariant.free_past c.self.invariant.few c.first.result c.first.ensures.here

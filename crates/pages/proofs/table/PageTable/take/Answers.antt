@@ -13,18 +13,18 @@ pub use_page-requires-clause-free : goal.use_page-requires-clause-free
 use_page-requires-clause-free c = (free_here c.args.self.now c.in-Some-first_free.page c.in-Some-first_free.ensures.place).1
 
 pub returns-in-Some-clause-none : goal.returns-in-Some-clause-none
-returns-in-Some-clause-none c = some_iff (page_for (pages_in c.args.self.now c.args.arena.now) c.args.class) c.in-Some.page (for_usable c.args.self.now c.args.arena.now c.requires c.args.class c.in-Some.page c.in-Some.ensures)
+returns-in-Some-clause-none c = some_iff (page_for (pages_in c.args.self.now c.args.arena.now.words) c.args.class) c.in-Some.page (for_usable c.args.self.now c.args.arena.now.words c.requires.together c.args.class c.in-Some.page c.in-Some.ensures)
 
 pub returns-in-Some-clause-taken : goal.returns-in-Some-clause-taken
 returns-in-Some-clause-taken c = record {
   page = c.in-Some.page;
   index = index_on c.args.class c.in-Some.page c.take_on.result;
   place = c.take_on.ensures.place;
-  takes = record { page_is = for_usable c.args.self.now c.args.arena.now c.requires c.args.class c.in-Some.page c.in-Some.ensures; was_free = c.take_on.ensures.free; new_is = c.take_on.ensures.allocated };
+  takes = record { page_is = for_usable c.args.self.now c.args.arena.now.words c.requires.together c.args.class c.in-Some.page c.in-Some.ensures; was_free = c.take_on.ensures.free; new_is = c.take_on.ensures.allocated };
 }
 
 pub returns-in-Some-first_free-clause-none : goal.returns-in-Some-first_free-clause-none
-returns-in-Some-first_free-clause-none c = some_iff (page_for (pages_in c.args.self.now c.args.arena.now) c.args.class) c.in-Some-first_free.page (for_free c.args.self.now c.args.arena.now c.requires c.args.class (Some c.in-Some-first_free.page) c.in-None.ensures c.in-Some-first_free.ensures.place)
+returns-in-Some-first_free-clause-none c = some_iff (page_for (pages_in c.args.self.now c.args.arena.now.words) c.args.class) c.in-Some-first_free.page (for_free c.args.self.now c.args.arena.now.words c.requires.together c.args.class (Some c.in-Some-first_free.page) c.in-None.ensures c.in-Some-first_free.ensures.place)
 
 pub returns-in-Some-first_free-clause-taken : goal.returns-in-Some-first_free-clause-taken
 returns-in-Some-first_free-clause-taken c = record {
@@ -32,15 +32,15 @@ returns-in-Some-first_free-clause-taken c = record {
   index = index_on c.args.class c.in-Some-first_free.page c.take_on-in-Some-first_free.result;
   place = c.take_on-in-Some-first_free.ensures.place;
   takes = record {
-    page_is = for_free c.args.self.now c.args.arena.now c.requires c.args.class (Some c.in-Some-first_free.page) c.in-None.ensures c.in-Some-first_free.ensures.place;
-    was_free = open_fresh c.args.self.now c.args.arena.now c.in-Some-first_free.page c.args.class (free_here c.args.self.now c.in-Some-first_free.page c.in-Some-first_free.ensures.place).0 (free_here c.args.self.now c.in-Some-first_free.page c.in-Some-first_free.ensures.place).1 (pages_in c.use_page.new.self c.use_page.new.arena) c.use_page.ensures.page (index_on c.args.class c.in-Some-first_free.page c.take_on-in-Some-first_free.result) c.take_on-in-Some-first_free.ensures.free;
-    new_is = allocated_fresh c.args.self.now c.args.arena.now c.in-Some-first_free.page c.args.class (free_here c.args.self.now c.in-Some-first_free.page c.in-Some-first_free.ensures.place).0 (free_here c.args.self.now c.in-Some-first_free.page c.in-Some-first_free.ensures.place).1 (pages_in c.use_page.new.self c.use_page.new.arena) c.use_page.ensures.page (index_on c.args.class c.in-Some-first_free.page c.take_on-in-Some-first_free.result) _ c.take_on-in-Some-first_free.ensures.allocated;
+    page_is = for_free c.args.self.now c.args.arena.now.words c.requires.together c.args.class (Some c.in-Some-first_free.page) c.in-None.ensures c.in-Some-first_free.ensures.place;
+    was_free = open_fresh c.args.self.now c.args.arena.now.words c.in-Some-first_free.page c.args.class (free_here c.args.self.now c.in-Some-first_free.page c.in-Some-first_free.ensures.place).0 (free_here c.args.self.now c.in-Some-first_free.page c.in-Some-first_free.ensures.place).1 (pages_in c.use_page.new.self c.use_page.new.arena.words) c.use_page.ensures.page (index_on c.args.class c.in-Some-first_free.page c.take_on-in-Some-first_free.result) c.take_on-in-Some-first_free.ensures.free;
+    new_is = allocated_fresh c.args.self.now c.args.arena.now.words c.in-Some-first_free.page c.args.class (free_here c.args.self.now c.in-Some-first_free.page c.in-Some-first_free.ensures.place).0 (free_here c.args.self.now c.in-Some-first_free.page c.in-Some-first_free.ensures.place).1 (pages_in c.use_page.new.self c.use_page.new.arena.words) c.use_page.ensures.page (index_on c.args.class c.in-Some-first_free.page c.take_on-in-Some-first_free.result) _ c.take_on-in-Some-first_free.ensures.allocated;
   };
 }
 
 pub returns-in-None-first_free-clause-none : goal.returns-in-None-first_free-clause-none
-returns-in-None-first_free-clause-none c = none_iff (page_for (pages_in c.args.self.now c.args.arena.now) c.args.class) (for_free c.args.self.now c.args.arena.now c.requires c.args.class None c.in-None.ensures c.in-None-first_free.ensures.place)
+returns-in-None-first_free-clause-none c = none_iff (page_for (pages_in c.args.self.now c.args.arena.now.words) c.args.class) (for_free c.args.self.now c.args.arena.now.words c.requires.together c.args.class None c.in-None.ensures c.in-None-first_free.ensures.place)
 
 pub returns-in-Some-first_free-clause-words : goal.returns-in-Some-first_free-clause-words
 returns-in-Some-first_free-clause-words c =
-    keeps_both c.args.self.now c.args.arena.now c.use_page.new.arena c.take_on-in-Some-first_free.new.arena c.in-Some-first_free.page (pages_in c.use_page.new.self c.use_page.new.arena) _ (free_here c.args.self.now c.in-Some-first_free.page c.in-Some-first_free.ensures.place).0 (free_here c.args.self.now c.in-Some-first_free.page c.in-Some-first_free.ensures.place).1 c.use_page.ensures.page c.use_page.ensures.words c.take_on-in-Some-first_free.ensures.words
+    keeps_both c.args.self.now c.args.arena.now.words c.use_page.new.arena.words c.take_on-in-Some-first_free.new.arena.words c.in-Some-first_free.page (pages_in c.use_page.new.self c.use_page.new.arena.words) _ (free_here c.args.self.now c.in-Some-first_free.page c.in-Some-first_free.ensures.place).0 (free_here c.args.self.now c.in-Some-first_free.page c.in-Some-first_free.ensures.place).1 c.use_page.ensures.page c.use_page.ensures.words c.take_on-in-Some-first_free.ensures.words

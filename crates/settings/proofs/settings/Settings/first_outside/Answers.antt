@@ -8,5 +8,5 @@ use Rattle.settings.proofs.settings.Settings.first_outside.Goals as goal
 
 pub returns : goal.returns
 returns c =
-    let found = find_from_yields_List (λ key. not (is_allowed c.args.self.now.mutators key (setting c.args.self.now key))) _ _ _ c.find.ensures.ran (YieldsList-from_slice ALL cc) (λ x b q k. search (rules, tests)) in
+    let found = find_from_yields_List (λ key. not (is_allowed c.args.ranges c.args.self.now.mutators key (setting c.args.self.now key))) _ _ _ c.find.ensures.ran (YieldsList-from_slice ALL cc) (λ x b q k. search (rules, tests)) in
     c.copied.ensures ∙ found

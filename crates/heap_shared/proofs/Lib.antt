@@ -1,0 +1,11 @@
+pub mod Accounts
+pub mod Words
+pub mod Views
+pub mod Owners
+pub mod Turns
+pub mod Splitting
+pub mod Charting
+pub mod Members
+pub mod Merging
+pub mod Histories
+pub mod Sending

@@ -1,0 +1,176 @@
+-- A member's mutators are cut in two, and a member learns another's account: both keep the rule of the word.
+use Rattle.std.proofs.Common.{◌≡◌, ◌≢◌, ℕ, zero, suc, ◌<◌, ◌≤◌, Bool, true, false, true≢false, List, [], ◌∷◌, ◌++◌, length, set, refl, sym, ap, ◌∙◌, arith, Some, None}
+use Rattle.std.specs.List.{All}
+use Rattle.std.proofs.lemmas.List.Elements.{All-append, All-cons, All-nil}
+use mathlib.Core.Option.{Option, none, some, some-ne-none}
+use lib.ListN.{get_elem?}
+use Rattle.atomic_table.specs.Table.{State, Splits, Joins}
+use Rattle.graph_heap.specs.declared.command.Entry.{Entry}
+use Rattle.settings.specs.declared.config.Config.{Config}
+use Rattle.heap_model.specs.Event.{Course}
+use Rattle.heap_shared.specs.declared.rule.Account.{Account}
+use Rattle.heap_shared.specs.declared.rule.Known.{Known}
+use Rattle.heap_shared.specs.Accounts.{IsWithin, BearsOut, account_of}
+use Rattle.heap_shared.specs.Turns.{Turn, free, taken, before_cut, behind_cut, learning, nobody, IsTurn, Knows, Keeps}
+use Rattle.heap_shared.proofs.Accounts.{bears_fewer}
+use Rattle.heap_shared.proofs.Owners.{given, given_within, given_else, given_other, apart_some}
+use Rattle.heap_shared.proofs.Views.{others_and_new, others_two}
+
+abbrev S : Type 0
+S = State Course Known
+
+both_ways : (b : Bool) → b ≡ false → b ≡ true → ⊥
+both_ways b isnt holds = true≢false (sym holds ∙ isnt)
+
+module _ (c : Config) (log : List Entry) (owner : ℕ → Option ℕ) (id new : ℕ) (v : Known) (fresh : id < new) (low : v.from ≤ v.cut) (high : v.cut ≤ v.to) (knows : Knows c log owner id v) where
+  abbrev split : ℕ → Option ℕ
+  split = given v.cut v.to (some new) owner
+
+  mine : (m : ℕ) → IsWithin v.cut v.to m → owner m ≡ some id
+  mine m w = knows.owns m (omega (arith, low, w.0), w.1)
+
+  stays : (m : ℕ) (x : Option ℕ) → owner m ≡ x → x ≢ some id → split m ≡ x
+  stays m x is apart = given_other v.cut v.to (some new) (some id) owner m x (mine m) is apart
+
+  pub left_knows : Knows c log split id (before_cut v)
+  left_knows = record {
+    config = knows.config;
+    range = (let t = knows.range in omega (arith, high, t));
+    own = bears_fewer log (account_of v) v.from v.cut (omega arith) high knows.own;
+    owns = λ m w. given_else v.cut v.to (some new) owner m (λ r. omega (arith, w.1, r.0)) ∙ knows.owns m (w.0, omega (arith, w.1, high));
+    learnt = knows.learnt;
+    gone = λ j d lt m w. stays m none (knows.gone j d lt m w) (λ e. some-ne-none id (sym e));
+  }
+
+  pub right_knows : Knows c log split new (behind_cut v)
+  right_knows = record {
+    config = knows.config;
+    range = knows.range;
+    own = bears_fewer log (account_of v) v.cut v.to low (omega arith) knows.own;
+    owns = λ m w. given_within v.cut v.to (some new) owner m w;
+    learnt = All-nil (BearsOut log);
+    gone = All-nil (λ (a : Account). (m : ℕ) → IsWithin a.from a.to m → split m ≡ none);
+  }
+
+  pub rest_knows : (k : ℕ) (u : Known) → k ≢ id → Knows c log owner k u → Knows c log split k u
+  rest_knows k u apart theirs = record {
+    config = theirs.config;
+    range = theirs.range;
+    own = theirs.own;
+    owns = λ m w. stays m (some k) (theirs.owns m w) (apart_some k id apart);
+    learnt = theirs.learnt;
+    gone = λ j d lt m w. stays m none (theirs.gone j d lt m w) (λ e. some-ne-none id (sym e));
+  }
+
+turn_split : (c : Config) (s : S) (log : List Entry) (id : ℕ) (v : Known) → v.inside ≡ false → (t : Turn) → IsTurn c s log t
+    → IsTurn c (record { words = s.words; homes = s.homes; views = set s.views id (before_cut v) ++ behind_cut v ∷ [] }) log t
+turn_split c s log id v out (free r) is = (is.0, is.1, is.2, is.3, others_and_new (λ k u. u.inside ≡ false) s.views id (before_cut v) (behind_cut v) out refl (λ k u apart below e. is.4 k u e))
+turn_split c s log id v out (taken by) is = (
+  is.0,
+  is.1,
+  others_and_new (λ k u. u.inside ≡ true → (k ≡ by) × (u.seen ≡ log)) s.views id (before_cut v) (behind_cut v) (λ so. absurd (both_ways v.inside out so)) (λ so. absurd (both_ways false refl so)) (λ k u apart below e. is.2 k u e),
+)
+
+there_below : (vs : List Known) (k : ℕ) (v : Known) → get_elem? vs k ≡ some v → k < length vs
+there_below [] k v e = absurd (some-ne-none v (sym e))
+there_below (x ∷ xs) zero v e = omega arith
+there_below (x ∷ xs) (suc k) v e = (let r = there_below xs k v e in omega (arith, r))
+
+-- a member's mutators are cut in two
+pub splits : (c : Config) (id : ℕ) (v : Known) → v.inside ≡ false → v.from ≤ v.cut → v.cut ≤ v.to → Splits (Keeps c) id v (before_cut v) (behind_cut v)
+splits c id v out low high s k at =
+    let new = length s.views in
+    let fresh = there_below s.views id v at in
+    let knows = k.known id v at in record {
+      log = k.log;
+      turn = k.turn;
+      owner = given v.cut v.to (some new) k.owner;
+      has_word = k.has_word;
+      stands = turn_split c s k.log id v out k.turn k.stands;
+      known = others_and_new (Knows c k.log (given v.cut v.to (some new) k.owner)) s.views id (before_cut v) (behind_cut v)
+          (left_knows c k.log k.owner id new v fresh low high knows)
+          (right_knows c k.log k.owner id new v fresh low high knows)
+          (λ j u apart below e. rest_knows c k.log k.owner id new v fresh low high knows j u apart (k.known j u e));
+      below = k.below;
+    }
+
+module _ (c : Config) (log : List Entry) (owner : ℕ → Option ℕ) (id other : ℕ) (v w : Known) (apart : id ≢ other) (knows : Knows c log owner id v) (theirs : Knows c log owner other w) where
+  abbrev freed : ℕ → Option ℕ
+  freed = given w.from w.to none owner
+
+  keeps_owner : (m : ℕ) (x : Option ℕ) → owner m ≡ x → x ≢ some other → freed m ≡ x
+  keeps_owner m x is off = given_other w.from w.to none (some other) owner m x (theirs.owns m) is off
+
+  still_gone : (xs : List Account) → All (λ a. (m : ℕ) → IsWithin a.from a.to m → owner m ≡ none) xs → All (λ a. (m : ℕ) → IsWithin a.from a.to m → freed m ≡ none) xs
+  still_gone xs gone j d lt m r = keeps_owner m none (gone j d lt m r) (λ e. some-ne-none other (sym e))
+
+  abbrev Gone : Account → Type 0
+  Gone a = (m : ℕ) → IsWithin a.from a.to m → freed m ≡ none
+
+  pub both_know : Knows c log freed id (learning v w)
+  both_know = record {
+    config = knows.config;
+    range = knows.range;
+    own = knows.own;
+    owns = λ m r. keeps_owner m (some id) (knows.owns m r) (apart_some id other apart);
+    learnt = All-append (BearsOut log) v.learnt (account_of w ∷ w.learnt) knows.learnt (All-cons (BearsOut log) (account_of w) w.learnt theirs.own theirs.learnt);
+    gone = All-append Gone v.learnt (account_of w ∷ w.learnt) (still_gone v.learnt knows.gone)
+        (All-cons Gone (account_of w) w.learnt (λ m r. given_within w.from w.to none owner m r) (still_gone w.learnt theirs.gone));
+  }
+
+  pub nobody_knows : Knows c log freed other nobody
+  nobody_knows = record {
+    config = λ d is. let z : None ≡ Some d = is in cc;
+    range = omega arith;
+    own = ((log, refl), λ m r. absurd (omega (arith, r.1)));
+    owns = λ m r. absurd (omega (arith, r.1));
+    learnt = All-nil (BearsOut log);
+    gone = All-nil Gone;
+  }
+
+  pub rest_still : (k : ℕ) (u : Known) → k ≢ other → Knows c log owner k u → Knows c log freed k u
+  rest_still k u off has = record {
+    config = has.config;
+    range = has.range;
+    own = has.own;
+    owns = λ m r. keeps_owner m (some k) (has.owns m r) (apart_some k other off);
+    learnt = has.learnt;
+    gone = still_gone u.learnt has.gone;
+  }
+
+turn_learnt : (c : Config) (s : S) (log : List Entry) (id other : ℕ) (v w : Known) → id ≢ other → get_elem? s.views id ≡ some v → (t : Turn) → IsTurn c s log t
+    → IsTurn c (record { words = s.words; homes = s.homes; views = set (set s.views id (learning v w)) other nobody }) log t
+turn_learnt c s log id other v w apart at (free r) is = (is.0, is.1, is.2, is.3, others_two (λ k u. u.inside ≡ false) s.views id other (learning v w) nobody (is.4 id v at) refl (λ k u off far e. is.4 k u e) apart)
+turn_learnt c s log id other v w apart at (taken by) is = (
+  is.0,
+  is.1,
+  others_two (λ k u. u.inside ≡ true → (k ≡ by) × (u.seen ≡ log)) s.views id other (learning v w) nobody (λ so. is.2 id v at so) (λ so. absurd (both_ways false refl so)) (λ k u off far e. is.2 k u e) apart,
+)
+
+-- a view of another
+there_else : (vs : List Known) (id other : ℕ) (u w : Known) → ¬ (other ≡ id) → get_elem? (set vs id u) other ≡ some w → get_elem? vs other ≡ some w
+there_else [] id other u w n e = e
+there_else (x ∷ xs) zero zero u w n e = absurd (n refl)
+there_else (x ∷ xs) zero (suc other) u w n e = e
+there_else (x ∷ xs) (suc id) zero u w n e = e
+there_else (x ∷ xs) (suc id) (suc other) u w n e = there_else xs id other u w (λ h. n (ap suc h)) e
+
+-- a member learns another's account
+pub learns : (c : Config) (id : ℕ) (v : Known) (other : ℕ) (w : Known) → Joins (Keeps c) id v other w (learning v w) nobody
+learns c id v other w s k at off there =
+    let apart : id ≢ other = λ e. off (sym e) in
+    let was = there_else s.views id other (learning v w) w off there in
+    let knows = k.known id v at in
+    let theirs = k.known other w was in record {
+      log = k.log;
+      turn = k.turn;
+      owner = given w.from w.to none k.owner;
+      has_word = k.has_word;
+      stands = turn_learnt c s k.log id other v w apart at k.turn k.stands;
+      known = others_two (Knows c k.log (given w.from w.to none k.owner)) s.views id other (learning v w) nobody
+          (both_know c k.log k.owner id other v w apart knows theirs)
+          (nobody_knows c k.log k.owner id other v w apart knows theirs)
+          (λ j u off_id off_other e. rest_still c k.log k.owner id other v w apart knows theirs j u off_other (k.known j u e))
+          apart;
+      below = k.below;
+    }

@@ -1,0 +1,21 @@
+use Rattle.std.proofs.Common.{rules, ◌≡◌, ◌<◌, true, sym, ap, ◌∙◌, subst}
+use Rattle.std.specs.Arc.{arc_value}
+use Rattle.heap_shared.proofs.Turns.{leaves}
+use Rattle.heap_shared.proofs.Members.{carries_one}
+use Rattle.heap_shared.proofs.member.Member.leave.Goals as goal
+
+pub store-requires : goal.store-requires
+store-requires c =
+    let d = c.deref.ensures in
+    let words : 16 < c.deref.result.now.shared.table_id.words = subst (λ t. 16 < t.shared.table_id.words) (sym d) c.self.invariant.1 in
+    let key = c.deref.result.now.shared.key in
+    let held = (arc_value c.self.inside.table).shared.key in
+    let yes : c.self.inside.inside ≡ true = search rules in
+    let one = carries_one _ _ _ _ yes c.self.invariant.5 in
+    let id = c.self.inside.seat.id in
+    let word = c.self.inside.word in
+    let me = c.self.inside.seat.me in (
+      c.self.invariant.0 ∙ sym (ap (λ t. t.shared.table_id) d),
+      words,
+      leaves key _ id word me one.course one.carried one.inside one.goes held c.self.invariant.2 one.settings one.number,
+    )

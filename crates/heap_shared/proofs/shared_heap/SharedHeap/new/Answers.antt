@@ -1,0 +1,11 @@
+use Rattle.std.proofs.Common.{◌<◌, length, ap, sym, subst, arith}
+use Rattle.heap_model.specs.Settings.{HeapSettings}
+use Rattle.heap_model.specs.Event.{IsCourse}
+use Rattle.heap_model.proofs.Event.Kept.{opening_course}
+use Rattle.heap_shared.specs.Past.{Past, course_of}
+use Rattle.heap_shared.proofs.shared_heap.SharedHeap.new.Goals as goal
+
+pub invariant_of-result : goal.invariant_of-result
+invariant_of-result c =
+    let some : 0 < length c.in_ok-heap.heap.store.pages = (let p = c.args.config.now.pages_in_range.0 in let e = ap (λ (x : HeapSettings). x.pages) c.in_ok-heap.ensures.settings in omega (arith, e, p)) in
+    subst (λ (p : Past). IsCourse (course_of c.in_ok-heap.heap p)) (sym c.empty.ensures) (opening_course c.in_ok-heap.heap c.in_ok-heap.ensures.opening some)

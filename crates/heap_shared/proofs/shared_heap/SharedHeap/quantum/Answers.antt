@@ -1,0 +1,17 @@
+use Rattle.std.proofs.Common.{subst}
+use Rattle.heap_model.specs.Event.{Course, Does}
+use Rattle.heap_model.proofs.Event.Kept.{does_course}
+use Rattle.machine.specs.Recorded.{quantum_done}
+use Rattle.machine.proofs.Courses.{quantum_does}
+use Rattle.heap_shared.specs.Past.{course_of}
+use Rattle.heap_shared.proofs.shared_heap.SharedHeap.quantum.Goals as goal
+
+pub invariant_of-self : goal.invariant_of-self
+invariant_of-self c =
+    let r = course_of c.self.inside.heap c.self.inside.history.past in
+    does_course r (quantum_done c.args.budget c.quantum.result) (record r { heap = c.quantum.new.self }) c.self.invariant (quantum_does r c.args.budget c.quantum.new.self c.quantum.result c.quantum.ensures.spends)
+
+pub returns : goal.returns
+returns c =
+    let r = course_of c.self.inside.heap c.self.inside.history.past in
+    subst (λ (x : Course). Does x (quantum_done c.args.budget c.quantum.result) (record r { heap = c.quantum.new.self })) c.self.view_is (quantum_does r c.args.budget c.quantum.new.self c.quantum.result c.quantum.ensures.spends)

@@ -1,0 +1,5 @@
+pub mod Past
+pub mod Accounts
+pub mod Turns
+pub mod Members
+pub mod Merged

@@ -1,0 +1,137 @@
+-- What a member of a shared heap shows, and what its calls do.
+use Rattle.std.specs.Prelude.{ℕ, ◌≡◌, ◌≢◌, ◌≤◌, ◌%◌, Bool, true, false, List, [], ◌∷◌, ◌++◌, length, Option, Some, None, Result, Ok, Err}
+use Rattle.std.specs.List.{All}
+use Rattle.graph_heap.specs.declared.command.Command.{Command}
+use Rattle.graph_heap.specs.declared.command.Entry.{Entry}
+use Rattle.graph_heap.specs.declared.command.Reply.{Reply}
+use Rattle.atomic_table.specs.Table.{Me}
+use Rattle.atomic_table.specs.Seated.{TableId}
+use Rattle.settings.specs.declared.config.Config.{Config}
+use Rattle.heap_model.specs.Event.{Course, Event, Command_done, Does}
+use Rattle.heap_model.specs.Settings.{HeapSettings, settings_of, settings_by}
+use Rattle.machine.specs.Headline.{AlwaysHolds}
+use Rattle.machine.specs.Space.{FindsSpace, FoundSpace}
+use Rattle.heap_shared.specs.declared.rule.Account.{Account}
+use Rattle.heap_shared.specs.declared.rule.Known.{Known}
+use Rattle.heap_shared.specs.declared.member.NoTurn.{NoTurn}
+use Rattle.heap_shared.specs.declared.member.NoTurn.TheVariants as turns
+use Rattle.heap_shared.specs.declared.member.NoMember.{NoMember}
+use Rattle.heap_shared.specs.declared.member.NoMember.TheVariants as members
+use Rattle.heap_shared.specs.declared.member.NotDone.{NotDone}
+use Rattle.heap_shared.specs.declared.member.NotDone.TheVariants as undone
+use Rattle.heap_shared.specs.Accounts.{IsWithin, BearsOut, GoesOn, AreBelow}
+use Rattle.heap_shared.specs.Turns.{word_of}
+
+-- Which heap it is, and its settings; the member's own account, with what it has seen of the history up to its last turn or
+-- look; the accounts that it has learnt; and the heap with its history, while it has the turn.
+pub record MemberView : Type 0 where
+  pub heap : TableId
+  pub settings : HeapSettings
+  pub from : ℕ
+  pub to : ℕ
+  pub seen : List Entry
+  pub learnt : List Account
+  pub turn : Option Course
+
+-- the heap that is carried
+abbrev pub turn_of : List (ℕ × Course) → Option Course
+turn_of [] = None
+turn_of (x ∷ xs) = Some x.1
+
+-- what a member of a heap shows
+abbrev pub shown_by : TableId → Config → Me Course Known → MemberView
+shown_by id c m = record {
+  heap = id;
+  settings = settings_by c;
+  from = m.0.from;
+  to = m.0.to;
+  seen = m.0.seen;
+  learnt = m.0.learnt;
+  turn = turn_of m.1;
+}
+
+-- who has the turn at a heap of this configuration carries it, with what it has seen and entries of its own mutators; the
+-- number is what the word gets when it gives the turn back
+pub record HasHeap (c : Config) (word : ℕ) (m : Me Course Known) : Type 0 where
+  pub course : Course
+  pub inside : m.0.inside ≡ true
+  pub carried : m.1 ≡ (0, course) ∷ []
+  pub goes : GoesOn m.0.from m.0.to m.0.seen course.history
+  pub settings : settings_of course.heap ≡ settings_by c
+  pub number : word ≡ word_of course.history
+
+-- whether a member has the turn
+abbrev pub IsMember : Config → Bool → ℕ → Me Course Known → Type 0
+IsMember c false word m = (m.1 ≡ []) × (m.0.inside ≡ false)
+IsMember c true word m = HasHeap c word m
+
+-- a member's own account, up to its last turn or look
+abbrev pub own_account : MemberView → Account
+own_account v = record { from = v.from; to = v.to; seen = v.seen }
+
+-- A history of the settings' mutators bears out the member's account, and those that it has learnt.
+pub record BearsAll (log : List Entry) (v : MemberView) : Type 0 where
+  pub own : BearsOut log (own_account v)
+  pub learnt : All (BearsOut log) v.learnt
+  pub below : AreBelow v.settings.limits.mutators log
+
+-- A member that hasn't the turn asks for it: it has it, with a heap whose history bears out all accounts that it has; or
+-- another has it, and nothing changes; or it has it already.
+abbrev pub Enters : MemberView → Result (Unit {0}) NoTurn → MemberView → Type 0
+Enters old (Err turns.Inside) new = (old.turn ≢ None) × (new ≡ old)
+Enters old (Err turns.Taken) new = (old.turn ≡ None) × (new ≡ old)
+Enters old (Ok done) new = (r : Course) × (old.turn ≡ None) × (new ≡ record old { seen = r.history; turn = Some r })
+    × BearsAll r.history old × (settings_of r.heap ≡ old.settings)
+
+-- It gives the turn back, and has seen the history, which went on by entries of its own mutators alone; or it hasn't the
+-- turn, and nothing changes.
+abbrev pub Leaves : MemberView → Bool → MemberView → Type 0
+Leaves old false new = (old.turn ≡ None) × (new ≡ old)
+Leaves old true new = (r : Course) × (old.turn ≡ Some r) × GoesOn old.from old.to old.seen r.history
+    × (new ≡ record old { seen = r.history; turn = None })
+
+-- An event that is done while the member has the turn: what comes of it is one event of the heap with its history. Without
+-- the turn nothing is done.
+abbrev pub DoesIn : {A : Type 0} → Option Course → (A → Event) → MemberView → Option A → MemberView → Type 0
+DoesIn None event old answer new = (answer ≡ None) × (new ≡ old)
+DoesIn {A} (Some r) event old answer new = (a : A) × (k : Course) × (answer ≡ Some a) × Does r (event a) k
+    × (new ≡ record old { turn = Some k })
+
+-- an event that is done where the member has the turn: without it nothing is done
+abbrev pub DoesInTurn : {A : Type 0} → (A → Event) → MemberView → Option A → MemberView → Type 0
+DoesInTurn event old answer new = DoesIn old.turn event old answer new
+
+-- A command of one of the member's mutators is one event of the heap with its history. Without the turn, or for another
+-- mutator, nothing is done.
+abbrev pub Calls : MemberView → ℕ → Command → Result Reply NotDone → MemberView → Type 0
+Calls old m c (Err undone.Outside) new = (old.turn ≡ None) × (new ≡ old)
+Calls old m c (Err undone.NotYours) new = (old.turn ≢ None) × (¬ IsWithin old.from old.to m) × (new ≡ old)
+Calls old m c (Ok reply) new = (r : Course) × (k : Course) × (old.turn ≡ Some r) × IsWithin old.from old.to m
+    × Does r (Command_done m c reply) k × (new ≡ record old { turn = Some k })
+
+-- The length of the history is told, as it wraps, where the member hasn't the turn: it has then seen that much of it, and
+-- that bears out all accounts that it has.
+abbrev pub Places : MemberView → Option ℕ → MemberView → Type 0
+Places old None new = (old.turn ≢ None) × (new ≡ old)
+Places old (Some n) new = (old.turn ≡ None) × BearsAll new.seen old × (n ≡ length new.seen % 9223372036854775808)
+    × (new ≡ record old { seen = new.seen })
+
+-- One more member of the same heap gets the mutators from this one on; it has seen the same. Nothing changes where the
+-- member has the turn, where that isn't one of its mutators nor the next, or where there is no memory.
+abbrev pub Adds : MemberView → ℕ → Result MemberView NoMember → MemberView → Type 0
+Adds old from (Err members.Inside) new = (old.turn ≢ None) × (new ≡ old)
+Adds old from (Err members.NotYours) new = (old.turn ≡ None) × (¬ ((old.from ≤ from) × (from ≤ old.to))) × (new ≡ old)
+Adds old from (Err members.NoMemory) new = new ≡ old
+Adds old from (Ok made) new = (old.turn ≡ None) × (old.from ≤ from) × (from ≤ old.to)
+    × (new ≡ record old { to = from }) × (made ≡ record old { from = from; learnt = [] })
+
+-- A member learns another's account, and all that it had learnt, once that has given the turn back.
+abbrev pub Learns : MemberView → MemberView → MemberView → Type 0
+Learns old other new = (had : Bool) × (left : MemberView) × Leaves other had left
+    × (new ≡ record old { learnt = old.learnt ++ own_account left ∷ left.learnt })
+
+-- all that is promised of a heap with its history holds: now, whatever events are done next, and of the events that led here
+pub record IsPromised (r : Course) : Type 0 where
+  pub headline : AlwaysHolds r
+  pub space : FindsSpace r
+  pub found : FoundSpace r

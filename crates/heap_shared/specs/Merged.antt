@@ -1,0 +1,28 @@
+-- What members' accounts say was called.
+use Rattle.std.specs.Prelude.{ℕ, ◌≡◌, ◌<◌, List, [], ◌∷◌, map, nat_le, nat_lt, ◌&&◌, Bool, true, false, if◌then◌else◌}
+use Rattle.graph_heap.specs.declared.command.Command.{Command}
+use Rattle.heap_server.specs.Seats.{upto}
+use Rattle.heap_server.specs.Seen.{mine, commands_of}
+use Rattle.heap_shared.specs.declared.rule.Account.{Account}
+
+-- whether a mutator is one of an account's own
+abbrev pub has_mutator : Account → ℕ → Bool
+has_mutator a m = nat_le a.from m && nat_lt m a.to
+
+-- the commands of a mutator, by the first account that has it
+abbrev pub commands_by : List Account → ℕ → List Command
+commands_by [] m = []
+commands_by (a ∷ rest) m = if has_mutator a m then commands_of (mine a.seen m) else commands_by rest m
+
+-- whether one of the accounts has a mutator
+abbrev pub is_covered : List Account → ℕ → Bool
+is_covered [] m = false
+is_covered (a ∷ rest) m = if has_mutator a m then true else is_covered rest m
+
+-- each mutator is one of an account's
+abbrev pub Covers : ℕ → List Account → Type 0
+Covers mutators accounts = (m : ℕ) → m < mutators → is_covered accounts m ≡ true
+
+-- of each mutator the commands that were called
+abbrev pub called_by : ℕ → List Account → List (List Command)
+called_by mutators accounts = map (commands_by accounts) (upto mutators)

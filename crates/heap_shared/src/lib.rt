@@ -1,0 +1,17 @@
+//! A heap that threads share where none of them waits in here: a member takes its turn where no other has it, does as many
+//! commands of its own mutators as it likes, and gives the turn back. The history of the heap exists in proofs alone.
+#![tactic(auto)]
+
+mod crossing;
+mod ghost_history;
+mod laws;
+mod member;
+mod rule;
+mod shared_heap;
+
+pub use crossing::members_cross;
+pub use ghost_history::GhostHistory;
+pub use laws::histories_merge;
+pub use member::{Member, NoMember, NoTurn, NotDone};
+pub use rule::{Account, Known, TurnRule};
+pub use shared_heap::SharedHeap;

@@ -1,0 +1,256 @@
+//! Members of a shared heap.
+ghost use Rattle.std.specs.Prelude.{◌≡◌, ◌∷◌, ◌++◌, [], IfOk, IfSome, None};
+ghost use Rattle.heap_model.specs.Settings.{settings_by};
+ghost use Rattle.machine.specs.Headline.{AlwaysHolds};
+ghost use Rattle.machine.specs.Space.{FindsSpace, FoundSpace};
+ghost use Rattle.machine.specs.Recorded.{begin_done, quantum_done};
+ghost use Rattle.heap_shared.specs.Members.{Enters, Leaves, Places, Calls, DoesInTurn, Adds, Learns, IsPromised};
+ghost use mathlib.Core.List.{IsPrefix};
+
+use crate::rule::{Cut, Enter, Halve, Known, Learn, Leave, Look, TURN_WORD, TurnRule, WORDS};
+use crate::shared_heap::SharedHeap;
+use atomic_table::{Refused, Seat, Table};
+use graph_heap::{Command, NoMemory, Reply};
+use machine::{BudgetOutOfRange, Busy, Spent};
+use settings::Config;
+use std::alloc::Global;
+use std::marker::Model;
+use std::sync::Arc;
+
+/// A member of a heap that threads share. It calls for the mutators from one number on and below another, and no other
+/// member calls for these. Contracts see what it has seen of the history, and the heap with its history while it has the
+/// turn. It keeps what others write off the cache lines on which it lies.
+#[repr(C)]
+#[derive(Drop)]
+pub struct Member {
+    before: Apart,
+    table: Arc<Table<SharedHeap, Known, Config, TurnRule, Global>, Global>,
+    seat: Seat<SharedHeap, Known>,
+    /// What the word is to be once this member gives the turn back.
+    word: u64,
+    from: u32,
+    to: u32,
+    inside: bool,
+    behind: Apart,
+}
+
+/// Memory that is never written, as long as two cache lines.
+type Apart = [u64; 16];
+
+/// Why a member doesn't get the turn.
+#[derive(Clone, Copy, Debug, PartialEq, Eq)]
+pub enum NoTurn {
+    /// Another member has it.
+    Taken,
+    /// It has it already.
+    Inside,
+}
+
+/// Why a command isn't done.
+#[derive(Clone, Copy, Debug, PartialEq, Eq)]
+pub enum NotDone {
+    /// The member hasn't the turn.
+    Outside,
+    /// The mutator isn't one of the member's.
+    NotYours,
+}
+
+/// Why there is no other member.
+#[derive(Clone, Copy, Debug, PartialEq, Eq)]
+pub enum NoMember {
+    /// The member has the turn.
+    Inside,
+    /// The mutators aren't the member's.
+    NotYours,
+    NoMemory,
+}
+
+impl Model for Member {
+    ghost use Rattle.std.specs.Prelude.{◌≡◌, ◌<◌, Some};
+    ghost use Rattle.std.specs.Arc.{arc_value};
+    ghost use Rattle.heap_shared.specs.Members.{MemberView, IsMember, shown_by};
+
+    ghost Value = { MemberView };
+
+    ghost view = { λ m. shown_by m.seat.table_id (arc_value m.table).shared.key m.seat.me };
+
+    ghost invariant = { λ m. (m.seat.table_id ≡ (arc_value m.table).shared.table_id)
+        × (16 < (arc_value m.table).shared.table_id.words)
+        × (m.seat.me.0.config ≡ Some (arc_value m.table).shared.key)
+        × (m.seat.me.0.from ≡ m.from) × (m.seat.me.0.to ≡ m.to)
+        × IsMember (arc_value m.table).shared.key m.inside m.word m.seat.me };
+}
+
+impl Member {
+    /// The first member of a new heap, which calls for all mutators. Refused only for lack of memory.
+    pub fn new(alloc: Global, config: &Config) -> Result<Member, NoMemory>
+        ensures settings { IfOk result (λ m. m.settings ≡ settings_by config.now) }
+        ensures mutators { IfOk result (λ m. (m.from ≡ 0) × (m.to ≡ config.now.mutators)) }
+        ensures seen { IfOk result (λ m. (m.seen ≡ []) × (m.learnt ≡ [])) }
+        ensures turn { IfOk result (λ m. m.turn ≡ None) }
+    {
+        let heap = SharedHeap::new(alloc, config)?;
+        let mut slots = Vec::with_capacity(alloc, 1)?;
+        slots.push_reserved(heap);
+        match Table::new(alloc, &[0; WORDS], slots, config) {
+            Ok((table, seat)) => {
+                let table = Arc::new(alloc, table)?;
+                Ok(Member {
+                    before: [0; 16],
+                    table,
+                    seat,
+                    word: 0,
+                    from: 0,
+                    to: config.mutators,
+                    inside: false,
+                    behind: [0; 16],
+                })
+            }
+            Err(Refused { slots: _ }) => Err(NoMemory),
+        }
+    }
+
+    /// Another member of the same heap, which calls for this one's mutators from a number on, and has seen what it has.
+    pub fn another(&mut self, from: u32) -> Result<Member, NoMember>
+        ensures { Adds self.old from result self.new }
+    {
+        if self.inside {
+            return Err(NoMember::Inside);
+        }
+        if from < self.from || self.to < from {
+            return Err(NoMember::NotYours);
+        }
+        let Ok(table) = Arc::try_clone(&self.table) else {
+            return Err(NoMember::NoMemory);
+        };
+        let cut = u64::from(from);
+        self.table
+            .shared
+            .compare_exchange::<Cut>(&mut self.seat, TURN_WORD, cut, cut);
+        let seat = self.table.shared.split_seat::<Halve>(&mut self.seat);
+        let to = self.to;
+        self.to = from;
+        Ok(Member {
+            before: [0; 16],
+            table,
+            seat,
+            word: 0,
+            from,
+            to,
+            inside: false,
+            behind: [0; 16],
+        })
+    }
+
+    /// Takes the turn, if nobody has it. It waits for nobody.
+    #[inline(always)]
+    pub fn enter(&mut self) -> Result<(), NoTurn>
+        ensures enters { Enters self.old result self.new }
+        ensures grows { IsPrefix self.old.seen self.new.seen }
+    {
+        if self.inside {
+            return Err(NoTurn::Inside);
+        }
+        let seen = self.table.shared.peek(TURN_WORD);
+        if seen % 2 != 0 {
+            return Err(NoTurn::Taken);
+        }
+        let found = self
+            .table
+            .shared
+            .compare_exchange::<Enter>(&mut self.seat, TURN_WORD, seen, seen + 1);
+        if found != seen {
+            return Err(NoTurn::Taken);
+        }
+        self.word = seen;
+        self.inside = true;
+        Ok(())
+    }
+
+    /// Gives the turn back, where it has it.
+    #[inline(always)]
+    pub fn leave(&mut self) -> bool
+        ensures leaves { Leaves self.old result self.new }
+        ensures grows { IsPrefix self.old.seen self.new.seen }
+    {
+        if !self.inside {
+            return false;
+        }
+        self.table
+            .shared
+            .store::<Leave>(&mut self.seat, TURN_WORD, self.word);
+        self.inside = false;
+        true
+    }
+
+    /// The length of the history, as it wraps at 2^63, where the member hasn't the turn. It waits for nobody.
+    pub fn place(&mut self) -> Option<u64>
+        ensures places { Places self.old result self.new }
+        ensures grows { IsPrefix self.old.seen self.new.seen }
+    {
+        if self.inside {
+            return None;
+        }
+        Some(self.table.shared.load::<Look>(&mut self.seat, TURN_WORD) / 2)
+    }
+
+    /// Does a command of one of its mutators, where it has the turn, and replies.
+    #[inline(always)]
+    pub fn call(&mut self, mutator: u32, command: Command) -> Result<Reply, NotDone>
+        ensures { Calls self.old mutator command result self.new }
+    {
+        if !self.inside {
+            return Err(NotDone::Outside);
+        }
+        if mutator < self.from || self.to <= mutator {
+            return Err(NotDone::NotYours);
+        }
+        self.word = self.word.wrapping_add(2);
+        Ok(
+            self.seat
+                .slot_mut(&self.table.shared, 0)
+                .call(mutator, command),
+        )
+    }
+
+    /// Begins a cycle of the collector, unless one is running, where it has the turn.
+    pub fn begin(&mut self) -> Option<Result<(), Busy>>
+        ensures { DoesInTurn begin_done self.old result self.new }
+    {
+        if !self.inside {
+            return None;
+        }
+        Some(self.seat.slot_mut(&self.table.shared, 0).begin())
+    }
+
+    /// Spends units of a budget on the cycle that is running, where it has the turn.
+    pub fn quantum(&mut self, budget: u32) -> Option<Result<Spent, BudgetOutOfRange>>
+        ensures { DoesInTurn (quantum_done budget) self.old result self.new }
+    {
+        if !self.inside {
+            return None;
+        }
+        Some(self.seat.slot_mut(&self.table.shared, 0).quantum(budget))
+    }
+
+    /// Learns what another member of the same heap can tell of the history, once that has given the turn back. Nobody calls
+    /// for that one's mutators any more.
+    pub fn learn(&mut self, mut other: Member)
+        requires { other.heap ≡ self.old.heap }
+        ensures { Learns self.old other self.new }
+    {
+        other.leave();
+        let Member { seat, .. } = other;
+        self.table.shared.join_seat::<Learn>(&mut self.seat, seat);
+    }
+
+    /// What is promised of the heap and its history, where the member has the turn. It does nothing.
+    pub fn promise(&mut self)
+        ensures same { self.new ≡ self.old }
+        ensures promised { IfSome self.old.turn IsPromised }
+    {
+        if self.inside {
+            self.seat.slot_mut(&self.table.shared, 0).promise();
+        }
+    }
+}

@@ -1,0 +1,103 @@
+//! The rule of the word by which members take turns, and what a step on it tells.
+use crate::shared_heap::SharedHeap;
+use atomic_table::{Play, Split, TableRule};
+use graph_heap::Entry;
+use settings::Config;
+use std::collections::LinkedList;
+
+/// How many words the table has. One counts: the others keep what lies beside the table in memory off its cache line.
+pub const WORDS: usize = 32;
+
+/// The place of the word that counts.
+pub const TURN_WORD: usize = 16;
+
+/// What a member can tell of the history: the mutators from which on and below which it alone calls, and what it has seen.
+/// No value of it is made.
+pub struct Account {
+    pub from: u32,
+    pub to: u32,
+    pub seen: LinkedList<Entry>,
+}
+
+/// What a member knows: the configuration of the heap; its account; where its mutators were cut last; the accounts of
+/// those that it has learnt from; and whether it has the turn. No value of it is made.
+pub struct Known {
+    pub config: Option<Config>,
+    pub from: u32,
+    pub to: u32,
+    pub cut: u32,
+    pub seen: LinkedList<Entry>,
+    pub learnt: LinkedList<Account>,
+    pub inside: bool,
+}
+
+/// One word counts, and there is one slot. The word is twice the length of the history, as it wraps, and one more while a
+/// member has the turn; the heap lies in the slot while none has it. What each member has seen begins the history, and
+/// of its own mutators the history has no more than that.
+pub struct TurnRule;
+
+impl TableRule<SharedHeap, Known, Config> for TurnRule {
+    ghost use Rattle.heap_shared.specs.Turns.{Keeps, newcomer};
+
+    ghost holds = { Keeps };
+
+    ghost first = { newcomer };
+}
+
+/// A step that takes the turn, if nobody has it.
+pub struct Enter;
+
+impl Play<SharedHeap, Known> for Enter {
+    ghost use Rattle.heap_shared.specs.Turns.{Entered};
+
+    ghost then = { Entered };
+}
+
+/// A step that gives the turn back.
+pub struct Leave;
+
+impl Play<SharedHeap, Known> for Leave {
+    ghost use Rattle.heap_shared.specs.Turns.{Left};
+
+    ghost then = { Left };
+}
+
+/// A step that looks at the word.
+pub struct Look;
+
+impl Play<SharedHeap, Known> for Look {
+    ghost use Rattle.heap_shared.specs.Turns.{Looked};
+
+    ghost then = { Looked };
+}
+
+/// A step that changes nothing of the table, and says where a member's mutators are to be cut in two.
+pub struct Cut;
+
+impl Play<SharedHeap, Known> for Cut {
+    ghost use Rattle.heap_shared.specs.Turns as turns;
+
+    ghost then = { turns.Cut };
+}
+
+/// A new member has seen what another one has, and gets its mutators from the cut on.
+pub struct Halve;
+
+impl Split<Known> for Halve {
+    ghost use Rattle.heap_shared.specs.Turns.{before_cut, behind_cut};
+
+    ghost left = { before_cut };
+
+    ghost right = { behind_cut };
+}
+
+/// A member learns another's account.
+pub struct Learn;
+
+impl atomic_table::Join<Known> for Learn {
+    ghost use Rattle.heap_shared.specs.Turns.{learning, nobody};
+
+    ghost both = { learning };
+
+    ghost spent = { nobody };
+}

@@ -1,0 +1,51 @@
+-- A load, by the bytes of its file.
+use Rattle.std.proofs.Common.{◌≡◌, ℕ, ◌<◌, ◌∙◌, true, false, Bool, List, length, Option, Some, None, sym, refl, arith}
+use Rattle.std.specs.Prelude.{nat_lt, if◌then◌else◌, IfSome, Result, Ok, Err}
+use Rattle.trace.specs.declared.fault.PlayFault.TheVariants as texts
+use Rattle.command_line.specs.TomlTable.{document_of}
+use Rattle.command_line.specs.declared.toml_table.ReadFault.{ReadFault}
+use Rattle.command_line.specs.declared.toml_table.ReadFault.TheVariants.{Refused, NoMemory}
+use Rattle.sizing.specs.declared.arrivals.load.AllocationProfile.{AllocationProfile as LoadTable}
+use Rattle.sizing.specs.declared.load_file.fault.DocumentFault.{DocumentFault}
+use Rattle.sizing.specs.declared.load_file.fault.DocumentFault.TheVariants as faults
+use Rattle.sizing.specs.Document.{IsRead, bytes_fault, fault_in}
+use Rattle.metronome.specs.declared.fault.RunFault.{RunFault}
+use Rattle.metronome.specs.declared.fault.RunFault.TheVariants.{Load, Text}
+use Rattle.metronome.specs.Faults.{IsUnread, IsUnreadable}
+use Rattle.metronome.specs.Loaded.{LoadRead}
+use Rattle.metronome.specs.Run.{document_bytes}
+use Rattle.metronome.proofs.Obeying.{known_read}
+
+too_long : (bytes : List ℕ) → 65536 < length bytes → bytes_fault bytes ≡ Some faults.TooLong
+too_long bytes long = by_test (nat_lt 65536 (length bytes)) (grind arith)
+  where
+    by_test : (b : Bool) → b ≡ true → (if b then Some faults.TooLong else fault_in (document_of bytes)) ≡ Some faults.TooLong
+    by_test true e = refl
+    by_test false e = absurd (cc)
+
+-- what is too long has no other fault
+long_read : (all cut : List ℕ) (r : Result LoadTable (ReadFault DocumentFault)) → 65536 < length all → 65536 < length cut → IsRead cut r → IsRead all r
+long_read all cut (Ok l) long few h = absurd (let no : Some faults.TooLong ≡ None = sym (too_long cut few) ∙ h.0 in cc)
+long_read all cut (Err (Refused fault)) long few h = too_long all long ∙ sym (too_long cut few) ∙ h
+long_read all cut (Err NoMemory) long few h = absurd (let short = h.short in omega (arith, short, few))
+
+pub load_read : (known : Option (List ℕ)) (bytes : List ℕ) (r : Result LoadTable (ReadFault DocumentFault)) → IfSome known (λ all. bytes ≡ document_bytes all) → IsRead bytes r → IfSome known (λ all. IsRead all r)
+load_read known bytes r e h = known_read IsRead long_read known bytes r e h
+
+-- what can't be read of a load, or of a trace, gives no load
+pub unread_load : (known : Option (List ℕ)) (fault : RunFault) → IsUnreadable fault → LoadRead known (Err fault)
+unread_load known (Text texts.Read) u = tt
+unread_load known (Text texts.NoMemory) u = tt
+unread_load known fault u = elim u [ ]
+
+-- and a load that can't be read, or is refused, is unread
+pub load_unread : (known : Option (List ℕ)) (fault : RunFault) → LoadRead known (Err fault) → IsUnread fault
+load_unread known (Load why) r = tt
+load_unread known (Text texts.Read) r = tt
+load_unread known (Text texts.NoMemory) r = tt
+load_unread known fault r = elim r [ ]
+
+pub unreadable_unread : (fault : RunFault) → IsUnreadable fault → IsUnread fault
+unreadable_unread (Text texts.Read) u = tt
+unreadable_unread (Text texts.NoMemory) u = tt
+unreadable_unread fault u = elim u [ ]

@@ -1,0 +1,29 @@
+//! The sampler, as a survey of a run.
+ghost use Rattle.pictures.specs.Taking.{AreSamplesOf};
+
+use crate::timeline::sampler::Sampler;
+use crate::timeline::samples::Samples;
+use graph_heap::NoMemory;
+use player::{Player, Survey};
+use settings::Config;
+use std::alloc::Global;
+
+/// It takes samples of the heap: the first of the new heap, and then one after each stride of events. Commands,
+/// beginnings, quanta and ticks are events; lines that are skipped, and that of the version, aren't. The stride is the
+/// least power of two with which there are at most `MOST_SAMPLES` samples. In a sample of a heap without a running
+/// cycle, the objects are counted, and each tells how many lines were done.
+impl Survey for Sampler {
+    type Findings = Samples;
+
+    ghost tells = { AreSamplesOf };
+
+    fn start(alloc: Global, _config: &Config, player: &Player) -> Result<Sampler, NoMemory> {
+        Sampler::new(alloc, player.recorded().heap())
+    }
+
+    fn finish(self, _player: &Player, lines: u64) -> Result<Samples, NoMemory> {
+        let mut samples = self.samples;
+        samples.lines = lines;
+        Ok(samples)
+    }
+}

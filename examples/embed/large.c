@@ -1,0 +1,108 @@
+/*
+ * Large heaps: the same drawn calls on 4096, 65536 and 1048576 pages get the same answers, in cycles that move and in such that
+ * don't; a heap takes memory for the pages that it used alone, and for a record of each page; a page more than the most is refused.
+ */
+#define _GNU_SOURCE
+#include "metronome.h"
+#include <stdio.h>
+#include <stdlib.h>
+#include <sys/resource.h>
+
+enum { SLOTS = 64, CALLS = 200000, BUDGET = 2000, MOST = 1048576, MOVED = 64, KILOBYTES = 64000 };
+
+static const int64_t PAGES[] = { 4096, 65536, MOST };
+
+static int passed, failed;
+
+static void check(int holds, int line) {
+    if (holds) {
+        passed++;
+    } else {
+        failed++;
+        fprintf(stderr, "failed: line %d\n", line);
+    }
+}
+
+#define CHECK(holds) check(holds, __LINE__)
+
+static metronome opened(int64_t pages, int64_t moved) {
+    metronome heap = METRONOME_CLOSED;
+    metronome_settings settings = METRONOME_SETTINGS(pages, 1, SLOTS);
+    settings.defrag_below = moved ? pages + 1 : 0;
+    settings.defrag_pages = moved;
+    CHECK(metronome_create(&heap, &settings) == METRONOME_OK);
+    return heap;
+}
+
+/* A number below `most`, drawn from a state (the generator of Knuth's MMIX). */
+static uint32_t drawn(uint64_t *state, uint32_t most) {
+    *state = *state * 6364136223846793005u + 1442695040888963407u;
+    return (uint32_t)(*state >> 33) % most;
+}
+
+/* A call that a state draws: its answer, in one number. */
+static uint64_t call(metronome *heap, uint64_t *state) {
+    uint32_t kind = drawn(state, 12), slot = drawn(state, SLOTS), other = drawn(state, SLOTS), cell = drawn(state, 40);
+    metronome_answer answer;
+    switch (kind) {
+    case 0: case 1: answer = metronome_new_plain(heap, 0, slot, cell, drawn(state, 120)); break;
+    case 2: answer = metronome_new_refs(heap, 0, slot, cell * 30); break;
+    case 3: answer = metronome_new_words(heap, 0, slot, cell * cell * 40); break;
+    case 4: case 5: answer = metronome_store(heap, 0, slot, cell, other); break;
+    case 6: answer = metronome_load(heap, 0, slot, other, cell); break;
+    case 7: case 8: answer = metronome_put(heap, 0, slot, cell, *state); break;
+    case 9: answer = metronome_get(heap, 0, slot, cell); break;
+    case 10: answer = metronome_same(heap, 0, slot, other); break;
+    default: answer = metronome_clear(heap, 0, slot); break;
+    }
+    return answer.number * 16 + answer.kind;
+}
+
+/* Drawn calls with cycles beside them: all their answers, in one number, and what is left when a cycle has ended after them. */
+static uint64_t answers_of(int64_t pages, int64_t moved, metronome_counts *counts) {
+    metronome heap = opened(pages, moved);
+    uint64_t state = 20261127, sum = 0;
+    metronome_spent spent;
+    for (int i = 0; i < CALLS; i++) {
+        sum = (sum + call(&heap, &state)) * 1099511628211u;
+        if (i % 20 == 0) metronome_begin(&heap);
+        if (i % 4 == 0) metronome_quantum(&heap, BUDGET, &spent);
+    }
+    CHECK(metronome_whole_cycle(&heap, 1000000) == METRONOME_OK);
+    CHECK(metronome_count(&heap, counts) == METRONOME_OK);
+    metronome_destroy(&heap);
+    return sum;
+}
+
+static void answers_are_the_same(int64_t moved) {
+    metronome_counts first, counts;
+    uint64_t sum = answers_of(PAGES[0], moved, &first);
+    for (size_t i = 1; i < sizeof PAGES / sizeof *PAGES; i++) {
+        CHECK(answers_of(PAGES[i], moved, &counts) == sum);
+        CHECK(counts.objects == first.objects && counts.parts == first.parts);
+    }
+}
+
+/* A thousand objects on the largest heap, before any other heap was made. */
+static void memory_is_that_of_used_pages(void) {
+    struct rusage usage;
+    metronome heap = opened(MOST, 0);
+    for (uint32_t i = 0; i < 1000; i++) CHECK(metronome_new_plain(&heap, 0, i % SLOTS, 1, 2).kind == METRONOME_MADE);
+    CHECK(getrusage(RUSAGE_SELF, &usage) == 0 && usage.ru_maxrss < KILOBYTES);
+    metronome_destroy(&heap);
+}
+
+static void one_more_is_refused(void) {
+    metronome heap = METRONOME_CLOSED;
+    metronome_settings settings = METRONOME_SETTINGS(MOST + 1, 1, SLOTS);
+    CHECK(metronome_create(&heap, &settings) == METRONOME_BAD_SETTING);
+}
+
+int main(void) {
+    memory_is_that_of_used_pages();
+    answers_are_the_same(0);
+    answers_are_the_same(MOVED);
+    one_more_is_refused();
+    printf("%d passed, %d failed\n", passed, failed);
+    return failed != 0;
+}

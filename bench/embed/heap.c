@@ -1,4 +1,4 @@
-/* heap PAGES LIVE: calls of the heap by C, with so many live cells of one reference and two words. */
+/* heap PAGES LIVE [WORDS]: calls of the heap by C, with so many live cells of one reference and two words, or as many as said. */
 #define _POSIX_C_SOURCE 200809L
 #include "measure.h"
 #include "metronome.h"
@@ -10,6 +10,7 @@ static metronome heap = METRONOME_CLOSED;
 static volatile uint64_t sink;
 static struct longest quanta;
 static int64_t refused;
+static uint32_t words_of_cell = 2;
 
 static void need(int holds) {
     if (!holds) {
@@ -19,7 +20,7 @@ static void need(int holds) {
 }
 
 static void new_cell(uint32_t slot) {
-    if (metronome_new_plain(&heap, 0, slot, 1, 2).kind != METRONOME_MADE) refused++;
+    if (metronome_new_plain(&heap, 0, slot, 1, words_of_cell).kind != METRONOME_MADE) refused++;
 }
 
 /* A quantum before each sixteenth call. Answers how long it took. */
@@ -73,7 +74,8 @@ static void end_cycle(void) {
 }
 
 int main(int count, char **words) {
-    if (count != 3) return 2;
+    if (count < 3) return 2;
+    if (count > 3) words_of_cell = (uint32_t)atoi(words[3]);
     metronome_settings settings = METRONOME_SETTINGS(atoi(words[1]), 1, SLOTS);
     need(metronome_create(&heap, &settings) == METRONOME_OK);
     fill((uint32_t)atoi(words[2]));

@@ -1,6 +1,7 @@
 /*
  * Large heaps: the same drawn calls on 4096, 65536 and 1048576 pages get the same answers, in cycles that move and in such that
- * don't; a heap takes memory for the pages that it used alone, and for a record of each page; a page more than the most is refused.
+ * don't; a heap takes memory for the pages that it used alone, and for a record of each page; 256 MB of live objects are as they
+ * were made after cycles; a page more than the most is refused.
  */
 #define _GNU_SOURCE
 #include "metronome.h"
@@ -8,7 +9,7 @@
 #include <stdlib.h>
 #include <sys/resource.h>
 
-enum { SLOTS = 64, CALLS = 200000, BUDGET = 2000, MOST = 1048576, MOVED = 64, KILOBYTES = 64000 };
+enum { SLOTS = 64, CALLS = 200000, BUDGET = 2000, MOST = 1048576, MOVED = 64, KILOBYTES = 64000, LIVE = 131072, LARGEST = 252 };
 
 static const int64_t PAGES[] = { 4096, 65536, MOST };
 
@@ -92,6 +93,27 @@ static void memory_is_that_of_used_pages(void) {
     metronome_destroy(&heap);
 }
 
+/* Objects of 2 KB, to each of which an array leads, through two cycles. */
+static void much_is_live(void) {
+    metronome heap = opened(PAGES[1], 0);
+    metronome_counts counts;
+    uint32_t wrong = 0;
+    CHECK(metronome_new_refs(&heap, 0, 0, LIVE).kind == METRONOME_MADE);
+    for (uint32_t i = 0; i < LIVE; i++) {
+        wrong += metronome_new_plain(&heap, 0, 1, 0, LARGEST).kind != METRONOME_MADE;
+        wrong += metronome_put(&heap, 0, 1, LARGEST - 1, i).kind != METRONOME_DONE;
+        wrong += metronome_store(&heap, 0, 0, i, 1).kind != METRONOME_DONE;
+    }
+    CHECK(metronome_whole_cycle(&heap, BUDGET) == METRONOME_OK);
+    for (uint32_t i = 0; i < LIVE; i++) {
+        wrong += metronome_load(&heap, 0, 1, 0, i).kind != METRONOME_REF;
+        wrong += metronome_get(&heap, 0, 1, LARGEST - 1).number != i;
+    }
+    CHECK(wrong == 0);
+    CHECK(metronome_count(&heap, &counts) == METRONOME_OK && counts.objects == LIVE + 1);
+    metronome_destroy(&heap);
+}
+
 static void one_more_is_refused(void) {
     metronome heap = METRONOME_CLOSED;
     metronome_settings settings = METRONOME_SETTINGS(MOST + 1, 1, SLOTS);
@@ -102,6 +124,7 @@ int main(void) {
     memory_is_that_of_used_pages();
     answers_are_the_same(0);
     answers_are_the_same(MOVED);
+    much_is_live();
     one_more_is_refused();
     printf("%d passed, %d failed\n", passed, failed);
     return failed != 0;

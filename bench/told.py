@@ -1,5 +1,20 @@
 """Tables that are printed, each behind a line that names its place in docs/PERFORMANCE.md, where bench/performance puts it."""
 import os
+import sys
+
+
+def given_words(text, least, most, flags=()):
+    """The words of a script, which are so many besides its flags. Where help is asked for, the script's text is told, and it ends;
+    other words are refused."""
+    given = sys.argv[1:]
+    plain = [it for it in given if it not in flags]
+    if {"-h", "--help"} & set(plain):
+        print(text.strip())
+        sys.exit(0)
+    if not least <= len(plain) <= most or any(it.startswith("-") for it in plain):
+        print(text.strip(), file=sys.stderr)
+        sys.exit(2)
+    return given
 
 
 def begin(name):

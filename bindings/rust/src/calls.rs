@@ -85,17 +85,46 @@ pub fn version() -> u32 {
 #[repr(C)]
 pub(crate) struct Answer {
     kind: u32,
-    number: u64,
+    pub(crate) number: u64,
 }
 
-const REFUSED: u32 = 0;
-const STORED: u32 = 5;
+/// What kind an answer is, in the order of their numbers.
+#[derive(Clone, Copy, PartialEq, Eq)]
+pub(crate) enum Kind {
+    Refused,
+    Made,
+    Ref,
+    Word,
+    Done,
+    Stored,
+    Kept,
+    KeptWord,
+    Is,
+    Described,
+}
 
 impl Answer {
+    /// What kind it is.
+    pub(crate) fn kind(&self) -> Kind {
+        const KINDS: [Kind; 10] = [
+            Kind::Refused,
+            Kind::Made,
+            Kind::Ref,
+            Kind::Word,
+            Kind::Done,
+            Kind::Stored,
+            Kind::Kept,
+            Kind::KeptWord,
+            Kind::Is,
+            Kind::Described,
+        ];
+        KINDS[self.kind as usize]
+    }
+
     /// The number of the answer, unless the command is refused.
     pub(crate) fn number(&self) -> Result<u64> {
-        match self.kind {
-            REFUSED => Err(Refusal::of(self.number as u32)),
+        match self.kind() {
+            Kind::Refused => Err(Refusal::of(self.number as u32)),
             _ => Ok(self.number),
         }
     }
@@ -103,7 +132,7 @@ impl Answer {
     /// None where a comparison held, or else the number that stands there.
     pub(crate) fn compared(&self) -> Result<Option<u64>> {
         let number = self.number()?;
-        Ok(if self.kind == STORED { None } else { Some(number) })
+        Ok(if self.kind() == Kind::Stored { None } else { Some(number) })
     }
 }
 

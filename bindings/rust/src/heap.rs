@@ -1,9 +1,11 @@
 //! The heap, and its collector.
-use std::cell::{Cell, UnsafeCell};
+use std::cell::{Cell, RefCell, UnsafeCell};
 use std::fmt;
+use std::io;
 
-use crate::calls::{self, done, Counts, Handle, Page, Settings, SpentTold};
+use crate::calls::{self, done, Answer, Counts, Handle, Page, Settings, ShapeTold, SpentTold};
 use crate::mutator::Mutator;
+use crate::record::{Recording, Reply};
 use crate::refusal::{Refusal, Result};
 
 /// A heap. It may go to another thread, and gives its memory back when it is dropped.
@@ -12,6 +14,7 @@ pub struct Heap {
     slots: u32,
     /// A bit for each number of which there is a `Mutator`.
     used: Cell<u64>,
+    recording: RefCell<Option<Recording>>,
 }
 
 // SAFETY: the library keeps nothing of a thread. A heap isn't `Sync`, so that its calls come one at a time.
@@ -72,7 +75,39 @@ impl Heap {
         let mut handle = Handle::CLOSED;
         // SAFETY: both live through the call, and the handle is closed.
         done(unsafe { calls::metronome_create_for(&mut handle, settings, calls::VERSION) })?;
-        Ok(Heap { handle: UnsafeCell::new(handle), slots: settings.slots as u32, used: Cell::new(0) })
+        Ok(Heap {
+            handle: UnsafeCell::new(handle),
+            slots: settings.slots as u32,
+            used: Cell::new(0),
+            recording: RefCell::new(None),
+        })
+    }
+
+    /// The same, and from now on each call is written down, until [`Heap::end_recording`] or until the heap is dropped.
+    pub fn recorded(settings: &Settings, mut recording: Recording) -> Result<Heap> {
+        let heap = Heap::new(settings)?;
+        recording.begin(settings);
+        heap.recording.replace(Some(recording));
+        Ok(heap)
+    }
+
+    /// Ends the recording, if there is one. Err where something of it wasn't taken: then it ends before that.
+    pub fn end_recording(&self) -> io::Result<()> {
+        self.recording.take().map_or(Ok(()), Recording::end)
+    }
+
+    /// Writes down a command of a mutator, where the heap is recorded.
+    pub(crate) fn note(&self, mutator: u32, line: fmt::Arguments<'_>, answer: &Answer, shape: &ShapeTold) {
+        if let Some(recording) = self.recording.borrow_mut().as_mut() {
+            recording.command(mutator, line, Reply { answer, shape });
+        }
+    }
+
+    /// Writes down what the collector was asked for, where the heap is recorded.
+    fn note_collector(&self, line: fmt::Arguments<'_>) {
+        if let Some(recording) = self.recording.borrow_mut().as_mut() {
+            recording.collector(line);
+        }
     }
 
     /// Clears the first `pages` pages, or all where there are fewer, so that no later call has to: `usize::MAX` for all. Nothing
@@ -107,7 +142,9 @@ impl Heap {
     /// Begins a cycle. Answers whether one began: none was running.
     pub fn begin(&self) -> bool {
         // SAFETY: the heap is open, and lives through the call.
-        unsafe { calls::metronome_begin(self.handle()) == calls::OK }
+        let status = unsafe { calls::metronome_begin(self.handle()) };
+        self.note_collector(format_args!("begin"));
+        status == calls::OK
     }
 
     /// Spends at most `budget` units, 256 to 1000000, on the cycle that is running. Refused: `BadBudget`.
@@ -115,6 +152,7 @@ impl Heap {
         let mut told = SpentTold::default();
         // SAFETY: the heap is open, and both live through the call.
         done(unsafe { calls::metronome_quantum(self.handle(), budget, &mut told) })?;
+        self.note_collector(format_args!("quantum {budget}"));
         Ok(Spent { units: told.units, phase: Phase::of(told.phase) })
     }
 
@@ -198,6 +236,8 @@ impl fmt::Debug for Heap {
 
 impl Drop for Heap {
     fn drop(&mut self) {
+        // Who wants to know whether all was written ends the recording before.
+        let _ = self.end_recording();
         // SAFETY: the handle lives through the call, and nothing borrows the heap any more.
         unsafe { calls::metronome_destroy(self.handle()) }
     }

@@ -41,11 +41,13 @@
 mod calls;
 mod heap;
 mod mutator;
+mod record;
 mod refusal;
 mod root;
 
 pub use calls::{version, Counts, CycleLimit, Page, Settings};
 pub use heap::{Heap, Pacing, Phase, Spent};
 pub use mutator::Mutator;
+pub use record::Recording;
 pub use refusal::{Refusal, Result};
 pub use root::{Compared, Description, Root, Shape};

@@ -2,7 +2,7 @@
 use std::cell::RefCell;
 use std::fmt;
 
-use crate::calls::{self, Answer, Handle};
+use crate::calls::{self, Answer, Handle, ShapeTold};
 use crate::heap::Heap;
 use crate::refusal::{Refusal, Result};
 use crate::root::{Compared, Root};
@@ -18,16 +18,31 @@ pub struct Mutator<'h> {
 impl<'h> Mutator<'h> {
     pub(crate) fn join(heap: &'h Heap, number: u32, slots: u32) -> Result<Mutator<'h>> {
         // SAFETY: the heap is open, and lives through the call.
-        match unsafe { calls::metronome_join(heap.handle(), number) }.number() {
+        let answer = unsafe { calls::metronome_join(heap.handle(), number) };
+        heap.note(number, format_args!("join"), &answer, &ShapeTold::default());
+        match answer.number() {
             Ok(_) | Err(Refusal::AlreadyLive) => {}
             Err(refusal) => return Err(refusal),
         }
         Ok(Mutator { heap, number, free: RefCell::new((0..slots).rev().collect()) })
     }
 
-    /// A command of this mutator. The closure gets the heap's handle, which is open, and the mutator's number.
-    pub(crate) fn command(&self, call: impl FnOnce(*mut Handle, u32) -> Answer) -> Answer {
-        call(self.heap.handle(), self.number)
+    /// A command of this mutator, with its line of a trace, but for the mutator. The closure gets the heap's handle, which is open,
+    /// the mutator's number, and where the shape goes that the command tells.
+    pub(crate) fn tell(
+        &self,
+        line: fmt::Arguments<'_>,
+        call: impl FnOnce(*mut Handle, u32, &mut ShapeTold) -> Answer,
+    ) -> (Answer, ShapeTold) {
+        let mut shape = ShapeTold::default();
+        let answer = call(self.heap.handle(), self.number, &mut shape);
+        self.heap.note(self.number, line, &answer, &shape);
+        (answer, shape)
+    }
+
+    /// One that tells no shape.
+    pub(crate) fn command(&self, line: fmt::Arguments<'_>, call: impl FnOnce(*mut Handle, u32) -> Answer) -> Answer {
+        self.tell(line, |heap, m, _| call(heap, m)).0
     }
 
     /// Lets a slot, which holds null, be a root again.
@@ -41,12 +56,6 @@ impl<'h> Mutator<'h> {
         Ok(Root::new(self, slot))
     }
 
-    /// The number of a command that writes into a root of this mutator.
-    fn made(&self, into: &Root<'_>, call: impl FnOnce(*mut Handle, u32, u32) -> Answer) -> Result<()> {
-        let slot = into.slot_of(self)?;
-        self.command(|heap, m| call(heap, m, slot)).number().map(drop)
-    }
-
     /// A new object of `refs` reference cells, all null, and `words` word cells, all 0: at most 252 cells. Refused: `BadSlot`,
     /// `TooLarge`, `IdentitiesSpent`, `NoSpace`.
     pub fn new_plain(&self, refs: u32, words: u32) -> Result<Root<'_>> {
@@ -57,46 +66,56 @@ impl<'h> Mutator<'h> {
 
     /// The same, into an existing root.
     pub fn new_plain_into(&self, refs: u32, words: u32, into: &Root<'_>) -> Result<()> {
+        let dst = into.slot_of(self)?;
         // SAFETY: the heap is open, and lives through the call.
-        self.made(into, |heap, m, dst| unsafe { calls::metronome_new_plain(heap, m, dst, refs, words) })
+        let call = |heap, m| unsafe { calls::metronome_new_plain(heap, m, dst, refs, words) };
+        self.command(format_args!("new {dst} plain {refs} {words}"), call).number().map(drop)
     }
 
     /// A new array of this many reference cells, all null: at most 4000000. Refused as [`Mutator::new_plain`].
     pub fn new_refs(&self, refs: u32) -> Result<Root<'_>> {
         let root = self.null()?;
+        let dst = root.slot_of(self)?;
         // SAFETY: the heap is open, and lives through the call.
-        self.made(&root, |heap, m, dst| unsafe { calls::metronome_new_refs(heap, m, dst, refs) })?;
+        let call = |heap, m| unsafe { calls::metronome_new_refs(heap, m, dst, refs) };
+        self.command(format_args!("new {dst} refs {refs}"), call).number()?;
         Ok(root)
     }
 
     /// A new array of this many word cells, all 0: at most 4000000. Refused as [`Mutator::new_plain`].
     pub fn new_words(&self, words: u32) -> Result<Root<'_>> {
         let root = self.null()?;
+        let dst = root.slot_of(self)?;
         // SAFETY: the heap is open, and lives through the call.
-        self.made(&root, |heap, m, dst| unsafe { calls::metronome_new_words(heap, m, dst, words) })?;
+        let call = |heap, m| unsafe { calls::metronome_new_words(heap, m, dst, words) };
+        self.command(format_args!("new {dst} words {words}"), call).number()?;
         Ok(root)
     }
 
     /// What static `k` holds. Refused: `BadSlot`, `BadStatic`.
     pub fn load_static(&self, k: u32) -> Result<Root<'_>> {
         let root = self.null()?;
+        let dst = root.slot_of(self)?;
         // SAFETY: the heap is open, and lives through the call.
-        self.made(&root, |heap, m, dst| unsafe { calls::metronome_load_static(heap, m, dst, k) })?;
+        let call = |heap, m| unsafe { calls::metronome_load_static(heap, m, dst, k) };
+        self.command(format_args!("loadstatic {dst} {k}"), call).number()?;
         Ok(root)
     }
 
     /// What a root holds, into static `k`. Refused: `BadSlot`, `BadStatic`.
     pub fn store_static(&self, k: u32, from: &Root<'_>) -> Result<()> {
+        let src = from.slot_of(self)?;
         // SAFETY: the heap is open, and lives through the call.
-        self.made(from, |heap, m, src| unsafe { calls::metronome_store_static(heap, m, k, src) })
+        let call = |heap, m| unsafe { calls::metronome_store_static(heap, m, k, src) };
+        self.command(format_args!("storestatic {k} {src}"), call).number().map(drop)
     }
 
     /// What `replacement` holds, into static `k`, if that holds what `expect` does. Refused: `BadSlot`, `BadStatic`.
     pub fn compare_static(&self, k: u32, expect: &Root<'_>, replacement: &Root<'_>) -> Result<Compared> {
-        let (expect, replacement) = (expect.slot_of(self)?, replacement.slot_of(self)?);
+        let (expect, new) = (expect.slot_of(self)?, replacement.slot_of(self)?);
         // SAFETY: the heap is open, and lives through the call.
-        let answer = self.command(|heap, m| unsafe { calls::metronome_compare_static(heap, m, k, expect, replacement) });
-        answer.compared().map(Compared::of)
+        let call = |heap, m| unsafe { calls::metronome_compare_static(heap, m, k, expect, new) };
+        self.command(format_args!("casstatic {k} {expect} {new}"), call).compared().map(Compared::of)
     }
 }
 
@@ -109,7 +128,7 @@ impl fmt::Debug for Mutator<'_> {
 impl Drop for Mutator<'_> {
     fn drop(&mut self) {
         // SAFETY: the heap is open, and lives through the call.
-        self.command(|heap, m| unsafe { calls::metronome_leave(heap, m) });
+        self.command(format_args!("leave"), |heap, m| unsafe { calls::metronome_leave(heap, m) });
         self.heap.release(self.number);
     }
 }

@@ -88,51 +88,59 @@ impl<'m> Root<'m> {
     /// The same, into an existing root: this one, say.
     pub fn load_into(&self, i: u32, into: &Root<'_>) -> Result<()> {
         let dst = into.slot_of(self.mutator)?;
+        let obj = self.slot;
         // SAFETY: the heap is open, and lives through the call.
-        let answer = self.mutator.command(|heap, m| unsafe { calls::metronome_load(heap, m, dst, self.slot, i) });
-        answer.number().map(drop)
+        let call = |heap, m| unsafe { calls::metronome_load(heap, m, dst, obj, i) };
+        self.mutator.command(format_args!("load {dst} {obj} {i}"), call).number().map(drop)
     }
 
     /// What another root holds, into reference cell `i` of this root's object. Refused as [`Root::load`].
     pub fn store(&self, i: u32, from: &Root<'_>) -> Result<()> {
-        let src = from.slot_of(self.mutator)?;
+        let (obj, src) = (self.slot, from.slot_of(self.mutator)?);
         // SAFETY: the heap is open, and lives through the call.
-        let answer = self.mutator.command(|heap, m| unsafe { calls::metronome_store(heap, m, self.slot, i, src) });
-        answer.number().map(drop)
+        let call = |heap, m| unsafe { calls::metronome_store(heap, m, obj, i, src) };
+        self.mutator.command(format_args!("store {obj} {i} {src}"), call).number().map(drop)
     }
 
     /// What `replacement` holds, into reference cell `i`, if that holds what `expect` does. Refused as [`Root::load`].
     pub fn compare_store(&self, i: u32, expect: &Root<'_>, replacement: &Root<'_>) -> Result<Compared> {
         let (expect, new) = (expect.slot_of(self.mutator)?, replacement.slot_of(self.mutator)?);
+        let obj = self.slot;
         // SAFETY: the heap is open, and lives through the call.
-        let call = |heap, m| unsafe { calls::metronome_compare_store(heap, m, self.slot, i, expect, new) };
-        self.mutator.command(call).compared().map(Compared::of)
+        let call = |heap, m| unsafe { calls::metronome_compare_store(heap, m, obj, i, expect, new) };
+        self.mutator.command(format_args!("cas {obj} {i} {expect} {new}"), call).compared().map(Compared::of)
     }
 
     /// Reads word cell `i` of this root's object. Refused: `NullSlot`, `WrongKind`, `BadIndex`.
     pub fn get(&self, i: u32) -> Result<u64> {
+        let obj = self.slot;
         // SAFETY: the heap is open, and lives through the call.
-        self.mutator.command(|heap, m| unsafe { calls::metronome_get(heap, m, self.slot, i) }).number()
+        let call = |heap, m| unsafe { calls::metronome_get(heap, m, obj, i) };
+        self.mutator.command(format_args!("get {obj} {i}"), call).number()
     }
 
     /// Writes word cell `i` of this root's object. Refused as [`Root::get`].
     pub fn put(&self, i: u32, word: u64) -> Result<()> {
+        let obj = self.slot;
         // SAFETY: the heap is open, and lives through the call.
-        self.mutator.command(|heap, m| unsafe { calls::metronome_put(heap, m, self.slot, i, word) }).number().map(drop)
+        let call = |heap, m| unsafe { calls::metronome_put(heap, m, obj, i, word) };
+        self.mutator.command(format_args!("put {obj} {i} {word}"), call).number().map(drop)
     }
 
     /// Writes word cell `i`, if that is `old`. Refused as [`Root::get`].
     pub fn compare_put(&self, i: u32, old: u64, replacement: u64) -> Result<Compared> {
+        let (obj, new) = (self.slot, replacement);
         // SAFETY: the heap is open, and lives through the call.
-        let call = |heap, m| unsafe { calls::metronome_compare_put(heap, m, self.slot, i, old, replacement) };
-        self.mutator.command(call).compared().map(Compared::of)
+        let call = |heap, m| unsafe { calls::metronome_compare_put(heap, m, obj, i, old, new) };
+        self.mutator.command(format_args!("casput {obj} {i} {old} {new}"), call).compared().map(Compared::of)
     }
 
     /// What another root holds, into this one. Refused: `BadSlot`.
     pub fn assign(&self, from: &Root<'_>) -> Result<()> {
-        let src = from.slot_of(self.mutator)?;
+        let (dst, src) = (self.slot, from.slot_of(self.mutator)?);
         // SAFETY: the heap is open, and lives through the call.
-        self.mutator.command(|heap, m| unsafe { calls::metronome_copy(heap, m, self.slot, src) }).number().map(drop)
+        let call = |heap, m| unsafe { calls::metronome_copy(heap, m, dst, src) };
+        self.mutator.command(format_args!("copy {dst} {src}"), call).number().map(drop)
     }
 
     /// A further root of the same object. Refused: `BadSlot` where no slot is left.
@@ -144,23 +152,25 @@ impl<'m> Root<'m> {
 
     /// Null into this root.
     pub fn clear(&self) {
+        let dst = self.slot;
         // SAFETY: the heap is open, and lives through the call.
-        self.mutator.command(|heap, m| unsafe { calls::metronome_clear(heap, m, self.slot) });
+        self.mutator.command(format_args!("clear {dst}"), |heap, m| unsafe { calls::metronome_clear(heap, m, dst) });
     }
 
     /// Whether both hold the same object, or null. Refused: `BadSlot`.
     pub fn is_same(&self, other: &Root<'_>) -> Result<bool> {
-        let b = other.slot_of(self.mutator)?;
+        let (a, b) = (self.slot, other.slot_of(self.mutator)?);
         // SAFETY: the heap is open, and lives through the call.
-        let answer = self.mutator.command(|heap, m| unsafe { calls::metronome_same(heap, m, self.slot, b) });
-        answer.number().map(|is| is != 0)
+        let call = |heap, m| unsafe { calls::metronome_same(heap, m, a, b) };
+        self.mutator.command(format_args!("same {a} {b}"), call).number().map(|is| is != 0)
     }
 
     /// The object that the root holds, None for null.
     pub fn describe(&self) -> Option<Description> {
-        let mut told = ShapeTold::default();
+        let a = self.slot;
         // SAFETY: the heap is open, and both live through the call.
-        let answer = self.mutator.command(|heap, m| unsafe { calls::metronome_describe(heap, m, self.slot, &mut told) });
+        let call = |heap, m, told: &mut ShapeTold| unsafe { calls::metronome_describe(heap, m, a, told) };
+        let (answer, told) = self.mutator.tell(format_args!("describe {a}"), call);
         let identity = answer.number().ok()?;
         Some(Description { identity, shape: Shape::of(&told) })
     }

@@ -1,10 +1,10 @@
 /*
- * control [PERIODS [PERIOD [FILE.svg]]]: a control loop of a stated period in microseconds, 1000 if not said, over the heap. In
- * each period it makes objects, each in the place of an older one, and spends one quantum of a stated budget.
+ * control [PERIODS [PERIOD [FILE]]]: a control loop of a stated period in microseconds, 1000 if not said, over the heap. In each
+ * period it makes objects, each in the place of an older one, and spends one quantum of a stated budget.
  *
- * It prints how long it took to wake up, to work, and to do the quantum, and by what it missed a period; with FILE.svg it draws
- * the first two. None of this is promised: of a quantum its units are, and not the time that it takes. The process locks its
- * memory and asks for SCHED_FIFO where it may.
+ * It prints how long it took to wake up, to work, and to do the quantum, and by what it missed a period. FILE gets a line for each
+ * period, with the three times in nanoseconds: `bench/embed/loop` makes a picture of these. None of this is promised: of a
+ * quantum its units are, and not the time that it takes. The process locks its memory and asks for SCHED_FIFO where it may.
  *
  * Built with -DLIBGC=1 the same loop runs on libgc, which collects where it allocates; with -DLIBGC=2 incrementally, with one
  * GC_collect_a_little for a quantum.
@@ -185,50 +185,19 @@ static void print_times(uint32_t periods) {
     }
 }
 
-/* A picture has a column for each of COLUMNS ranges of time, each 10^(1/8) times the one before, from 100 ns on. */
-enum { COLUMNS = 48, WIDTH = 14, HEIGHT = 160, MARGIN = 40 };
-
-static int column_of(int64_t time) {
-    int column = 0;
-    for (double limit = 100; column < COLUMNS - 1 && (double)time > limit; limit *= 1.333521432) column++;
-    return column;
-}
-
-/* A power of two for each unit of height, so that a single period shows. */
-static int height_of(uint32_t count) {
-    int height = 0;
-    for (; count > 0; count /= 2) height++;
-    return height * HEIGHT / 24;
-}
-
-static void draw_columns(FILE *file, int what, uint32_t periods, int base) {
-    uint32_t counts[COLUMNS] = { 0 };
-    for (uint32_t n = 0; n < periods; n++) counts[column_of(times[what][n])]++;
-    fprintf(file, "<text x='%d' y='%d'>%s, %s: longest %.1f us</text>\n", MARGIN, base - HEIGHT - 8, MEMORY, names[what],
-            (double)times[what][periods - 1] / 1e3);
-    for (int i = 0; i < COLUMNS; i++)
-        fprintf(file, "<rect x='%d' y='%d' width='%d' height='%d' fill='steelblue'/>\n", MARGIN + i * WIDTH,
-                base - height_of(counts[i]), WIDTH - 1, height_of(counts[i]));
-    static const char *const marks[] = { "0.1 us", "1 us", "10 us", "100 us", "1 ms", "10 ms" };
-    for (int i = 0; i < 6; i++)
-        fprintf(file, "<text x='%d' y='%d'>%s</text>\n", MARGIN + i * 8 * WIDTH, base + 16, marks[i]);
-}
-
-static void draw(const char *path, uint32_t periods) {
+/* Writes the times of each period. */
+static void write_times(const char *path, uint32_t periods) {
     FILE *file = fopen(path, "w");
-    need(file != NULL, "the picture can't be written");
-    int width = 2 * MARGIN + COLUMNS * WIDTH, height = 2 * (HEIGHT + 2 * MARGIN);
-    fprintf(file, "<svg xmlns='http://www.w3.org/2000/svg' version='1.1' width='%d' height='%d' font-family='sans-serif' "
-                  "font-size='12'>\n<rect width='100%%' height='100%%' fill='white'/>\n", width, height);
-    draw_columns(file, WAKE, periods, MARGIN + HEIGHT);
-    draw_columns(file, WORK, periods, 3 * MARGIN + 2 * HEIGHT);
-    need(fprintf(file, "</svg>\n") > 0 && fclose(file) == 0, "the picture can't be written");
+    need(file != NULL, "the file can't be written");
+    for (uint32_t n = 0; n < periods; n++)
+        fprintf(file, "%lld %lld %lld\n", (long long)times[WAKE][n], (long long)times[WORK][n], (long long)times[QUANTUM][n]);
+    need(ferror(file) == 0 && fclose(file) == 0, "the file can't be written");
 }
 
 int main(int count, char **words) {
     uint32_t periods = count > 1 ? (uint32_t)atoi(words[1]) : 10000;
     int64_t period = count > 2 ? atoi(words[2]) : 1000;
-    need(count <= 4 && periods > 0 && period > 0, "[PERIODS [PERIOD [FILE.svg]]], in microseconds");
+    need(count <= 4 && periods > 0 && period > 0, "[PERIODS [PERIOD [FILE]]], in microseconds");
     for (int what = 0; what < TIMES; what++)
         need((times[what] = calloc(periods, sizeof *times[what])) != NULL, "no memory for the times");
     open_memory();
@@ -237,8 +206,8 @@ int main(int count, char **words) {
            LIVE);
     be_realtime();
     run(periods, period * 1000);
+    if (count > 3) write_times(words[3], periods);
     print_times(periods);
-    if (count > 3) draw(words[3], periods);
     close_memory();
     for (int what = 0; what < TIMES; what++) free(times[what]);
     printf("%d passed, %d failed\n", failed == 0, failed);

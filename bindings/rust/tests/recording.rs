@@ -40,7 +40,7 @@ impl Write for Full {
 }
 
 /// A mutator of four slots, and one static.
-const SMALL: Settings = Settings { statics: 1, ..Settings::new(4, 1, 4) };
+const SMALL: Settings = Settings { statics: 1, ..Settings::new(8, 1, 4) };
 
 /// Each command, and the collector.
 fn run(heap: &Heap) -> Result<()> {
@@ -111,7 +111,7 @@ fn each_call_is_a_line() -> Result<()> {
     heap.begin();
     assert_eq!(trace.text(), lines(false, true));
     assert_eq!(history.text(), lines(true, false));
-    let keys = "pages = 4\nmutators = 1\nslots = 4\nstatics = 1\nidentities = 9223372036854775807\ndefrag_below = 0\n\
+    let keys = "pages = 8\nmutators = 1\nslots = 4\nstatics = 1\nidentities = 9223372036854775807\ndefrag_below = 0\n\
         defrag_pages = 0\ncollector_ticks = 10\nmutator_ticks = 12\nrate = 100\nlive = 1\n";
     assert_eq!(settings.text(), keys);
     Ok(())

@@ -1,6 +1,2 @@
-mod Bytes
-mod Faults
-mod Members
-mod Values
 mod Found
 mod Subcommands

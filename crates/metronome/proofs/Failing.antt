@@ -30,8 +30,8 @@ use Rattle.sizing.specs.declared.arrivals.keeping.Conformance.{Conformance}
 use Rattle.sizing.specs.Metering.{NoEvent}
 use Rattle.sizing.specs.Keeping.{LoadChecked}
 use Rattle.settings.specs.declared.fault.ConfigFault.{ConfigFault}
-use Rattle.command_line.specs.declared.toml_table.ReadFault.{ReadFault}
-use Rattle.command_line.specs.declared.toml_table.ReadFault.TheVariants as settings
+use Rattle.documents.specs.declared.toml_table.ReadFault.{ReadFault}
+use Rattle.documents.specs.declared.toml_table.ReadFault.TheVariants as settings
 use Rattle.metronome.specs.declared.fault.RunFault.{RunFault}
 use Rattle.metronome.specs.declared.fault.RunFault.TheVariants.{Text}
 use Rattle.metronome.specs.Faults.{of_settings, IsUnread, IsUnreadable, failed_reads, failed_writes}

@@ -6,11 +6,11 @@ use Rattle.std.specs.Prelude.{codes, nat_lt, if◌then◌else◌, IfSome, Result
 use Rattle.settings.specs.declared.config.Config.{Config}
 use Rattle.settings.specs.declared.fault.ConfigFault.{ConfigFault}
 use Rattle.settings.specs.declared.fault.ConfigFault.TheVariants as faults
-use Rattle.command_line.specs.Document.{IsRead, file_fault, fault_in}
-use Rattle.command_line.specs.TomlTable.{document_of}
+use Rattle.documents.specs.ConfigFile.{IsRead, file_fault, fault_in}
+use Rattle.documents.specs.TomlTable.{document_of}
 use Rattle.command_line.specs.declared.job.Job.{Job}
-use Rattle.command_line.specs.declared.toml_table.ReadFault.{ReadFault}
-use Rattle.command_line.specs.declared.toml_table.ReadFault.TheVariants.{Refused, NoMemory}
+use Rattle.documents.specs.declared.toml_table.ReadFault.{ReadFault}
+use Rattle.documents.specs.declared.toml_table.ReadFault.TheVariants.{Refused, NoMemory}
 use Rattle.streams.specs.Streams.{Given, Taken, Stays, Begins}
 use Rattle.metronome.specs.declared.fault.Ending.{Ending}
 use Rattle.metronome.specs.declared.fault.RunFault.{RunFault}

@@ -1,8 +1,8 @@
 -- The faults of the crates below, as faults of a run.
 use Rattle.std.specs.Prelude.{ℕ, ◌≡◌, ◌⊎◌, ◌+◌, Result, Err}
 use Rattle.settings.specs.declared.fault.ConfigFault.{ConfigFault}
-use Rattle.command_line.specs.declared.toml_table.ReadFault.{ReadFault}
-use Rattle.command_line.specs.declared.toml_table.ReadFault.TheVariants as settings
+use Rattle.documents.specs.declared.toml_table.ReadFault.{ReadFault}
+use Rattle.documents.specs.declared.toml_table.ReadFault.TheVariants as settings
 use Rattle.trace.specs.declared.fault.PlayFault.TheVariants.{Read, NoMemory}
 use Rattle.trace.specs.LinesProcessed.{reads_failed, writes_failed}
 use Rattle.metronome.specs.declared.fault.RunFault.{RunFault}

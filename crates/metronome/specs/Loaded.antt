@@ -14,7 +14,7 @@ use Rattle.sizing.specs.New.{LoadFits, LoadFindsRoom}
 use Rattle.sizing.specs.Fitting.{load_in}
 use Rattle.sizing.specs.Keeping.{LoadChecked}
 use Rattle.sizing.specs.Document.{IsRead}
-use Rattle.command_line.specs.declared.toml_table.ReadFault.TheVariants.{Refused}
+use Rattle.documents.specs.declared.toml_table.ReadFault.TheVariants.{Refused}
 use Rattle.inspector.specs.LoadReport.{IsCovered, IsLoadReport}
 use Rattle.metronome.specs.declared.fault.Ending.{Ending}
 use Rattle.metronome.specs.declared.fault.RunFault.{RunFault}

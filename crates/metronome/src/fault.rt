@@ -5,7 +5,7 @@ ghost use Rattle.metronome.specs.declared.fault.RunFault.TheVariants as faults;
 ghost use Rattle.metronome.specs.Faults.{of_settings};
 ghost use Rattle.metronome.specs.Status.{ending_status, fault_status};
 
-use command_line::ReadFault;
+use documents::ReadFault;
 use graph_heap::NoMemory;
 use settings::ConfigFault;
 use sizing::DocumentFault;

@@ -8,9 +8,9 @@ use Rattle.sizing.specs.declared.arrivals.load.AllocationProfile.{AllocationProf
 use Rattle.sizing.specs.Fitting.{load_in}
 use Rattle.sizing.specs.AllocationProfile.{AllocationProfile}
 use Rattle.toml.specs.Data.{Data, as_integer, as_table, get_member, Members}
-use Rattle.command_line.specs.declared.toml_table.ReadFault.{ReadFault}
-use Rattle.command_line.specs.declared.toml_table.ReadFault.TheVariants.{Refused, NoMemory}
-use Rattle.command_line.specs.TomlTable.{document_of, NeedsMemory, first_some}
+use Rattle.documents.specs.declared.toml_table.ReadFault.{ReadFault}
+use Rattle.documents.specs.declared.toml_table.ReadFault.TheVariants.{Refused, NoMemory}
+use Rattle.documents.specs.TomlTable.{document_of, NeedsMemory, first_some}
 use Rattle.sizing.specs.declared.load_file.fault.DocumentFault.{DocumentFault}
 use Rattle.sizing.specs.declared.load_file.fault.DocumentFault.TheVariants as faults
 use Rattle.sizing.specs.declared.load_file.fault.FieldPath.{FieldPath}

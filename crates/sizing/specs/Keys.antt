@@ -6,7 +6,7 @@ use Rattle.std.specs.Str.{bytes_eq}
 use Rattle.size_classes.specs.declared.class.TheConstants.{CLASSES}
 use Rattle.size_classes.specs.Sizes.{size_of}
 use Rattle.toml.specs.Data.{Data, as_table, Members, no_members}
-use Rattle.command_line.specs.TomlTable.{any_member}
+use Rattle.documents.specs.TomlTable.{any_member}
 use Rattle.sizing.specs.declared.load_file.field.Field.{Field}
 use Rattle.sizing.specs.declared.load_file.field.Field.TheVariants.{Live, Rate, Burst}
 use Rattle.sizing.specs.declared.load_file.field.TheConstants.Field.{ALL}

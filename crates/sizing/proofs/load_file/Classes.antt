@@ -5,7 +5,7 @@ use Rattle.std.proofs.lemmas.List.FromFn.{length-range_with_len, get_or-range_wi
 use Rattle.std.proofs.lemmas.List.Folds.{list_any_at}
 use Rattle.std.specs.List.{list_any, range_with_len}
 use Rattle.size_classes.specs.declared.class.TheConstants.{CLASSES}
-use Rattle.command_line.specs.TomlTable.{first_some}
+use Rattle.documents.specs.TomlTable.{first_some}
 use Rattle.sizing.specs.declared.load_file.fault.DocumentFault.{DocumentFault}
 use Rattle.sizing.specs.Keys.{classes}
 

@@ -1,6 +1,6 @@
 //! Why a document states no load.
 use crate::load_file::field::Field;
-use command_line::ReadFault;
+use documents::ReadFault;
 use std::fmt;
 use thiserror::Error;
 

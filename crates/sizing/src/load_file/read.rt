@@ -9,7 +9,7 @@ use crate::arrivals::AllocationProfile;
 use crate::load_file::fault::{DocumentFault, FieldPath, LoadFault};
 use crate::load_file::row::{row_at, whole_number};
 use crate::load_file::unknown::{GAP, has_unknown_key};
-use command_line::open_document;
+use documents::open_document;
 use size_classes::{CLASSES, Class};
 use std::alloc::Global;
 use toml::Table;

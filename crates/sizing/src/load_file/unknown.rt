@@ -4,7 +4,7 @@ ghost use Rattle.toml.specs.View.{view, table_view};
 ghost use Rattle.sizing.specs.Keys.{is_field, is_size, has_unknown_field, is_unknown, has_unknown_key};
 
 use crate::load_file::field::Field;
-use command_line::any_member;
+use documents::any_member;
 use itoa::Buffer;
 use size_classes::{CLASSES, Class};
 use toml::{Table, Value};

@@ -1,7 +1,7 @@
 use Rattle.std.proofs.Common.{◌≡◌, ℕ, List, Ok, Err, ap, subst, ◌∙◌}
 use Rattle.std.specs.Prelude.{Result}
-use Rattle.command_line.specs.declared.toml_table.ReadFault.{ReadFault}
-use Rattle.command_line.specs.declared.toml_table.ReadFault.TheVariants.{Refused}
+use Rattle.documents.specs.declared.toml_table.ReadFault.{ReadFault}
+use Rattle.documents.specs.declared.toml_table.ReadFault.TheVariants.{Refused}
 use Rattle.sizing.specs.declared.arrivals.load.AllocationProfile.{AllocationProfile as LoadTable}
 use Rattle.sizing.specs.declared.load_file.fault.DocumentFault.{DocumentFault}
 use Rattle.sizing.specs.Document.{IsRead}

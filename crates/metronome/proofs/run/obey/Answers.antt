@@ -1,5 +1,5 @@
 use Rattle.std.proofs.Common.{Err, Ok, inl, inr, refl, subst, arith}
-use Rattle.command_line.specs.Document.{IsRead}
+use Rattle.documents.specs.ConfigFile.{IsRead}
 use Rattle.trace.proofs.LinesProcessed.{stays_same}
 use Rattle.streams.specs.Streams.{taken_by}
 use Rattle.metronome.proofs.Finishing.{failed_so}

@@ -1,0 +1,4 @@
+mod Bytes
+mod Faults
+mod Members
+mod Values

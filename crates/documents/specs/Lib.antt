@@ -1,0 +1,2 @@
+pub mod ConfigFile
+pub mod TomlTable

@@ -33,11 +33,12 @@ extent_text width height = codes " width='" ++ decimal width ++ codes "' height=
 abbrev pub view_text : ℕ → ℕ → List ℕ
 view_text width height = codes " viewBox='0 0 " ++ decimal width ++ codes " " ++ decimal height ++ codes "'"
 
--- the beginning of a document of this width and height
+-- the beginning of a document of this width and height: edges are drawn without blur, so that what lies side by side
+-- has no seam
 abbrev pub open_line : ℕ → ℕ → List ℕ
 open_line width height =
     codes "<svg xmlns='http://www.w3.org/2000/svg' version='1.1'" ++ extent_text width height ++ view_text width height
-    ++ codes " font-family='sans-serif'>"
+    ++ codes " font-family='sans-serif' shape-rendering='crispEdges'>"
 
 -- a title
 abbrev pub title_text : Caption → List ℕ
@@ -84,11 +85,11 @@ line_line x1 y1 x2 y2 stroke =
     ++ decimal y2
     ++ codes "' stroke='" ++ colour_code stroke ++ codes "'/>"
 
--- a filled circle round a point
+-- a filled circle round a point, with a smooth edge
 abbrev pub dot_line : ℕ → ℕ → Colour → List ℕ
 dot_line x y fill =
-    codes "<circle cx='" ++ decimal x ++ codes "' cy='" ++ decimal y ++ codes "' r='4' fill='" ++ colour_code fill
-    ++ codes "'/>"
+    codes "<circle cx='" ++ decimal x ++ codes "' cy='" ++ decimal y ++ codes "' r='4' shape-rendering='auto' fill='"
+    ++ colour_code fill ++ codes "'/>"
 
 -- an element as a line of text
 abbrev pub element_line : Element → List ℕ

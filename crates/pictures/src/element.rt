@@ -83,7 +83,8 @@ fn put_open(out: &mut [u8], width: u32, height: u32) -> usize
     let end = put(out, 0, head);
     let end = put_quoted(out, end, b" width='", width, b"' height='", height);
     let end = put_quoted(out, end, b" viewBox='0 0 ", width, b" ", height);
-    put(out, end, b" font-family='sans-serif'>")
+    let tail = b" font-family='sans-serif' shape-rendering='crispEdges'>";
+    put(out, end, tail)
 }
 
 /// Puts a title.
@@ -171,7 +172,7 @@ impl DocumentLine for Element {
             }
             Element::Dot(x, y, fill) => {
                 let end = put_two(out, 0, b"<circle cx='", x, b"' cy='", y);
-                put_colour(out, end, b"' r='4' fill='", fill)
+                put_colour(out, end, b"' r='4' shape-rendering='auto' fill='", fill)
             }
             Element::GroupEnd => put(out, 0, b"</g>"),
             Element::Close => put(out, 0, b"</svg>"),

@@ -113,7 +113,7 @@ fn axes() -> [Element; 18]
     [
         swatch(0, Colour::Sky),
         meaning(0, Words::PagesInUse),
-        swatch(1, Colour::Blue),
+        Element::Rectangle(150, 54, 14, 3, Colour::Blue),
         meaning(1, Words::Objects),
         swatch(2, Colour::Pale),
         meaning(2, Words::Idle),

@@ -43,7 +43,7 @@ abbrev pub sample_marks : Scale → Sample → ℕ → List Element
 sample_marks scale s end =
     let x = line_x s.line scale.lines in
     let width = end - x in
-    Veil x (250 - height_of s.pages_in_use scale.pages) width (height_of s.pages_in_use scale.pages) Blue
+    Veil x (250 - height_of s.pages_in_use scale.pages) width (height_of s.pages_in_use scale.pages) 46 Blue
     ∷ Rectangle x 454 width 14 (phase_colour s.phase)
     ∷ objects_dash x width scale.objects s.objects
 

@@ -63,7 +63,7 @@ fn write_sample<K: Sink>(
     let x = x_of(sample.line, scale.lines);
     let width = end_of(scale, next).saturating_sub(x);
     let high = height(sample.pages_in_use, scale.pages);
-    let pages = Element::Veil(x, 250 - high, width, high, Colour::Blue);
+    let pages = Element::Veil(x, 250 - high, width, high, 46, Colour::Blue);
     let (_, colour) = look_of(sample.phase);
     let phase = Element::Rectangle(x, 454, width, 14, colour);
     match sample.objects {

@@ -13,18 +13,18 @@ use Rattle.pictures.specs.OverTime.{phase_colour, objects_dash, next_x, sample_m
 
 -- what is drawn of a sample, in parts
 abbrev pub drawn : Scale → (x width high : ℕ) → Colour → Option ℕ → List Element
-drawn scale x width high colour objects = Veil x (250 - high) width high Blue ∷ Rectangle x 454 width 14 colour ∷ objects_dash x width scale.objects objects
+drawn scale x width high colour objects = Veil x (250 - high) width high 46 Blue ∷ Rectangle x 454 width 14 colour ∷ objects_dash x width scale.objects objects
 
 pub marks_are : (scale : Scale) (s : Sample) (end x width high : ℕ) (colour : Colour) (objects : Option ℕ) → x ≡ line_x s.line scale.lines → width ≡ end - line_x s.line scale.lines → high ≡ height_of s.pages_in_use scale.pages
     → colour ≡ phase_colour s.phase → s.objects ≡ objects → drawn scale x width high colour objects ≡ sample_marks scale s end
 marks_are scale s end x width high colour objects at wide tall is has =
     rw (at, wide, tall, is) (ap (drawn scale (line_x s.line scale.lines) (end - line_x s.line scale.lines) (height_of s.pages_in_use scale.pages) (phase_colour s.phase)) (sym has))
 
-pub marked_some : (Part : List Element → Type 0) (scale : Scale) (s : Sample) (end x width high : ℕ) (colour : Colour) (n dash : ℕ) → Part (Veil x (250 - high) width high Blue ∷ Rectangle x 454 width 14 colour ∷ Rectangle x (439 - dash) width 3 Blue ∷ [])
+pub marked_some : (Part : List Element → Type 0) (scale : Scale) (s : Sample) (end x width high : ℕ) (colour : Colour) (n dash : ℕ) → Part (Veil x (250 - high) width high 46 Blue ∷ Rectangle x 454 width 14 colour ∷ Rectangle x (439 - dash) width 3 Blue ∷ [])
     → x ≡ line_x s.line scale.lines → width ≡ end - line_x s.line scale.lines → high ≡ height_of s.pages_in_use scale.pages → colour ≡ phase_colour s.phase → s.objects ≡ Some n → dash ≡ height_of n scale.objects → Part (sample_marks scale s end)
 marked_some Part scale s end x width high colour n dash p at wide tall is has dashed =
     subst Part (marks_are scale s end x width high colour (Some n) at wide tall is has)
-    (subst (λ h. Part (Veil x (250 - high) width high Blue ∷ Rectangle x 454 width 14 colour ∷ Rectangle x (439 - h) width 3 Blue ∷ [])) dashed p)
+    (subst (λ h. Part (Veil x (250 - high) width high 46 Blue ∷ Rectangle x 454 width 14 colour ∷ Rectangle x (439 - h) width 3 Blue ∷ [])) dashed p)
 
 -- the first item behind some
 get_drop : {A : Type 0} (k : ℕ) (xs : List A) → slice_get (drop k xs) 0 ≡ slice_get xs k

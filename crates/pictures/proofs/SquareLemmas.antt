@@ -1,27 +1,55 @@
 -- The squares of pages, page after page, and the parts of one.
-use Rattle.std.proofs.Common.{◌≡◌, ℕ, ◌+◌, ◌<◌, List, ◌++◌, length, drop, Option, None, ap, ◌∙◌, sym, refl, add-one}
+use Rattle.std.proofs.Common.{◌≡◌, ℕ, suc, ◌+◌, ◌-◌, ◌*◌, ◌<◌, true, false, List, [], ◌∷◌, ◌++◌, length, drop, Option, None, Some, is_some, ap, ◌∙◌, sym, refl, add-one, arith}
 use Rattle.std.proofs.Math.Seq.{drop-cons}
-use Rattle.heap_model.specs.Pages.{Page, page_at}
+use Rattle.size_classes.specs.Sizes.{size_of}
+use Rattle.heap_model.specs.Pages.{Page, page_at, is_free}
 use Rattle.pages.specs.View.{view_of}
 use Rattle.pages.specs.declared.view.PageView.{PageView}
+use Rattle.pictures.specs.declared.caption.Caption.TheVariants.{Number, Page as Page_caption}
+use Rattle.pictures.specs.declared.colour.Colour.{Colour}
+use Rattle.pictures.specs.declared.colour.Colour.TheVariants.{Blue}
+use Rattle.pictures.specs.declared.element.Anchor.TheVariants.{Start}
 use Rattle.pictures.specs.declared.element.Element.{Element}
+use Rattle.pictures.specs.declared.element.Element.TheVariants.{Group, Veil, Text, GroupEnd}
 use Rattle.pictures.specs.declared.squares.Squares.{Squares}
 use Rattle.pictures.specs.Lines.{each_from}
-use Rattle.pictures.specs.PageMap.{row_number, page_square, square}
+use Rattle.pictures.specs.PageMap.{row_number, free_from, density_of, mark_of, mark_band, used_square, page_square, square, drawn_of}
 use Rattle.pictures.specs.Squares.{square_x, square_y, scale_of}
 
--- what is drawn of a page
-abbrev pub drawn_of : Squares → ℕ → Option Page → List Element
-drawn_of squares number page = square squares number (view_of page)
+-- what is drawn of a page by its number
+abbrev pub numbered : Squares → List (Option Page) → ℕ → Option Page → List Element
+numbered squares pages number page = drawn_of squares pages number
 
--- the square of the next page, and those behind it
+-- what is drawn of the next page, and of those behind it
 pub squares_on : (squares here : Squares) (pages : List (Option Page)) (k : ℕ) → here ≡ squares → k < length pages
-    → each_from (drawn_of squares) k (drop k pages) ≡ square here k (view_of (page_at pages k)) ++ each_from (drawn_of squares) (k + 1) (drop (k + 1) pages)
+    → each_from (numbered squares pages) k (drop k pages) ≡ drawn_of here pages k ++ each_from (numbered squares pages) (k + 1) (drop (k + 1) pages)
 squares_on squares here pages k is l =
-    ap (each_from (drawn_of squares) k) (drop-cons pages k None l) ∙ ap (λ n. square squares k (view_of (page_at pages k)) ++ each_from (drawn_of squares) (k + 1) (drop n pages)) (sym (add-one k))
-    ∙ ap (λ s. square s k (view_of (page_at pages k)) ++ each_from (drawn_of squares) (k + 1) (drop (k + 1) pages)) (sym is)
+    ap (each_from (numbered squares pages) k) (drop-cons pages k None l) ∙ ap (λ n. drawn_of squares pages k ++ each_from (numbered squares pages) (k + 1) (drop n pages)) (sym (add-one k))
+    ∙ ap (λ s. drawn_of s pages k ++ each_from (numbered squares pages) (k + 1) (drop (k + 1) pages)) (sym is)
 
--- the square of a page, in parts
-pub square_is : (squares : Squares) (number x y scale : ℕ) (page page' : Option PageView) → x ≡ square_x squares number → y ≡ square_y squares number → scale ≡ scale_of squares → page' ≡ page
-    → square squares number page ≡ row_number x y scale number ++ page_square x y scale number page'
-square_is squares number x y scale page page' left top size is = rw (left, top, size, is) refl
+-- what is drawn of a page, in parts
+pub square_is : (squares : Squares) (number x y scale bar bar' : ℕ) (page page' : Option PageView) → x ≡ square_x squares number → y ≡ square_y squares number → scale ≡ scale_of squares → bar' ≡ bar → page' ≡ page
+    → square squares number bar page ≡ row_number x y scale number ++ page_square x y scale number bar' page'
+square_is squares number x y scale bar bar' page page' left top size long is = rw (left, top, size, long, is) refl
+
+-- the square of a page in use, in parts
+pub used_is : (x y scale number density words : ℕ) (v : PageView) (mark : Option Colour) → density ≡ density_of v → words ≡ size_of v.class → mark ≡ mark_of v
+    → Group (Page_caption number v) ∷ Veil x y (18 * scale - 1) (11 * scale - 1) density Blue ∷ Text (x + scale) (y + 6 + scale) (6 + scale) Start (Number words) ∷ (mark_band x y scale mark ++ GroupEnd ∷ [])
+    ≡ used_square x y scale number v
+used_is x y scale number density words v mark dense size marked = rw (dense, size, marked) refl
+
+-- a page of which nothing is seen is free
+pub seen_free : (page : Option Page) → is_some (view_of page) ≡ false → is_free page ≡ true
+seen_free None e = refl
+seen_free (Some p) e = let wrong : true ≡ false = e in cc
+
+-- one free page more
+free_on : (pages : List (Option Page)) (number left more : ℕ) → left ≡ suc more → is_free (page_at pages number) ≡ true → free_from pages number left ≡ suc (free_from pages (number + 1) more)
+free_on pages number left more is free = rw (is, free) refl
+
+pub free_step : (pages : List (Option Page)) (number count most : ℕ) → count < most → is_free (page_at pages (number + count)) ≡ true → free_from pages number most ≡ count + free_from pages (number + count) (most - count)
+    → free_from pages number most ≡ count + 1 + free_from pages (number + (count + 1)) (most - (count + 1))
+free_step pages number count most below free so =
+    let left : most - count ≡ suc (most - (count + 1)) = omega (arith, below) in
+    let same : number + count + 1 ≡ number + (count + 1) = omega arith in
+    omega (arith, so, free_on pages (number + count) (most - count) (most - (count + 1)) left free, ap (λ n. free_from pages n (most - (count + 1))) same)

@@ -1,5 +1,5 @@
 -- The words of pictures, as text.
-use Rattle.std.specs.Prelude.{ℕ, List, [], ◌++◌, codes, decimal, if◌then◌else◌, Option, None, Some}
+use Rattle.std.specs.Prelude.{ℕ, List, [], ◌++◌, ◌==◌, codes, decimal, if◌then◌else◌}
 use Rattle.size_classes.specs.Sizes.{size_of, blocks_in}
 use Rattle.heap_model.specs.declared.phase.Phase.{Phase}
 use Rattle.heap_model.specs.declared.phase.Phase.TheVariants as phases
@@ -12,16 +12,15 @@ use Rattle.pictures.specs.declared.caption.Caption.TheVariants as captions
 -- the words of a picture
 abbrev pub words_text : Words → List ℕ
 words_text words.PagesOfTheHeap = codes "Pages of the heap"
-words_text words.PageInUse = codes "page in use"
 words_text words.EvacuatingPage = codes "leaving page"
 words_text words.TargetPage = codes "receiving page"
-words_text words.FreePage = codes "free page"
-words_text words.AllocatedBlocks = codes "held blocks"
-words_text words.FreeBlocks = codes "free blocks"
+words_text words.FreePage = codes "free pages"
+words_text words.FewAllocated = codes "few blocks held"
+words_text words.AllAllocated = codes "all blocks held"
 words_text words.NumberOfWords = codes "number: words of a block"
-words_text words.LeastUtilisation = codes "Least share of the mutators"
-words_text words.Measured = codes "least measured"
-words_text words.Promised = codes "promised"
+words_text words.LeastUtilisation = codes "Minimum mutator utilisation (MMU)"
+words_text words.Measured = codes "MMU measured"
+words_text words.Promised = codes "MMU promised"
 words_text words.WindowTicks = codes "length of the window in ticks"
 words_text words.MutatorsShare = codes "share of the window"
 words_text words.HeapOverTime = codes "The heap over a run"
@@ -57,10 +56,15 @@ used_text v =
     codes " size " ++ decimal (size_of v.class) ++ codes " held " ++ decimal v.allocated
     ++ codes " of " ++ decimal (blocks_in v.class) ++ marks_text v
 
--- a page by its number: free, or in use
-abbrev pub page_text : ℕ → Option PageView → List ℕ
-page_text number None = codes "page " ++ decimal number ++ codes " free"
-page_text number (Some v) = codes "page " ++ decimal number ++ used_text v
+-- a page in use, by its number
+abbrev pub page_text : ℕ → PageView → List ℕ
+page_text number v = codes "page " ++ decimal number ++ used_text v
+
+-- the pages that are free, from the first to the last of them
+abbrev pub free_text : ℕ → ℕ → List ℕ
+free_text first last =
+    (if first == last then codes "page " else codes "pages " ++ decimal first ++ codes " to ") ++ decimal last
+    ++ codes " free"
 
 -- a caption as text
 abbrev pub caption_text : Caption → List ℕ
@@ -69,6 +73,7 @@ caption_text (captions.Number n) = decimal n
 caption_text (captions.Percent n) = decimal n ++ codes " %"
 caption_text (captions.OldCopies n) = codes "old copies " ++ decimal n
 caption_text (captions.Page number page) = page_text number page
+caption_text (captions.Free first last) = free_text first last
 caption_text (captions.Heap phase units pages free) =
     codes "phase " ++ words_text phase ++ codes ", units " ++ decimal units ++ codes ", pages " ++ decimal pages
     ++ codes ", free " ++ decimal free

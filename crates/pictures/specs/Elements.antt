@@ -17,7 +17,6 @@ abbrev pub colour_code : Colour → List ℕ
 colour_code colours.White = codes "#ffffff"
 colour_code colours.Pale = codes "#eeeeee"
 colour_code colours.Light = codes "#bbbbbb"
-colour_code colours.Grey = codes "#999999"
 colour_code colours.Sky = codes "#8abedb"
 colour_code colours.Blue = codes "#0072b2"
 colour_code colours.Green = codes "#009e73"
@@ -33,11 +32,12 @@ extent_text width height = codes " width='" ++ decimal width ++ codes "' height=
 abbrev pub view_text : ℕ → ℕ → List ℕ
 view_text width height = codes " viewBox='0 0 " ++ decimal width ++ codes " " ++ decimal height ++ codes "'"
 
--- the beginning of a document of this width and height
+-- the beginning of a document of this width and height: edges are drawn without blur, so that what lies side by side
+-- has no seam
 abbrev pub open_line : ℕ → ℕ → List ℕ
 open_line width height =
     codes "<svg xmlns='http://www.w3.org/2000/svg' version='1.1'" ++ extent_text width height ++ view_text width height
-    ++ codes " font-family='sans-serif'>"
+    ++ codes " font-family='sans-serif' shape-rendering='crispEdges'>"
 
 -- a title
 abbrev pub title_text : Caption → List ℕ
@@ -57,14 +57,15 @@ box_text x y width height =
 abbrev pub rectangle_line : ℕ → ℕ → ℕ → ℕ → Colour → List ℕ
 rectangle_line x y width height fill = box_text x y width height ++ codes "' fill='" ++ colour_code fill ++ codes "'/>"
 
--- a filled rectangle through which one sees
-abbrev pub veil_line : ℕ → ℕ → ℕ → ℕ → Colour → List ℕ
-veil_line x y width height fill =
-    box_text x y width height ++ codes "' fill-opacity='0.46' fill='" ++ colour_code fill ++ codes "'/>"
+-- a filled rectangle through which one sees, as dense as this many hundredths say, in two digits
+abbrev pub veil_line : ℕ → ℕ → ℕ → ℕ → ℕ → Colour → List ℕ
+veil_line x y width height density fill =
+    box_text x y width height ++ codes "' fill-opacity='0." ++ decimal density ++ codes "' fill='" ++ colour_code fill
+    ++ codes "'/>"
 
--- which part of a text stands at its point: the last attribute before the text
+-- which part of a text stands at its point: the last attribute before the text; it is the start where none is said
 abbrev pub anchor_text : Anchor → List ℕ
-anchor_text anchors.Start = codes "' text-anchor='start'>"
+anchor_text anchors.Start = codes "'>"
 anchor_text anchors.Middle = codes "' text-anchor='middle'>"
 anchor_text anchors.End = codes "' text-anchor='end'>"
 
@@ -84,11 +85,11 @@ line_line x1 y1 x2 y2 stroke =
     ++ decimal y2
     ++ codes "' stroke='" ++ colour_code stroke ++ codes "'/>"
 
--- a filled circle round a point
+-- a filled circle round a point, with a smooth edge
 abbrev pub dot_line : ℕ → ℕ → Colour → List ℕ
 dot_line x y fill =
-    codes "<circle cx='" ++ decimal x ++ codes "' cy='" ++ decimal y ++ codes "' r='4' fill='" ++ colour_code fill
-    ++ codes "'/>"
+    codes "<circle cx='" ++ decimal x ++ codes "' cy='" ++ decimal y ++ codes "' r='4' shape-rendering='auto' fill='"
+    ++ colour_code fill ++ codes "'/>"
 
 -- an element as a line of text
 abbrev pub element_line : Element → List ℕ
@@ -96,7 +97,7 @@ element_line (Open width height) = open_line width height
 element_line (Title words) = title_text (captions.Words words)
 element_line (Group caption) = group_line caption
 element_line (Rectangle x y width height fill) = rectangle_line x y width height fill
-element_line (Veil x y width height fill) = veil_line x y width height fill
+element_line (Veil x y width height density fill) = veil_line x y width height density fill
 element_line (Text x y size anchor caption) = text_line x y size anchor caption
 element_line (Line x1 y1 x2 y2 stroke) = line_line x1 y1 x2 y2 stroke
 element_line (Dot x y fill) = dot_line x y fill

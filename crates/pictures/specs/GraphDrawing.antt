@@ -9,7 +9,7 @@ use Rattle.pictures.specs.declared.reachability.found.Holder.TheVariants as hold
 use Rattle.pictures.specs.declared.graph.statement.Root.{Root}
 use Rattle.pictures.specs.declared.graph.statement.Root.TheVariants.{Slot, Static}
 use Rattle.pictures.specs.declared.graph.statement.Statement.{Statement}
-use Rattle.pictures.specs.declared.graph.statement.Statement.TheVariants.{Open, Box, Holds, Object, Cell, LeftOut, Close}
+use Rattle.pictures.specs.declared.graph.statement.Statement.TheVariants.{Open, LeftToRight, Box, Holds, Object, Cell, LeftOut, Close}
 use Rattle.pictures.specs.Lines.{each_from}
 use Rattle.pictures.specs.Search.{holders}
 use Rattle.pictures.specs.Statements.{dot_text}
@@ -50,11 +50,15 @@ objects_drawn g shown objects = flat_map (λ f. object_drawn g shown f.id) objec
 abbrev pub left_out : ℕ → List Statement
 left_out n = if n == 0 then [] else LeftOut n ∷ []
 
+-- the beginning of the document
+abbrev pub opening : List Statement
+opening = Open ∷ LeftToRight ∷ []
+
 -- what is drawn of a graph heap, with at most this many of the objects that were found
 abbrev pub graph_drawn : Graph → ℕ → List Found → List Statement
 graph_drawn g most found =
     let shown = shown_of most found in
-    (Open ∷ [])
+    opening
     ++ (cells_drawn g.limits shown None g.roots
     ++ (objects_drawn g shown (take most found) ++ (left_out (length found - most) ++ Close ∷ [])))
 

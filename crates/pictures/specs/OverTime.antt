@@ -43,7 +43,7 @@ abbrev pub sample_marks : Scale → Sample → ℕ → List Element
 sample_marks scale s end =
     let x = line_x s.line scale.lines in
     let width = end - x in
-    Veil x (250 - height_of s.pages_in_use scale.pages) width (height_of s.pages_in_use scale.pages) Blue
+    Veil x (250 - height_of s.pages_in_use scale.pages) width (height_of s.pages_in_use scale.pages) 46 Blue
     ∷ Rectangle x 454 width 14 (phase_colour s.phase)
     ∷ objects_dash x width scale.objects s.objects
 
@@ -68,10 +68,11 @@ time_shown scale samples =
 abbrev pub time_frame : List Element
 time_frame = frame 1200 528 HeapOverTime
 
--- what the colours mean, and the names of the axes
+-- what the colours mean, and the names of the axes; the objects stand in the legend as the dash that they are
 abbrev pub time_axes : List Element
 time_axes =
-    swatch 0 Sky ∷ meaning 0 PagesInUse ∷ swatch 1 Blue ∷ meaning 1 Objects ∷ swatch 2 Pale ∷ meaning 2 Idle
+    swatch 0 Sky ∷ meaning 0 PagesInUse ∷ Rectangle 150 54 14 3 Blue ∷ meaning 1 Objects
+    ∷ swatch 2 Pale ∷ meaning 2 Idle
     ∷ swatch 3 Yellow ∷ meaning 3 Roots ∷ swatch 4 Orange ∷ meaning 4 Marking ∷ swatch 5 Green ∷ meaning 5 Sweeping
     ∷ swatch 6 Purple ∷ meaning 6 Moving
     ∷ Text 20 86 11 Start (Words PagesInUse) ∷ Text 20 276 11 Start (Words Objects)

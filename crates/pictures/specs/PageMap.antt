@@ -1,61 +1,88 @@
--- The map of the pages of a heap: a square for each page, in rows.
-use Rattle.std.specs.Prelude.{ℕ, ◌+◌, ◌-◌, ◌*◌, ◌==◌, if◌then◌else◌, List, [], ◌∷◌, ◌++◌, length, Option, Some, None}
+-- The map of the pages of a heap: a square for each page in use, in rows, with bars of free pages between them.
+use Rattle.std.specs.Prelude.{ℕ, zero, suc, ◌+◌, ◌-◌, ◌*◌, ◌%◌, min, ◌==◌, not, ◌&&◌, if◌then◌else◌, List, [], ◌∷◌, ◌++◌, length, Option, Some, None}
 use Rattle.std.specs.Int.{div_ceil}
 use Rattle.size_classes.specs.Sizes.{size_of, blocks_in}
-use Rattle.heap_model.specs.Pages.{free_pages}
+use Rattle.heap_model.specs.Pages.{Page, page_at, is_free, free_pages}
 use Rattle.heap_model.specs.State.{HeapState}
 use Rattle.nodes.specs.Copies.{copies_in}
 use Rattle.pages.specs.View.{view_of}
 use Rattle.pages.specs.declared.view.PageView.{PageView}
 use Rattle.pictures.specs.declared.colour.Colour.{Colour}
-use Rattle.pictures.specs.declared.colour.Colour.TheVariants.{Grey, Sky, Pale, Blue, Yellow, Orange}
-use Rattle.pictures.specs.declared.caption.Words.TheVariants.{PagesOfTheHeap, PageInUse, EvacuatingPage, TargetPage, FreePage, AllocatedBlocks, FreeBlocks, NumberOfWords}
-use Rattle.pictures.specs.declared.caption.Caption.TheVariants.{Number, OldCopies, Heap, Page as Page_caption}
+use Rattle.pictures.specs.declared.colour.Colour.TheVariants.{Pale, Blue, Yellow, Orange}
+use Rattle.pictures.specs.declared.caption.Words.TheVariants.{PagesOfTheHeap, EvacuatingPage, TargetPage, FreePage, FewAllocated, AllAllocated, NumberOfWords}
+use Rattle.pictures.specs.declared.caption.Caption.TheVariants.{Number, OldCopies, Heap, Free, Page as Page_caption}
 use Rattle.pictures.specs.declared.element.Anchor.TheVariants.{Start, End}
 use Rattle.pictures.specs.declared.element.Element.{Element}
-use Rattle.pictures.specs.declared.element.Element.TheVariants.{Group, Rectangle, Text, GroupEnd, Close}
+use Rattle.pictures.specs.declared.element.Element.TheVariants.{Group, Rectangle, Veil, Text, GroupEnd, Close}
 use Rattle.pictures.specs.declared.squares.Squares.{Squares}
 use Rattle.pictures.specs.Captions.{phase_words}
 use Rattle.pictures.specs.Elements.{svg_text}
 use Rattle.pictures.specs.Frame.{frame, swatch, meaning}
 use Rattle.pictures.specs.Lines.{each_from}
-use Rattle.pictures.specs.Squares.{squares_for, scale_of, square_x, square_y, map_height}
+use Rattle.pictures.specs.Squares.{squares_for, scale_of, row_of, square_x, square_y, map_height}
 
 -- the number of a page whose square is the first of a row
 abbrev pub row_number : ℕ → ℕ → ℕ → ℕ → List Element
 row_number x y scale number = if x == 36 then Text 32 (y + 7 * scale) 8 End (Number number) ∷ [] else []
 
--- the square of a free page: pale
-abbrev pub free_square : ℕ → ℕ → ℕ → ℕ → List Element
-free_square x y scale number =
-    Group (Page_caption number None) ∷ Rectangle x y (18 * scale - 1) (11 * scale - 1) Pale ∷ GroupEnd ∷ []
+-- how many pages are free from a number on, of at most this many
+abbrev pub free_from : List (Option Page) → ℕ → ℕ → ℕ
+free_from pages number zero = 0
+free_from pages number (suc most) =
+    if is_free (page_at pages number) then suc (free_from pages (number + 1) most) else 0
 
--- the colour of a page in use: evacuating pages have one of their own, and target ones
-abbrev pub paper_of : PageView → Colour
-paper_of v = if v.evacuating then Orange else if v.is_target then Yellow else Sky
+-- Free pages that stand together in a row are one bar. How many pages the bar has that begins with this one: 0 where
+-- the page before it in its row is free, too, or it is in use.
+abbrev pub bar_length : Squares → List (Option Page) → ℕ → ℕ
+bar_length squares pages number =
+    let place = number % row_of squares in
+    if not (place == 0) && is_free (page_at pages (number - 1)) then 0
+    else free_from pages number (min (length pages - number) (row_of squares - place))
 
--- the square of a page in use: the words of a block, and a bar of all blocks with the allocated ones at its left, in
--- sixteenths of its width, rounded up
-abbrev pub used_square : ℕ → ℕ → ℕ → ℕ → PageView → List Element
-used_square x y scale number v =
-    Group (Page_caption number (Some v))
-    ∷ Rectangle x y (18 * scale - 1) (11 * scale - 1) (paper_of v)
-    ∷ Text (x + scale) (y + 7 * scale) (4 + 4 * scale) Start (Number (size_of v.class))
-    ∷ Rectangle (x + scale) (y + 8 * scale) (16 * scale) (2 * scale) Grey
-    ∷ Rectangle (x + scale) (y + 8 * scale) (div_ceil (16 * v.allocated) (blocks_in v.class) * scale) (2 * scale) Blue
+-- a bar of this many free pages: pale
+abbrev pub free_bar : ℕ → ℕ → ℕ → ℕ → ℕ → List Element
+free_bar x y scale number count =
+    Group (Free number (number + count - 1))
+    ∷ Rectangle x y (18 * scale * count - 1) (11 * scale - 1) Pale
     ∷ GroupEnd ∷ []
 
--- the square of a page at a place
-abbrev pub page_square : ℕ → ℕ → ℕ → ℕ → Option PageView → List Element
-page_square x y scale number None = free_square x y scale number
-page_square x y scale number (Some v) = used_square x y scale number v
+-- How dense the colour of a page in use is, in hundredths: the denser, the more of its blocks are allocated, in
+-- sixteenths rounded up.
+abbrev pub density_of : PageView → ℕ
+density_of v = 37 + 3 * div_ceil (16 * v.allocated) (blocks_in v.class)
 
--- the square of a page, by its number, and before the first of a row that number
-abbrev pub square : Squares → ℕ → Option PageView → List Element
-square squares number page =
+-- the colour of the mark of a page in use: evacuating pages have one, and target ones
+abbrev pub mark_of : PageView → Option Colour
+mark_of v = if v.evacuating then Some Orange else if v.is_target then Some Yellow else None
+
+-- a mark, as a band at the lower edge of a square
+abbrev pub mark_band : ℕ → ℕ → ℕ → Option Colour → List Element
+mark_band x y scale None = []
+mark_band x y scale (Some colour) = Rectangle x (y + 8 * scale) (18 * scale - 1) (3 * scale - 1) colour ∷ []
+
+-- the square of a page in use, with the words of a block, and with its mark
+abbrev pub used_square : ℕ → ℕ → ℕ → ℕ → PageView → List Element
+used_square x y scale number v =
+    Group (Page_caption number v)
+    ∷ Veil x y (18 * scale - 1) (11 * scale - 1) (density_of v) Blue
+    ∷ Text (x + scale) (y + 6 + scale) (6 + scale) Start (Number (size_of v.class))
+    ∷ (mark_band x y scale (mark_of v) ++ GroupEnd ∷ [])
+
+-- the square of a page in use, or, where a free page begins one, a bar of this many
+abbrev pub page_square : ℕ → ℕ → ℕ → ℕ → ℕ → Option PageView → List Element
+page_square x y scale number bar None = if bar == 0 then [] else free_bar x y scale number bar
+page_square x y scale number bar (Some v) = used_square x y scale number v
+
+-- what is drawn of a page, by its number, and before the first of a row that number
+abbrev pub square : Squares → ℕ → ℕ → Option PageView → List Element
+square squares number bar page =
     let x = square_x squares number in
     let y = square_y squares number in
-    row_number x y (scale_of squares) number ++ page_square x y (scale_of squares) number page
+    row_number x y (scale_of squares) number ++ page_square x y (scale_of squares) number bar page
+
+-- what is drawn of the page of this number, of all pages
+abbrev pub drawn_of : Squares → List (Option Page) → ℕ → List Element
+drawn_of squares pages number = square squares number (bar_length squares pages number) (view_of (page_at pages number))
 
 -- what stands around the map of pages
 abbrev pub map_frame : HeapState → List Element
@@ -66,17 +93,17 @@ map_frame h = frame 1200 (map_height (length h.store.pages)) PagesOfTheHeap
 abbrev pub map_told : HeapState → List Element
 map_told h =
     Text 1180 30 13 End (Heap (phase_words h.phase) h.units (length h.store.pages) (free_pages h.store.pages))
-    ∷ swatch 0 Pale ∷ meaning 0 FreePage ∷ swatch 1 Sky ∷ meaning 1 PageInUse ∷ swatch 2 Orange
-    ∷ meaning 2 EvacuatingPage
-    ∷ swatch 3 Yellow ∷ meaning 3 TargetPage ∷ swatch 4 Blue ∷ meaning 4 AllocatedBlocks
-    ∷ swatch 5 Grey ∷ meaning 5 FreeBlocks ∷ meaning 6 NumberOfWords
+    ∷ swatch 0 Pale ∷ meaning 0 FreePage
+    ∷ Veil 150 48 14 14 40 Blue ∷ meaning 1 FewAllocated ∷ Veil 280 48 14 14 85 Blue ∷ meaning 2 AllAllocated
+    ∷ Rectangle 410 57 14 5 Orange ∷ meaning 3 EvacuatingPage ∷ Rectangle 540 57 14 5 Yellow ∷ meaning 4 TargetPage
+    ∷ meaning 5 NumberOfWords
     ∷ Text 1180 60 12 End (OldCopies (copies_in h.store).old) ∷ []
 
 -- the squares of all pages, as large as may be
 abbrev pub map_shown : HeapState → List Element
 map_shown h =
     let squares = squares_for (length h.store.pages) in
-    each_from (λ number page. square squares number (view_of page)) 0 h.store.pages
+    each_from (λ number page. drawn_of squares h.store.pages number) 0 h.store.pages
 
 -- the elements of the picture of pages
 abbrev pub page_map : HeapState → List Element

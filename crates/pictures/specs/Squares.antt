@@ -13,7 +13,13 @@ scale_of Large = 4
 scale_of Middle = 2
 scale_of Small = 1
 
--- the left edge of the square of a page: 16, 32 or 64 of them stand in a row
+-- how many of them stand in a row
+abbrev pub row_of : Squares → ℕ
+row_of Large = 16
+row_of Middle = 32
+row_of Small = 64
+
+-- the left edge of the square of a page
 abbrev pub square_x : Squares → ℕ → ℕ
 square_x Large number = 36 + 72 * (number % 16)
 square_x Middle number = 36 + 36 * (number % 32)

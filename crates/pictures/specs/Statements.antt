@@ -6,7 +6,7 @@ use Rattle.graph_heap.specs.declared.command.Shape.TheVariants.{Plain, RefArray,
 use Rattle.pictures.specs.declared.graph.statement.Root.{Root}
 use Rattle.pictures.specs.declared.graph.statement.Root.TheVariants.{Slot, Static}
 use Rattle.pictures.specs.declared.graph.statement.Statement.{Statement}
-use Rattle.pictures.specs.declared.graph.statement.Statement.TheVariants.{Open, Box, Holds, Object, Cell, LeftOut, Close}
+use Rattle.pictures.specs.declared.graph.statement.Statement.TheVariants.{Open, LeftToRight, Box, Holds, Object, Cell, LeftOut, Close}
 use Rattle.pictures.specs.Lines.{lines_text}
 
 -- the name of a root
@@ -47,6 +47,7 @@ left_out_line n = codes "    \"left out\" [shape=\"note\", label=\"objects left 
 -- a statement as a line of text
 abbrev pub statement_line : Statement → List ℕ
 statement_line Open = codes "digraph \"graph heap\" {"
+statement_line LeftToRight = codes "    rankdir=\"LR\";"
 statement_line (Box root) = box_line root
 statement_line (Holds root id) = holds_line root id
 statement_line (Object id shape) = object_line id shape

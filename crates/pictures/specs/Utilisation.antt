@@ -13,7 +13,7 @@ use Rattle.pictures.specs.declared.element.Element.TheVariants.{Rectangle, Line,
 use Rattle.pictures.specs.declared.share.Share.{Share}
 use Rattle.pictures.specs.declared.share.TheConstants.{WINDOWS}
 use Rattle.pictures.specs.Elements.{svg_text}
-use Rattle.pictures.specs.Frame.{frame, swatch, meaning}
+use Rattle.pictures.specs.Frame.{frame, meaning}
 use Rattle.pictures.specs.Lines.{each_from}
 
 -- this many powers of ten from one on, each with two and five times as much
@@ -65,12 +65,17 @@ window_number last place window =
 abbrev pub share_y : ℕ → ℕ
 share_y permille = 400 - 3 * permille / 10
 
--- The points of a window: at its left a square at the promised share, and at its right a dot at the measured one.
--- Nothing is drawn between two windows: one of a length between theirs may have a lower share than both.
+-- what is promised, as a square round a point
+abbrev pub promise_mark : ℕ → ℕ → Element
+promise_mark x y = Rectangle (x - 6) (y - 6) 12 12 Orange
+
+-- The points of a window: a square at the promised share, and over it a smaller dot at the measured one, so that both
+-- are seen where they are equal. Nothing is drawn between two windows: one of a length between theirs may have a lower
+-- share than both.
 abbrev pub window_points : ℕ → ℕ → Share → List Element
 window_points last place share =
-    Rectangle (window_x last place - 10) (share_y share.promised - 4) 8 8 Orange
-    ∷ Dot (window_x last place + 6) (share_y share.measured) Blue
+    promise_mark (window_x last place) (share_y share.promised)
+    ∷ Dot (window_x last place) (share_y share.measured) Blue
     ∷ []
 
 -- the axis of windows, with a number for each up to its end, and the points
@@ -79,10 +84,10 @@ shares_shown shares =
     let last = end_place shares in
     each_from (window_number last) 0 (take (last + 1) WINDOWS) ++ each_from (window_points last) 0 shares
 
--- what the colours mean, the axis of shares, and the names of both axes
+-- what the marks mean, the axis of shares, and the names of both axes
 abbrev pub axes : List Element
 axes =
-    swatch 0 Orange ∷ meaning 0 Promised ∷ swatch 1 Blue ∷ meaning 1 Measured
+    promise_mark 27 55 ∷ meaning 0 Promised ∷ Dot 157 55 Blue ∷ meaning 1 Measured
     ∷ Line 66 400 1160 400 Light ∷ Line 66 340 1160 340 Light ∷ Line 66 280 1160 280 Light
     ∷ Line 66 220 1160 220 Light ∷ Line 66 160 1160 160 Light ∷ Line 66 100 1160 100 Light
     ∷ Text 60 404 11 End (Percent 0) ∷ Text 60 344 11 End (Percent 20) ∷ Text 60 284 11 End (Percent 40)

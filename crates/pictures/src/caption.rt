@@ -1,6 +1,6 @@
 //! The words that stand in pictures.
 ghost use Rattle.std.specs.Prelude.{◌≡◌, ◌≤◌, ◌+◌, ◌++◌, length, take};
-ghost use Rattle.pictures.specs.Captions.{words_text, marks_text, page_text, caption_text};
+ghost use Rattle.pictures.specs.Captions.{words_text, marks_text, page_text, free_text, caption_text};
 
 use pages::PageView;
 use trace::{put, put_named};
@@ -9,12 +9,11 @@ use trace::{put, put_named};
 #[derive(Clone, Copy, Debug, PartialEq, Eq)]
 pub enum Words {
     PagesOfTheHeap,
-    PageInUse,
     EvacuatingPage,
     TargetPage,
     FreePage,
-    AllocatedBlocks,
-    FreeBlocks,
+    FewAllocated,
+    AllAllocated,
     NumberOfWords,
     LeastUtilisation,
     Measured,
@@ -41,16 +40,15 @@ impl Words {
     {
         match self {
             Words::PagesOfTheHeap => b"Pages of the heap",
-            Words::PageInUse => b"page in use",
             Words::EvacuatingPage => b"leaving page",
             Words::TargetPage => b"receiving page",
-            Words::FreePage => b"free page",
-            Words::AllocatedBlocks => b"held blocks",
-            Words::FreeBlocks => b"free blocks",
+            Words::FreePage => b"free pages",
+            Words::FewAllocated => b"few blocks held",
+            Words::AllAllocated => b"all blocks held",
             Words::NumberOfWords => b"number: words of a block",
-            Words::LeastUtilisation => b"Least share of the mutators",
-            Words::Measured => b"least measured",
-            Words::Promised => b"promised",
+            Words::LeastUtilisation => b"Minimum mutator utilisation (MMU)",
+            Words::Measured => b"MMU measured",
+            Words::Promised => b"MMU promised",
             Words::WindowTicks => b"length of the window in ticks",
             Words::MutatorsShare => b"share of the window",
             Words::HeapOverTime => b"The heap over a run",
@@ -78,8 +76,10 @@ pub enum Caption {
     Percent(u64),
     /// How many old copies there are.
     OldCopies(u64),
-    /// A page, by its number, and what is seen of it, if it is in use.
-    Page(u32, Option<PageView>),
+    /// A page in use, by its number, and what is seen of it.
+    Page(u32, PageView),
+    /// Free pages, by the numbers of the first and the last of them.
+    Free(u32, u32),
     /// The state of a heap: its phase, the units of work in the cycle that is running, or else in the
     /// last one, how many pages there are, and how many are free.
     Heap {
@@ -108,22 +108,33 @@ fn put_marks(out: &mut [u8], at: usize, page: PageView) -> usize
     }
 }
 
-/// Puts what is shown of a page, and answers the place after it.
-fn put_page(out: &mut [u8], at: usize, number: u32, page: Option<PageView>) -> usize
+/// Puts what is shown of a page in use, and answers the place after it.
+fn put_page(out: &mut [u8], at: usize, number: u32, page: PageView) -> usize
     requires { at + 130 ≤ length out.old }
     ensures text { take result out.new ≡ take at out.old ++ page_text number page }
     ensures place { result ≤ at + 130 }
 {
     let end = put_named(out, at, b"page ", u64::from(number));
-    match page {
-        None => put(out, end, b" free"),
-        Some(page) => {
-            let end = put_named(out, end, b" size ", u64::from(page.class.size()));
-            let end = put_named(out, end, b" held ", page.allocated as u64);
-            let end = put_named(out, end, b" of ", u64::from(page.class.blocks_per_page()));
-            put_marks(out, end, page)
-        }
-    }
+    let end = put_named(out, end, b" size ", u64::from(page.class.size()));
+    let end = put_named(out, end, b" held ", page.allocated as u64);
+    let end = put_named(out, end, b" of ", u64::from(page.class.blocks_per_page()));
+    put_marks(out, end, page)
+}
+
+/// Puts which pages are free, and answers the place after it.
+fn put_free(out: &mut [u8], at: usize, first: u32, last: u32) -> usize
+    requires { at + 130 ≤ length out.old }
+    ensures text { take result out.new ≡ take at out.old ++ free_text first last }
+    ensures place { result ≤ at + 130 }
+{
+    let end = if first == last {
+        put(out, at, b"page ")
+    } else {
+        let end = put_named(out, at, b"pages ", u64::from(first));
+        put(out, end, b" to ")
+    };
+    let end = put_named(out, end, b"", u64::from(last));
+    put(out, end, b" free")
 }
 
 /// Puts a caption at a place of an array, and answers the place after it.
@@ -141,6 +152,7 @@ pub(crate) fn put_caption(out: &mut [u8], at: usize, caption: Caption) -> usize
         }
         Caption::OldCopies(n) => put_named(out, at, b"old copies ", n),
         Caption::Page(number, page) => put_page(out, at, number, page),
+        Caption::Free(first, last) => put_free(out, at, first, last),
         Caption::Heap {
             phase,
             units,

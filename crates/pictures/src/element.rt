@@ -1,7 +1,7 @@
 //! The elements of a picture. All lengths are in units of the picture, with x from the left and y from
 //! the top.
 ghost use Rattle.std.specs.Prelude.{◌≡◌, ◌≤◌, ◌<◌, ◌+◌, ◌++◌, length, take, codes, decimal};
-ghost use Rattle.pictures.specs.Elements.{colour_code, open_line, title_text, box_text, anchor_text, point_text, text_line, element_line};
+ghost use Rattle.pictures.specs.Elements.{colour_code, open_line, title_text, box_text, veil_line, anchor_text, point_text, text_line, element_line};
 
 use crate::caption::{Caption, Words, put_caption};
 use crate::colour::Colour;
@@ -27,8 +27,8 @@ pub enum Element {
     Group(Caption),
     /// A filled rectangle: its upper left corner, its width and its height.
     Rectangle(u32, u32, u32, u32, Colour),
-    /// The same, through which one sees.
-    Veil(u32, u32, u32, u32, Colour),
+    /// The same, through which one sees: behind its height stands how dense it is, in hundredths from 10 to 99.
+    Veil(u32, u32, u32, u32, u32, Colour),
     /// Text with a point of its base line, the size of its letters, and which part of it stands at the point.
     Text(u32, u32, u32, Anchor, Caption),
     /// A line between two points.
@@ -83,7 +83,8 @@ fn put_open(out: &mut [u8], width: u32, height: u32) -> usize
     let end = put(out, 0, head);
     let end = put_quoted(out, end, b" width='", width, b"' height='", height);
     let end = put_quoted(out, end, b" viewBox='0 0 ", width, b" ", height);
-    put(out, end, b" font-family='sans-serif'>")
+    let tail = b" font-family='sans-serif' shape-rendering='crispEdges'>";
+    put(out, end, tail)
 }
 
 /// Puts a title.
@@ -107,6 +108,25 @@ fn put_box(out: &mut [u8], x: u32, y: u32, width: u32, height: u32) -> usize
     put_two(out, end, b"' width='", width, b"' height='", height)
 }
 
+/// Puts a rectangle through which one sees.
+fn put_veil(
+    out: &mut [u8],
+    x: u32,
+    y: u32,
+    width: u32,
+    height: u32,
+    density: u32,
+    fill: Colour,
+) -> usize
+    requires { 256 ≤ length out.old }
+    ensures text { take result out.new ≡ veil_line x y width height density fill }
+    ensures place { result < 256 }
+{
+    let end = put_box(out, x, y, width, height);
+    let end = put_named(out, end, b"' fill-opacity='0.", u64::from(density));
+    put_colour(out, end, b"' fill='", fill)
+}
+
 /// Puts a point of the base line of a text, and the size of its letters.
 fn put_point(out: &mut [u8], x: u32, y: u32, size: u32) -> usize
     requires { 256 ≤ length out.old }
@@ -124,7 +144,7 @@ fn put_anchor(out: &mut [u8], at: usize, anchor: Anchor) -> usize
     ensures place { result ≤ at + 23 }
 {
     match anchor {
-        Anchor::Start => put(out, at, b"' text-anchor='start'>"),
+        Anchor::Start => put(out, at, b"'>"),
         Anchor::Middle => put(out, at, b"' text-anchor='middle'>"),
         Anchor::End => put(out, at, b"' text-anchor='end'>"),
     }
@@ -157,9 +177,8 @@ impl DocumentLine for Element {
                 let end = put_box(out, x, y, width, height);
                 put_colour(out, end, b"' fill='", fill)
             }
-            Element::Veil(x, y, width, height, fill) => {
-                let end = put_box(out, x, y, width, height);
-                put_colour(out, end, b"' fill-opacity='0.46' fill='", fill)
+            Element::Veil(x, y, width, height, density, fill) => {
+                put_veil(out, x, y, width, height, density, fill)
             }
             Element::Text(x, y, size, anchor, caption) => put_text(
                 out, x, y, size, anchor, caption,
@@ -171,7 +190,7 @@ impl DocumentLine for Element {
             }
             Element::Dot(x, y, fill) => {
                 let end = put_two(out, 0, b"<circle cx='", x, b"' cy='", y);
-                put_colour(out, end, b"' r='4' fill='", fill)
+                put_colour(out, end, b"' r='4' shape-rendering='auto' fill='", fill)
             }
             Element::GroupEnd => put(out, 0, b"</g>"),
             Element::Close => put(out, 0, b"</svg>"),

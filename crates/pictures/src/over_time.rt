@@ -63,7 +63,7 @@ fn write_sample<K: Sink>(
     let x = x_of(sample.line, scale.lines);
     let width = end_of(scale, next).saturating_sub(x);
     let high = height(sample.pages_in_use, scale.pages);
-    let pages = Element::Veil(x, 250 - high, width, high, Colour::Blue);
+    let pages = Element::Veil(x, 250 - high, width, high, 46, Colour::Blue);
     let (_, colour) = look_of(sample.phase);
     let phase = Element::Rectangle(x, 454, width, 14, colour);
     match sample.objects {
@@ -113,7 +113,7 @@ fn axes() -> [Element; 18]
     [
         swatch(0, Colour::Sky),
         meaning(0, Words::PagesInUse),
-        swatch(1, Colour::Blue),
+        Element::Rectangle(150, 54, 14, 3, Colour::Blue),
         meaning(1, Words::Objects),
         swatch(2, Colour::Pale),
         meaning(2, Words::Idle),

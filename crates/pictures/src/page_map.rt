@@ -1,10 +1,9 @@
 //! The map of the pages of a heap.
-ghost use Rattle.std.specs.Prelude.{◌≡◌, ◌<◌, ◌≤◌, ◌+◌, ◌++◌, OnOk, OnErr, IfSome};
-ghost use Rattle.heap_model.specs.Pages.{page_at};
-ghost use Rattle.pages.specs.View.{view_of};
+ghost use Rattle.std.specs.Prelude.{◌≡◌, ◌<◌, ◌≤◌, ◌+◌, ◌^◌, ◌++◌, None, OnOk, OnErr, IfSome};
 ghost use Rattle.streams.specs.Streams.{GrowsByPart, failed};
 ghost use Rattle.pictures.specs.Elements.{svg_text};
-ghost use Rattle.pictures.specs.PageMap.{paper_of, row_number, free_square, used_square, page_square, square, map_shown, map_told, pages_picture};
+ghost use Rattle.pictures.specs.PageMap as maps;
+ghost use Rattle.pictures.specs.PageMap.{row_number, free_from, free_bar, density_of, mark_of, used_square, page_square, drawn_of, map_shown, map_told, pages_picture};
 
 use crate::caption::{Caption, Words};
 use crate::colour::Colour;
@@ -41,76 +40,146 @@ fn write_number<K: Sink>(
     )
 }
 
-/// The square of a free page.
-fn free_page(x: u32, y: u32, scale: u32, number: u32) -> [Element; 3]
-    requires within { (1 ≤ scale) × (scale ≤ 4) }
-    ensures { result ≡ free_square x y scale number }
+/// How many pages are free from a number on, of at most `most`.
+fn free_pages_from(heap: &Heap, number: usize, most: usize) -> usize
+    requires { number + most < 2 ^ 32 }
+    ensures free { result ≡ free_from heap.now.store.pages number most }
+    ensures within { result ≤ most }
+{
+    let mut count = 0;
+    while count < most && heap.page(number + count).is_none() {
+        count += 1;
+    }
+    count
+}
+
+/// How many pages the bar of free pages has that begins with a page, and 0 where none begins there.
+fn bar_length(heap: &Heap, squares: Squares, number: usize) -> usize
+    requires { number < 1048576 }
+    ensures length { result ≡ maps.bar_length squares heap.now.store.pages number }
+    ensures within { result ≤ 64 }
+{
+    let row = squares.row() as usize;
+    let place = number % row;
+    if place != 0 && heap.page(number.saturating_sub(1)).is_none() {
+        return 0;
+    }
+    let behind = heap.pages().saturating_sub(number);
+    free_pages_from(heap, number, behind.min(row - place))
+}
+
+/// A bar of free pages.
+fn pale_bar(x: u32, y: u32, scale: u32, number: u32, count: u32) -> [Element; 3]
+    requires within { (number < 1048576) × (1 ≤ scale) × (scale ≤ 4) × (1 ≤ count) × (count ≤ 64) }
+    ensures { result ≡ free_bar x y scale number count }
 {
     [
-        Element::Group(Caption::Page(number, None)),
-        Element::Rectangle(x, y, 18 * scale - 1, 11 * scale - 1, Colour::Pale),
+        Element::Group(Caption::Free(number, number + count - 1)),
+        Element::Rectangle(x, y, 18 * scale * count - 1, 11 * scale - 1, Colour::Pale),
         Element::GroupEnd,
     ]
 }
 
-/// The colour of the square of a page in use.
-fn paper(page: &PageView) -> Colour
-    ensures { result ≡ paper_of page.now }
+/// Writes the bar of so many pages that begins with a free one, if one does.
+fn write_bar<K: Sink>(
+    x: u32,
+    y: u32,
+    scale: u32,
+    number: u32,
+    bar: u32,
+    sink: &mut K,
+) -> Result<(), WriteFailed>
+    requires within { (number < 1048576) × (1 ≤ scale) × (scale ≤ 4) × (bar ≤ 64) }
+    ensures ok { OnOk result (K.taken sink.new
+        ≡ K.taken sink.old ++ svg_text (page_square x y scale number bar None)) }
+    ensures err { OnErr result (GrowsByPart (K.taken sink.old) (K.taken sink.new)
+        (svg_text (page_square x y scale number bar None))) }
+    ensures cause { K.failures sink.new ≡ K.failures sink.old + failed result }
+{
+    if bar == 0 {
+        return Ok(());
+    }
+    write_lines(sink, &pale_bar(x, y, scale, number, bar))
+}
+
+/// How dense the colour of a page in use is.
+fn density(page: &PageView) -> u32
+    requires { page.now.allocated ≤ 512 }
+    ensures { result ≡ density_of page.now }
+{
+    let allocated = page.allocated as u32;
+    let part = (16 * allocated).div_ceil(page.class.blocks_per_page());
+    37 + 3 * part
+}
+
+/// The colour of the mark of a page in use, if it has one.
+fn mark(page: &PageView) -> Option<Colour>
+    ensures { result ≡ mark_of page.now }
 {
     if page.evacuating {
-        Colour::Orange
+        Some(Colour::Orange)
     } else if page.is_target {
-        Colour::Yellow
+        Some(Colour::Yellow)
     } else {
-        Colour::Sky
+        None
     }
 }
 
-/// The square of a page in use.
-fn used_page(x: u32, y: u32, scale: u32, number: u32, page: PageView) -> [Element; 6]
+/// Writes the square of a page in use.
+fn write_used<K: Sink>(
+    x: u32,
+    y: u32,
+    scale: u32,
+    number: u32,
+    page: PageView,
+    sink: &mut K,
+) -> Result<(), WriteFailed>
     requires within { (x ≤ 65536) × (y ≤ 3000000) × (1 ≤ scale) × (scale ≤ 4) }
     requires allocated { page.allocated ≤ 512 }
-    ensures { result ≡ used_square x y scale number page }
+    ensures ok { OnOk result (K.taken sink.new ≡ K.taken sink.old ++ svg_text (used_square x y scale number page)) }
+    ensures err { OnErr result (GrowsByPart (K.taken sink.old) (K.taken sink.new)
+        (svg_text (used_square x y scale number page))) }
+    ensures cause { K.failures sink.new ≡ K.failures sink.old + failed result }
 {
-    let paper = paper(&page);
-    let allocated = page.allocated as u32;
-    let blocks = page.class.blocks_per_page();
+    let (width, tall) = (18 * scale - 1, 11 * scale - 1);
+    let name = Element::Group(Caption::Page(number, page));
+    let fill = Element::Veil(x, y, width, tall, density(&page), Colour::Blue);
     let size = Caption::Number(u64::from(page.class.size()));
-    let (left, bar) = (x + scale, y + 8 * scale);
-    let part = (16 * allocated).div_ceil(blocks);
-    [
-        Element::Group(Caption::Page(number, Some(page))),
-        Element::Rectangle(x, y, 18 * scale - 1, 11 * scale - 1, paper),
-        Element::Text(left, y + 7 * scale, 4 + 4 * scale, Anchor::Start, size),
-        Element::Rectangle(left, bar, 16 * scale, 2 * scale, Colour::Grey),
-        Element::Rectangle(left, bar, part * scale, 2 * scale, Colour::Blue),
-        Element::GroupEnd,
-    ]
+    let label = Element::Text(x + scale, y + 6 + scale, 6 + scale, Anchor::Start, size);
+    match mark(&page) {
+        None => write_lines(sink, &[name, fill, label, Element::GroupEnd]),
+        Some(colour) => {
+            let band = Element::Rectangle(x, y + 8 * scale, width, 3 * scale - 1, colour);
+            write_lines(sink, &[name, fill, label, band, Element::GroupEnd])
+        }
+    }
 }
 
-/// Writes the square of a page at a place.
+/// Writes the square of a page in use, or the bar that begins with a free one.
 fn write_page<K: Sink>(
     x: u32,
     y: u32,
     scale: u32,
     number: u32,
+    bar: u32,
     page: Option<PageView>,
     sink: &mut K,
 ) -> Result<(), WriteFailed>
     requires within { (x ≤ 65536) × (y ≤ 3000000) × (1 ≤ scale) × (scale ≤ 4) }
+    requires bar { (number < 1048576) × (bar ≤ 64) }
     requires allocated { IfSome page (λ v. v.allocated ≤ 512) }
-    ensures ok { OnOk result (K.taken sink.new ≡ K.taken sink.old ++ svg_text (page_square x y scale number page)) }
+    ensures ok { OnOk result (K.taken sink.new ≡ K.taken sink.old ++ svg_text (page_square x y scale number bar page)) }
     ensures err { OnErr result (GrowsByPart (K.taken sink.old) (K.taken sink.new)
-        (svg_text (page_square x y scale number page))) }
+        (svg_text (page_square x y scale number bar page))) }
     ensures cause { K.failures sink.new ≡ K.failures sink.old + failed result }
 {
     match page {
-        None => write_lines(sink, &free_page(x, y, scale, number)),
-        Some(page) => write_lines(sink, &used_page(x, y, scale, number, page)),
+        None => write_bar(x, y, scale, number, bar, sink),
+        Some(page) => write_used(x, y, scale, number, page, sink),
     }
 }
 
-/// Writes the square of a page, by its number, and before the first of a row that number.
+/// Writes what is drawn of a page, by its number, and before the first of a row that number.
 fn write_square<K: Sink>(
     heap: &Heap,
     squares: Squares,
@@ -119,14 +188,15 @@ fn write_square<K: Sink>(
 ) -> Result<(), WriteFailed>
     requires { number < 1048576 }
     ensures ok { OnOk result (K.taken sink.new
-        ≡ K.taken sink.old ++ svg_text (square squares number (view_of (page_at heap.now.store.pages number)))) }
+        ≡ K.taken sink.old ++ svg_text (drawn_of squares heap.now.store.pages number)) }
     ensures err { OnErr result (GrowsByPart (K.taken sink.old) (K.taken sink.new)
-        (svg_text (square squares number (view_of (page_at heap.now.store.pages number))))) }
+        (svg_text (drawn_of squares heap.now.store.pages number))) }
     ensures cause { K.failures sink.new ≡ K.failures sink.old + failed result }
 {
     let (x, y, scale) = (squares.x(number), squares.y(number), squares.scale());
+    let bar = bar_length(heap, squares, number as usize) as u32;
     write_number(x, y, scale, number, sink)?;
-    write_page(x, y, scale, number, heap.page(number as usize), sink)
+    write_page(x, y, scale, number, bar, heap.page(number as usize), sink)
 }
 
 /// Writes the squares of all pages.
@@ -143,7 +213,7 @@ fn write_squares<K: Sink>(heap: &Heap, sink: &mut K) -> Result<(), WriteFailed>
 }
 
 /// What is said of the heap as a whole, and what the colours mean.
-fn legend(heap: &Heap) -> [Element; 15]
+fn legend(heap: &Heap) -> [Element; 13]
     ensures { result ≡ map_told heap.now }
 {
     let (phase, _) = look_of(heap.phase());
@@ -158,29 +228,28 @@ fn legend(heap: &Heap) -> [Element; 15]
         Element::Text(1180, 30, 13, Anchor::End, summary),
         swatch(0, Colour::Pale),
         meaning(0, Words::FreePage),
-        swatch(1, Colour::Sky),
-        meaning(1, Words::PageInUse),
-        swatch(2, Colour::Orange),
-        meaning(2, Words::EvacuatingPage),
-        swatch(3, Colour::Yellow),
-        meaning(3, Words::TargetPage),
-        swatch(4, Colour::Blue),
-        meaning(4, Words::AllocatedBlocks),
-        swatch(5, Colour::Grey),
-        meaning(5, Words::FreeBlocks),
-        meaning(6, Words::NumberOfWords),
+        Element::Veil(150, 48, 14, 14, 40, Colour::Blue),
+        meaning(1, Words::FewAllocated),
+        Element::Veil(280, 48, 14, 14, 85, Colour::Blue),
+        meaning(2, Words::AllAllocated),
+        Element::Rectangle(410, 57, 14, 5, Colour::Orange),
+        meaning(3, Words::EvacuatingPage),
+        Element::Rectangle(540, 57, 14, 5, Colour::Yellow),
+        meaning(4, Words::TargetPage),
+        meaning(5, Words::NumberOfWords),
         Element::Text(1180, 60, 12, Anchor::End, old),
     ]
 }
 
 /// Writes the map of the pages of a heap to a sink, as an SVG document of lines that end with LF: the
 /// phase, the units of work since the last cycle began, how many pages there are and how many are free,
-/// a legend with the number of old copies, and a square for each page. Up to 256 pages stand 16 in a row, up to 1024
-/// 32, and more 64, so all pages that a file may ask for fit on 1200 by 800 units; the number of the first stands before
-/// each row. The square of a page in use tells the words of a block, and a bar shows how many of its blocks are
-/// allocated; it has a colour of its own where the page is evacuating, and another where it is a target. Under the
-/// pointer a square shows its page's number, the words of a block, the allocated blocks of all, and its marks. It takes
-/// no memory. After an error, which comes only where the sink failed, the sink has taken a beginning of the document.
+/// a legend with the number of old copies, and a square for each page in use. Up to 256 pages stand 16 in a row, up to
+/// 1024 32, and more 64, so all pages that a file may ask for fit on 1200 by 800 units; the number of the first stands
+/// before each row. The more of a page's blocks are allocated, the darker is its square; it tells the words of a block,
+/// and has a band of one colour where the page is evacuating, and of another where it is a target. Free pages that stand
+/// together in a row are one pale bar. Under the pointer a square shows its page's number, the words of a block, the
+/// allocated blocks of all, and its marks, and a bar the numbers of its first and its last page. It takes no memory.
+/// After an error, which comes only where the sink failed, the sink has taken a beginning of the document.
 pub fn draw_pages<K: Sink>(heap: &Heap, sink: &mut K) -> Result<(), WriteFailed>
     ensures ok { OnOk result (K.taken sink.new ≡ K.taken sink.old ++ pages_picture heap.now) }
     ensures err { OnErr result (GrowsByPart (K.taken sink.old) (K.taken sink.new) (pages_picture heap.now)) }

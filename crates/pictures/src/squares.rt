@@ -1,6 +1,6 @@
 //! How the squares of a map lie.
 ghost use Rattle.std.specs.Prelude.{◌≡◌, ◌<◌, ◌≤◌};
-ghost use Rattle.pictures.specs.Squares.{squares_for, scale_of, square_x, square_y, map_height};
+ghost use Rattle.pictures.specs.Squares.{squares_for, scale_of, row_of, square_x, square_y, map_height};
 
 /// The size of the squares of a map: 16, 32 or 64 of them stand in a row.
 #[derive(Clone, Copy, Debug, PartialEq, Eq)]
@@ -33,6 +33,18 @@ impl Squares {
             Squares::Large => 4,
             Squares::Middle => 2,
             Squares::Small => 1,
+        }
+    }
+
+    /// How many of them stand in a row.
+    pub(crate) fn row(self) -> u32
+        ensures row { result ≡ row_of self }
+        ensures within { (1 ≤ result) × (result ≤ 64) }
+    {
+        match self {
+            Squares::Large => 16,
+            Squares::Middle => 32,
+            Squares::Small => 64,
         }
     }
 

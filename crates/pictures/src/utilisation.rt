@@ -9,7 +9,7 @@ ghost use Rattle.pictures.specs.Utilisation.{AreShares, log_of, window_x, share_
 use crate::caption::{Caption, Words};
 use crate::colour::Colour;
 use crate::element::{Anchor, Element};
-use crate::frame::{meaning, swatch, write_head};
+use crate::frame::{meaning, write_head};
 use crate::measuring::put_shares;
 use crate::share::{Share, WINDOWS};
 use crate::writing::{write_line, write_lines};
@@ -51,6 +51,14 @@ fn y_of(permille: u64) -> u32
     400 - (3 * permille / 10) as u32
 }
 
+/// What is promised, as a square round a point.
+fn promise_mark(x: u32, y: u32) -> Element
+    requires { (6 ≤ x) × (6 ≤ y) }
+    ensures { result ≡ utilisation.promise_mark x y }
+{
+    Element::Rectangle(x - 6, y - 6, 12, 12, Colour::Orange)
+}
+
 /// What is drawn of a window.
 trait Mark {
     ghost use Rattle.pictures.specs.declared.element.Element.{Element};
@@ -90,8 +98,8 @@ impl Mark for Share {
     fn elements(&self, last: u32, place: u32) -> [Element; 2] {
         let x = x_of(last, place);
         [
-            Element::Rectangle(x - 10, y_of(self.promised) - 4, 8, 8, Colour::Orange),
-            Element::Dot(x + 6, y_of(self.measured), Colour::Blue),
+            promise_mark(x, y_of(self.promised)),
+            Element::Dot(x, y_of(self.measured), Colour::Blue),
         ]
     }
 }
@@ -125,15 +133,15 @@ fn write_shown<K: Sink>(shares: &[Share], sink: &mut K) -> Result<(), WriteFaile
     write_marks(last as u32, shares, sink)
 }
 
-/// What the colours mean, and the axis of shares.
+/// What the marks mean, and the axis of shares.
 fn axes() -> [Element; 18]
     ensures { result ≡ utilisation.axes }
 {
     let end = Anchor::End;
     [
-        swatch(0, Colour::Orange),
+        promise_mark(27, 55),
         meaning(0, Words::Promised),
-        swatch(1, Colour::Blue),
+        Element::Dot(157, 55, Colour::Blue),
         meaning(1, Words::Measured),
         Element::Line(66, 400, 1160, 400, Colour::Light),
         Element::Line(66, 340, 1160, 340, Colour::Light),

@@ -4,14 +4,14 @@ use Rattle.graph_heap.specs.Graph.{Graph}
 use Rattle.pictures.specs.declared.reachability.found.Found.{Found}
 use Rattle.streams.specs.Streams.{GrowsByPart}
 use Rattle.pictures.specs.declared.graph.statement.Statement.{Statement}
-use Rattle.pictures.specs.declared.graph.statement.Statement.TheVariants.{Open, Close}
+use Rattle.pictures.specs.declared.graph.statement.Statement.TheVariants.{Close}
 use Rattle.pictures.specs.Statements.{dot_text}
-use Rattle.pictures.specs.GraphDrawing.{shown_of, cells_drawn, objects_drawn, left_out, graph_drawn, graph_picture}
+use Rattle.pictures.specs.GraphDrawing.{shown_of, opening, cells_drawn, objects_drawn, left_out, graph_drawn, graph_picture}
 use Rattle.pictures.proofs.graph.Drawn.{objects_are, left_is}
 use Rattle.pictures.proofs.Parts.{SoFar, none_yet, further, cut_short, all_of}
 use Rattle.pictures.proofs.Lines.{dot_is}
 
--- the line that opens it
+-- the lines that open it
 module _ (g : Graph) (most : ℕ) (all : List Found) (t0 t1 : List ℕ) where
   abbrev shown : List ℕ
   shown = shown_of most all
@@ -28,16 +28,16 @@ module _ (g : Graph) (most : ℕ) (all : List Found) (t0 t1 : List ℕ) where
   begun : SoFar dot_text t0 t0 (graph_drawn g most all) (graph_drawn g most all)
   begun = none_yet dot_is t0 (graph_drawn g most all)
 
-  pub in_open : GrowsByPart t0 t1 (dot_text (Open ∷ [])) → GrowsByPart t0 t1 (graph_picture g most all)
-  in_open h = cut_short dot_is t0 t0 _ _ begun (Open ∷ []) behind_open refl t1 h
+  pub in_open : GrowsByPart t0 t1 (dot_text opening) → GrowsByPart t0 t1 (graph_picture g most all)
+  in_open h = cut_short dot_is t0 t0 _ _ begun opening behind_open refl t1 h
 
   -- the roots behind it
-  module _ (one : t1 ≡ t0 ++ dot_text (Open ∷ [])) (rs : List ℕ) (row : rs ≡ g.roots) (t2 : List ℕ) where
+  module _ (one : t1 ≡ t0 ++ dot_text opening) (rs : List ℕ) (row : rs ≡ g.roots) (t2 : List ℕ) where
     abbrev roots : List Statement
     roots = cells_drawn g.limits shown None rs
 
     opened : SoFar dot_text t0 t1 (graph_drawn g most all) behind_open
-    opened = further dot_is t0 t0 _ _ begun (Open ∷ []) behind_open refl t1 one
+    opened = further dot_is t0 t0 _ _ begun opening behind_open refl t1 one
 
     to_roots : behind_open ≡ roots ++ behind_roots
     to_roots = ap (λ xs. cells_drawn g.limits shown None xs ++ behind_roots) (sym row)

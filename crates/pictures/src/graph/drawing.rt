@@ -145,7 +145,7 @@ impl<'a> Drawing<'a> {
     {
         let found = self.search.found();
         let count = self.most.min(found.len());
-        write_line(sink, Statement::Open)?;
+        write_lines(sink, &[Statement::Open, Statement::LeftToRight])?;
         self.write_cells(None, self.graph.roots(), sink)?;
         self.write_objects(&found[..count], sink)?;
         write_left_out(found.len().saturating_sub(self.most), sink)?;

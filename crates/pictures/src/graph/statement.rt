@@ -19,6 +19,8 @@ pub enum Root {
 pub enum Statement {
     /// The beginning of a graph.
     Open,
+    /// References lead from left to right, so that the objects that one object refers to stand below one another.
+    LeftToRight,
     /// A root.
     Box(Root),
     /// A root, and the identity of the object that it holds.
@@ -129,6 +131,7 @@ impl DocumentLine for Statement {
     fn put(self, out: &mut [u8]) -> usize {
         match self {
             Statement::Open => put(out, 0, b"digraph \"graph heap\" {"),
+            Statement::LeftToRight => put(out, 0, b"    rankdir=\"LR\";"),
             Statement::Box(root) => put_box(out, root),
             Statement::Holds(root, id) => put_holds(out, root, id),
             Statement::Object(id, shape) => put_object(out, id, shape),

@@ -18,7 +18,7 @@ returns-in-None-clause-err g c =
 pub returns-in-Some-clause-err : goal.returns-in-Some-clause-err
 returns-in-Some-clause-err g c =
     let Part : List Element → Type 0 = λ xs. OnErr c.write_lines-in-Some.result (GrowsByPart (g.K.Sink.taken c.args.sink.now) (g.K.Sink.taken c.write_lines-in-Some.new.sink) (svg_text xs)) in
-    let Dash : ℕ → Type 0 = λ h. Part (Veil c.x_of-x.result (250 - c.height-high.result) c.saturating_sub-width.result c.height-high.result Blue ∷ Rectangle c.x_of-x.result 454 c.saturating_sub-width.result 14 c.look_of-colour.result.1 ∷ Rectangle c.x_of-x.result (439 - h) c.saturating_sub-width.result 3 Blue ∷ []) in
+    let Dash : ℕ → Type 0 = λ h. Part (Veil c.x_of-x.result (250 - c.height-high.result) c.saturating_sub-width.result c.height-high.result 46 Blue ∷ Rectangle c.x_of-x.result 454 c.saturating_sub-width.result 14 c.look_of-colour.result.1 ∷ Rectangle c.x_of-x.result (439 - h) c.saturating_sub-width.result 3 Blue ∷ []) in
     subst Part
     (marks_are c.args.scale.now c.args.sample.now _ _ _ _ _ _ c.x_of-x.ensures.x (omega (arith, c.saturating_sub-width.ensures, c.end_of.ensures.x, c.x_of-x.ensures.x)) c.height-high.ensures.height c.look_of-colour.ensures.colour c.in-Some.is)
     (subst Dash c.height-y.ensures.height c.write_lines-in-Some.ensures.err)

@@ -4,7 +4,7 @@ use Rattle.pictures.specs.Lines.{each_from}
 use Rattle.pictures.specs.Squares.{squares_for}
 use Rattle.pictures.proofs.Parts.{at_err, none_yet, further, cut_short, all_of}
 use Rattle.pictures.proofs.Lines.{svg_is}
-use Rattle.pictures.proofs.SquareLemmas.{drawn_of, squares_on}
+use Rattle.pictures.proofs.SquareLemmas.{numbered, squares_on}
 use Rattle.pictures.proofs.page_map.write_squares.Goals as goal
 
 pub loop-page-init : goal.loop-page-init
@@ -26,4 +26,4 @@ loop-page-preserved g c =
 pub returns-clause-ok : goal.returns-clause-ok
 returns-clause-ok g c =
     let pages = c.args.heap.now.store.pages in
-    all_of _ _ _ _ c.loop-page.invariant.written (ap (each_from (drawn_of (squares_for (length pages))) c.loop-page.page) (drop_all c.loop-page.page pages (omega (arith, c.pages-page-end.ensures.pages, c.loop-page-test.false))))
+    all_of _ _ _ _ c.loop-page.invariant.written (ap (each_from (numbered (squares_for (length pages)) pages) c.loop-page.page) (drop_all c.loop-page.page pages (omega (arith, c.pages-page-end.ensures.pages, c.loop-page-test.false))))

@@ -4,12 +4,12 @@ use Rattle.pictures.specs.PageMap.{map_shown}
 use Rattle.pictures.specs.Squares.{squares_for}
 use Rattle.pictures.specs.Elements.{svg_text}
 use Rattle.pictures.proofs.Parts.{SoFar}
-use Rattle.pictures.proofs.SquareLemmas.{drawn_of}
+use Rattle.pictures.proofs.SquareLemmas.{numbered}
 use Rattle.pictures.proofs.page_map.write_squares.Given as goal
 
 -- the squares of the pages so far are written, and no call has failed
 abbrev pub invariant-loop-page : goal.invariant-loop-page
 invariant-loop-page g l = record {
-  written : SoFar svg_text (g.K.Sink.taken l.fn.sink) (g.K.Sink.taken l.sink) (map_shown l.heap) (each_from (drawn_of (squares_for (length l.heap.store.pages))) l.page (drop l.page l.heap.store.pages));
+  written : SoFar svg_text (g.K.Sink.taken l.fn.sink) (g.K.Sink.taken l.sink) (map_shown l.heap) (each_from (numbered (squares_for (length l.heap.store.pages)) l.heap.store.pages) l.page (drop l.page l.heap.store.pages));
   failures : g.K.Sink.failures l.sink ≡ g.K.Sink.failures l.fn.sink;
 }

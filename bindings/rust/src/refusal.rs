@@ -41,12 +41,18 @@ pub enum Refusal {
     BadSetting(u32),
     /// The installed library is of another version than this crate.
     OtherVersion,
+    /// Another seat has the turn.
+    Taken,
+    /// The mutator isn't one of the seat's, or of those that no seat has.
+    NotYours,
+    /// The two seats aren't at one heap.
+    OtherHeap,
     /// A status of the library for which this crate has no other name.
     Other(u32),
 }
 
 /// The numbers that metronome.h has for them.
-const NUMBERED: [(u32, Refusal); 14] = [
+const NUMBERED: [(u32, Refusal); 17] = [
     (1, Refusal::BadSlot),
     (2, Refusal::NullSlot),
     (3, Refusal::BadIndex),
@@ -61,6 +67,9 @@ const NUMBERED: [(u32, Refusal); 14] = [
     (15, Refusal::AlreadyLive),
     (18, Refusal::BadSchedule),
     (40, Refusal::OtherVersion),
+    (41, Refusal::Taken),
+    (44, Refusal::NotYours),
+    (45, Refusal::OtherHeap),
 ];
 
 const FIRST_SETTING: u32 = 20;

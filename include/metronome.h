@@ -107,11 +107,10 @@ enum metronome_status {
     METRONOME_BAD_HANDLE = 19,      /* what was given as a handle is none: set it to METRONOME_CLOSED where it is defined */
     METRONOME_BAD_SETTING = 20,     /* and the place of the first setting out of its range, 0 (pages) to 10 (live): mend it */
     METRONOME_OTHER_VERSION = 40,   /* the library is of another version than this header: compile the program anew */
-    METRONOME_TAKEN = 41,           /* another seat has the turn: metronome_gate_enter waits for it. 41 to 45 are of seats alone */
+    METRONOME_TAKEN = 41,           /* another seat has the turn: metronome_gate_enter waits for it. 41 to 44 are of seats alone */
     METRONOME_INSIDE = 42,          /* the seat has the turn, and the call wants it not to: metronome_seat_leave first */
     METRONOME_OUTSIDE = 43,         /* the seat hasn't the turn: metronome_seat_enter first */
-    METRONOME_NOT_YOURS = 44,       /* the mutator isn't one of the seat's: a mistake */
-    METRONOME_OTHER_HEAP = 45       /* the two seats aren't at one heap: a mistake */
+    METRONOME_NOT_YOURS = 44        /* the mutator isn't one of the seat's: a mistake */
 };
 
 /* What kind an answer is, and what its number tells. */

@@ -80,8 +80,9 @@ uint32_t metronome_seat_place(metronome_seat *seat, uint64_t *place) METRONOME_N
 
 /* Takes in what another seat of the same heap can tell of the history, and closes that one: nobody calls for its mutators any more.
  * Where it had the turn, the turn is given back first. Once one seat has learnt from all others, and takes the turn, the heap's
- * history is a merge of what was called by all of them. A thread that waits at a gate isn't woken: metronome_gate_wake does it.
- * OK; NO_HEAP or BAD_HANDLE of seat, then of other; OTHER_HEAP where they aren't at one heap, and nothing has changed then. */
+ * history is a merge of what was called by all of them. A seat at another heap is closed too, and nothing is learnt from it. A
+ * thread that waits at a gate isn't woken: metronome_gate_wake does it.
+ * OK; NO_HEAP or BAD_HANDLE of seat, then of other, and nothing has changed then. */
 uint32_t metronome_seat_learn(metronome_seat *seat, metronome_seat *other) METRONOME_NONNULL;
 
 /* Closes a seat; where it had the turn, the turn is given back first. With the last seat of a heap its memory goes back. Where the

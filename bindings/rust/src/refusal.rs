@@ -45,14 +45,14 @@ pub enum Refusal {
     Taken,
     /// The mutator isn't one of the seat's, or of those that no seat has.
     NotYours,
-    /// The two seats aren't at one heap.
+    /// The seat isn't at this heap: the crate finds it, and metronome.h has no number for it.
     OtherHeap,
     /// A status of the library for which this crate has no other name.
     Other(u32),
 }
 
 /// The numbers that metronome.h has for them.
-const NUMBERED: [(u32, Refusal); 17] = [
+const NUMBERED: [(u32, Refusal); 16] = [
     (1, Refusal::BadSlot),
     (2, Refusal::NullSlot),
     (3, Refusal::BadIndex),
@@ -69,7 +69,6 @@ const NUMBERED: [(u32, Refusal); 17] = [
     (40, Refusal::OtherVersion),
     (41, Refusal::Taken),
     (44, Refusal::NotYours),
-    (45, Refusal::OtherHeap),
 ];
 
 const FIRST_SETTING: u32 = 20;
@@ -96,9 +95,10 @@ impl Refusal {
 
 impl fmt::Display for Refusal {
     fn fmt(&self, out: &mut fmt::Formatter<'_>) -> fmt::Result {
-        let status = match self.status() {
-            Some(status) if *self != Refusal::OtherVersion => status,
-            _ => return out.write_str("the library is of another version"),
+        let status = match (self, self.status()) {
+            (Refusal::OtherHeap, _) => return out.write_str("the seat is at another heap"),
+            (Refusal::OtherVersion, _) | (_, None) => return out.write_str("the library is of another version"),
+            (_, Some(status)) => status,
         };
         let mut text = [0u8; 64];
         // SAFETY: `text` has that many bytes, and nothing else uses it while the call runs.

@@ -97,8 +97,11 @@ impl Shared {
     }
 
     /// Takes in what a seat can tell of the history; nobody calls for its mutators any more. It waits for the turn. Refused:
-    /// `OtherHeap`, and then the seat is gone too.
+    /// `OtherHeap` of a seat at another one, which is gone then.
     pub fn learn(&self, mut other: Seat) -> Result<()> {
+        if !Arc::ptr_eq(&self.gate, &other.gate) {
+            return Err(Refusal::OtherHeap);
+        }
         // SAFETY: both live through the call and are open; the first is used under the lock.
         done(unsafe { calls::metronome_seat_learn(&mut *self.gate.lock(), &mut other.handle) })
     }

@@ -104,6 +104,8 @@ fn a_seat_learns_at_its_own_heap() -> Result<()> {
     let (here, there) = (Shared::new(&SMALL)?, Shared::new(&SMALL)?);
     let (own, strange) = (here.seat(2)?, there.seat(2)?);
     assert_eq!(here.learn(strange).err(), Some(Refusal::OtherHeap));
+    assert_eq!(Refusal::OtherHeap.status(), None);
+    assert_eq!(Refusal::OtherHeap.to_string(), "the seat is at another heap");
     assert_eq!(here.learn(own), Ok(()));
     assert_eq!(here.enter().clear(2, 0).err(), Some(Refusal::NotYours));
     assert_eq!(Shared::new(&Settings { slots: 0, ..SMALL }).err(), Some(Refusal::BadSetting(2)));
@@ -132,9 +134,10 @@ fn collect(mut seat: Seat, ends: &mpsc::Receiver<()>) -> Result<Seat> {
     Ok(seat)
 }
 
+/// There are pages for all objects, also where the collector's thread gets no turn.
 #[test]
 fn what_threads_did_is_one_history() -> Result<()> {
-    let shared = Shared::new(&SMALL)?;
+    let shared = Shared::new(&Settings { pages: 64, ..SMALL })?;
     let (end, ends) = mpsc::channel();
     let collector = shared.seat(4)?;
     let collecting = thread::spawn(move || collect(collector, &ends));

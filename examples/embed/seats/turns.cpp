@@ -35,12 +35,11 @@ static void check_seats() {
     Seat moved = std::move(other);
     IS(METRONOME_NO_HEAP, other.try_place(place)); // NOLINT: what was moved away is closed
     CHECK(place == 7);
-    IS(METRONOME_OTHER_HEAP, seat.try_learn(seat));
+    IS(METRONOME_BAD_HANDLE, seat.try_learn(seat));
     IS(METRONOME_OK, seat.try_learn(moved));
     IS(METRONOME_NO_HEAP, moved.try_place(place));
     Seat strange;
     IS(METRONOME_OK, strange.try_open(SETTINGS));
-    IS(METRONOME_OTHER_HEAP, seat.try_learn(strange));
     seat = std::move(strange);
     IS(METRONOME_OK, seat.try_place(place));
     CHECK(place == 0);

@@ -13,7 +13,7 @@ enum { WAITERS = 4, TURNS = 100000, MILLISECOND = 1000000 };
 
 static metronome_gate gate = METRONOME_GATE;
 static metronome_seat own = METRONOME_NO_SEAT, seats[WAITERS];
-static uint64_t waits, wakes; /* of the gate, counted as atomics */
+static uint64_t waits, wakes; /* how often a thread slept, and how many were to be woken; counted as atomics */
 static uint64_t entered;      /* written in turns alone */
 static int passed, failed;
 
@@ -37,7 +37,8 @@ long __real_syscall(long number, ...);
 long __wrap_syscall(long number, uint32_t *at, long what, long value, void *none, void *nothing, long last);
 
 long __wrap_syscall(long number, uint32_t *at, long what, long value, void *none, void *nothing, long last) {
-    if (number == SYS_futex) __atomic_fetch_add(what == FUTEX_WAIT_PRIVATE ? &waits : &wakes, 1, __ATOMIC_SEQ_CST);
+    if (number == SYS_futex && what == FUTEX_WAIT_PRIVATE) __atomic_fetch_add(&waits, 1, __ATOMIC_SEQ_CST);
+    if (number == SYS_futex && what == FUTEX_WAKE_PRIVATE) __atomic_fetch_add(&wakes, (uint64_t)value, __ATOMIC_SEQ_CST);
     return __real_syscall(number, at, what, value, none, nothing, last);
 }
 

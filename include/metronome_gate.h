@@ -1,6 +1,6 @@
 /*
- * metronome_gate.h: where threads wait for the turn at a shared heap, as plain C over the calls of metronome_shared.h, which includes
- * it. Of it nothing is proved. It needs gcc, clang, or another compiler that has their atomic operations.
+ * metronome_gate.h: where threads wait for the turn at a shared heap, as plain C over the calls of metronome_shared.h, which
+ * includes it. Of it nothing is proved. It needs gcc, clang, or another compiler that has their atomic operations.
  */
 #ifndef METRONOME_GATE_H
 #define METRONOME_GATE_H
@@ -34,8 +34,8 @@ void __tsan_acquire(void *at);
 void __tsan_release(void *at);
 #endif
 
-/* A gate, at which threads wait for the turn of one heap, or none. Each thread that takes turns there goes through it. All zeros at
- * first, as METRONOME_GATE; its fields belong to the calls below. It stays where it is as long as a thread uses it. */
+/* A gate, at which threads wait for the turn of one heap. Each thread that takes turns there goes through it. All zeros at first,
+ * as METRONOME_GATE; its fields belong to the calls below. It stays where it is as long as a thread uses it. */
 typedef struct metronome_gate {
     uint32_t waiting; /* how many threads wait, or are about to */
     uint32_t asleep;  /* 1 where one of these may be asleep that nobody is about to wake */
@@ -46,7 +46,7 @@ typedef struct metronome_gate {
 /* How often a thread asks for the turn, 1 or more, before it sleeps. With fewer a thread that gives the turn back takes it again
  * more often, and threads do more calls in all; with more a short turn is waited for with no call of the system. */
 #ifndef METRONOME_GATE_TRIES
-#define METRONOME_GATE_TRIES 64
+#define METRONOME_GATE_TRIES 16
 #endif
 
 /* Lets the other thread of a processor's core go on. */
@@ -83,8 +83,9 @@ METRONOME_NONNULL static inline uint32_t metronome_gate_wait(metronome_gate *gat
     return status;
 }
 
-/* Wakes one of the threads that sleep, unless one is awake that was woken since: it asks, and looks after the others when it leaves.
- * Where none waits it is a look. metronome_gate_leave does it; a program calls it where a turn was given back in another way. */
+/* Wakes one of the threads that sleep, unless one is awake that was woken since: it asks, and looks after the others when it
+ * leaves. Where none waits it is a look. metronome_gate_leave does it; a program calls it where a turn was given back in another
+ * way. */
 METRONOME_NONNULL static inline void metronome_gate_wake(metronome_gate *gate) {
     if (__atomic_load_n(&gate->waiting, __ATOMIC_SEQ_CST) == 0) return;
     if (__atomic_exchange_n(&gate->asleep, 0, __ATOMIC_SEQ_CST) == 0) return;
@@ -93,8 +94,8 @@ METRONOME_NONNULL static inline void metronome_gate_wake(metronome_gate *gate) {
 #endif
 }
 
-/* Takes the turn, and waits for it where another seat has it. Where none has it, it is a call of metronome_seat_enter and no call of
- * the system. OK, INSIDE, NO_HEAP, BAD_HANDLE. */
+/* Takes the turn, and waits for it where another seat has it. Where none has it, it is a call of metronome_seat_enter and no call
+ * of the system. OK, INSIDE, NO_HEAP, BAD_HANDLE. */
 METRONOME_NONNULL static inline uint32_t metronome_gate_enter(metronome_gate *gate, metronome_seat *seat) {
     uint32_t status = metronome_seat_enter(seat);
     for (int tries = 1; status == METRONOME_TAKEN && tries < METRONOME_GATE_TRIES; tries++) {

@@ -1,7 +1,7 @@
 /*
- * metronome_shared.h: a heap that threads share, for C11, C17 and C++17. Each thread has a seat at the heap. A seat takes the turn,
- * does as many calls as it likes, and gives the turn back: no other seat's calls come between. With several calls a turn threads
- * contend less (docs/EMBEDDING.md has figures). The calls are of the library of metronome.h, which this header includes.
+ * metronome_shared.h: a heap that threads share, for C11, C17 and C++17. Each thread has a seat at the heap. A seat takes the
+ * turn, does as many calls as it likes, and gives the turn back: no other seat's calls come between. With several calls a turn
+ * threads contend less. The calls are of the library of metronome.h, which this header includes.
  *
  * No call waits. Where another seat has the turn, TAKEN says so, and nothing has changed. How a thread waits is the program's: at
  * a gate, by metronome_gate_enter and metronome_gate_leave of metronome_gate.h, which this header includes unless
@@ -12,19 +12,19 @@
  * metronome_seat_another gives some of a seat's to a new one. A seat with none may still take the turn for the collector's calls.
  * Statics are all seats'.
  *
- * THREADS. Threads may call on different seats at once, also of one heap; a seat takes one call at a time. The turn is a seat's and
- * no thread's: a seat may go from thread to thread, its turn too. What a program reads and writes in its turns needs no further
+ * THREADS. Threads may call on different seats at once, also of one heap; a seat takes one call at a time. The turn is a seat's
+ * and no thread's: a seat may go from thread to thread, its turn too. What a program reads and writes in its turns needs no further
  * lock: who takes the turn finds all that was written before it was given back.
  *
- * NOT PROMISED is that a seat ever gets the turn, nor how soon, nor in what order seats get it. A seat whose thread ends in its turn
- * keeps it, so that it is TAKEN for ever: unless another thread, once that one has ended, calls metronome_seat_leave or
+ * NOT PROMISED is that a seat ever gets the turn, nor how soon, nor in what order seats get it. A seat whose thread ends in its
+ * turn keeps it, so that it is TAKEN for ever: unless another thread, once that one has ended, calls metronome_seat_leave or
  * metronome_seat_destroy on it.
  *
- * WHAT C MUST NOT DO with a metronome_seat is what it must not do with a metronome, as metronome.h says. A seat that was never set is
- * answered with BAD_HANDLE, unless it has by chance the one value that the library leaves in an open one.
+ * WHAT C MUST NOT DO with a metronome_seat is what it must not do with a metronome, as metronome.h says. A seat that was never set
+ * is answered with BAD_HANDLE, unless it has by chance the one value that the library leaves in an open one.
  *
- * MEMORY of a heap comes from malloc by metronome_seat_create, and goes back when its last seat is destroyed. That of a seat, a few
- * hundred bytes, comes when it is made. No other call asks for any.
+ * MEMORY of a heap comes from malloc by metronome_seat_create, and goes back when its last seat is destroyed. That of a seat, a
+ * few hundred bytes, comes when it is made. No other call asks for any.
  *
  * docs/EMBEDDING.md says what is proved of each function. Of what is `static inline` here nothing is: it is only tested. Calls on
  * seats aren't recorded (metronome_record.h).
@@ -73,15 +73,15 @@ uint32_t metronome_seat_enter(metronome_seat *seat) METRONOME_NONNULL;
 /* Gives the turn back. OK, OUTSIDE, NO_HEAP. */
 uint32_t metronome_seat_leave(metronome_seat *seat) METRONOME_NONNULL;
 
-/* The length of the history, as it wraps at 2^63: how many commands all seats have done, also such as the heap refused, but not those
- * that were refused before they came to it. It needs no turn, and never waits; what a seat does counts once it gives the turn back.
+/* The length of the history, as it wraps at 2^63: how many commands all seats have done, also such as the heap refused, but not
+ * those that were refused before they came to it. It needs no turn; what a seat does counts once it gives the turn back.
  * OK; INSIDE or NO_HEAP, and *place is left as it was. */
 uint32_t metronome_seat_place(metronome_seat *seat, uint64_t *place) METRONOME_NONNULL;
 
-/* Takes in what another seat of the same heap can tell of the history, and closes that one: nobody calls for its mutators any more.
- * Where it had the turn, the turn is given back first. Once one seat has learnt from all others, and takes the turn, the heap's
- * history is a merge of what was called by all of them. A seat at another heap is closed too, and nothing is learnt from it. A
- * thread that waits at a gate isn't woken: metronome_gate_wake does it.
+/* Takes in what another seat of the same heap can tell of the history, and closes that one: nobody calls for its mutators any
+ * more. Where it had the turn, the turn is given back first. Once one seat has learnt from all others, and takes the turn, the
+ * heap's history is a merge of what was called by all of them. A seat at another heap is closed too, and nothing is learnt from it.
+ * A thread that waits at a gate isn't woken: metronome_gate_wake does it.
  * OK; NO_HEAP or BAD_HANDLE of seat, then of other, and nothing has changed then. */
 uint32_t metronome_seat_learn(metronome_seat *seat, metronome_seat *other) METRONOME_NONNULL;
 
@@ -131,8 +131,8 @@ uint32_t metronome_seat_begin(metronome_seat *seat) METRONOME_NONNULL;
 /* OK; BAD_BUDGET, OUTSIDE or NO_HEAP, and *spent is left as it was. */
 uint32_t metronome_seat_quantum(metronome_seat *seat, uint32_t budget, metronome_spent *spent) METRONOME_NONNULL;
 
-/* ---- Figures, in the turn of any seat, as in metronome.h: OK; OUTSIDE or NO_HEAP, and what the last pointer leads to is left as it
- * was ---- */
+/* ---- Figures, in the turn of any seat, as in metronome.h: OK; OUTSIDE or NO_HEAP, and what the last pointer leads to is left as
+ * it was ---- */
 
 uint32_t metronome_seat_phase(metronome_seat *seat, uint32_t *phase) METRONOME_NONNULL;
 uint32_t metronome_seat_units(metronome_seat *seat, uint64_t *units) METRONOME_NONNULL;

@@ -1,6 +1,6 @@
 /*
- * metronome_shared.hpp: the shared heap of metronome_shared.h for C++17: seats, which are moved and not copied, and turns, which are given
- * back when they go out of scope. Plain C++ over these calls, of which nothing is proved.
+ * metronome_shared.hpp: the shared heap of metronome_shared.h for C++17: seats, which are moved and not copied, and turns, which
+ * are given back when they go out of scope. Plain C++ over these calls, of which nothing is proved.
  *
  * As in metronome.hpp `try_NAME` throws nothing and answers a metronome_status, and NAME answers what it finds, or throws a Refusal.
  * Mutators and slots are named by their numbers: what a slot holds stays from turn to turn.
@@ -104,7 +104,8 @@ public:
 
     // A command: one of the 18 of metronome_shared.h, with what it takes behind the seat. What is found goes to `answer`.
     template <typename... Taken, typename... Given>
-    std::uint32_t try_call(metronome_answer &answer, metronome_answer (*command)(metronome_seat *, Taken...), Given... given) noexcept {
+    std::uint32_t try_call(metronome_answer &answer, metronome_answer (*command)(metronome_seat *, Taken...),
+                           Given... given) noexcept {
         const metronome_answer found = command(seat, static_cast<Taken>(given)...);
         if (found.kind != METRONOME_REFUSED) answer = found;
         return detail::status_of(found);

@@ -1,8 +1,8 @@
 /*
  * drawn [ROUNDS]: four threads at one heap, each with two mutators and a seat, later a seat for each of the two; and a collector.
- * Each answer to a drawn command is compared with a model of the mutator's objects, and each thread does in between what it
- * must not do. In the end one seat learns from all others, and the history is as long as the answers are many. With -DMUTEX threads
- * wait at a mutex of the program, else at a gate.
+ * Each answer to a drawn command is compared with a model of the mutator's objects, and each thread does in between what it must
+ * not do. In the end one seat learns from all others, and the history is as long as the answers are many. With -DMUTEX threads wait
+ * at a mutex of the program, else at a gate.
  */
 #include "model.h"
 #include <pthread.h>

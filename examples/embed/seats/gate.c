@@ -1,7 +1,7 @@
 /*
- * Threads that wait at a gate: one that has the turn for long, one that ends in its turn, and one whose seat is closed or learnt from
- * in its turn. The program's own `syscall` counts what the gate asks of the system: nothing where nobody waits, and one wake for each
- * thread that sleeps.
+ * Threads that wait at a gate: one that has the turn for long, one that ends in its turn, and one whose seat is closed or learnt
+ * from in its turn. The program's own `syscall` counts what the gate asks of the system: nothing where nobody waits, and one wake
+ * for each thread that sleeps.
  */
 #define _GNU_SOURCE
 #include "metronome_shared.h"

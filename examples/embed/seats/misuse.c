@@ -1,6 +1,6 @@
 /*
- * Calls on seats in the wrong order, outside of a turn or in one, for another's mutator, and on what is no handle: each is told, in
- * the order that the header says, and changes nothing.
+ * Calls on seats in the wrong order, outside of a turn or in one, for another's mutator, and on what is no handle: each is told,
+ * in the order that the header says, and changes nothing.
  */
 #include "metronome_shared.h"
 #include <stdio.h>
@@ -117,7 +117,8 @@ static void handles_are_told_apart(void) {
     metronome_seat_destroy(&seat);
 }
 
-/* A seat is made, made again, moved, destroyed, destroyed again, and made anew; faults of settings are those of metronome_create. */
+/* A seat is made, made again, moved, destroyed, destroyed again, and made anew; faults of settings are told as by
+ * metronome_create. */
 static void a_handle_has_one_seat(void) {
     metronome_seat s = METRONOME_NO_SEAT, moved;
     metronome_settings faulty = settings;

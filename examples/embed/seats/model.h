@@ -14,8 +14,8 @@ enum command_kind {
     STORE_STATIC, COMPARE_STATIC, SAME, DESCRIBE, JOIN, RETIRE, COMMANDS
 };
 
-/* A command: its slots in the order in which the call names them, its cell or static, and its words. Of a new object `i` and `j` are
- * how many reference and word cells it has. */
+/* A command: its slots in the order in which the call names them, its cell or static, and its words. Of a new object `i` and `j`
+ * are how many reference and word cells it has. */
 struct command {
     enum command_kind kind;
     uint32_t slots[3];

@@ -1,8 +1,8 @@
 /*
  * shards [ADDITIONS [THREADS]]: a table of counts, sharded over as many heaps as there are threads, beside the same table in one
- * heap. Each thread has a seat at each heap: a key's heap is its remainder, and what a thread adds at one heap it adds in one turn.
- * No reference goes from heap to heap: what crosses are words. It tells how long an addition takes in both ways, by the clock, and
- * looks whether each count is what all threads added to it.
+ * heap. Each thread has a seat at each heap: a key's heap is its remainder, and what a thread adds at one heap it adds in one
+ * turn. No reference goes from heap to heap: what crosses are words. It tells how long an addition takes in both ways, by the
+ * clock, and looks whether each count is what all threads added to it.
  */
 #define _POSIX_C_SOURCE 200809L
 #include "metronome_shared.h"

@@ -14,7 +14,7 @@
  *
  * THREADS. Any thread may call any function, and no thread owns a heap; but a heap takes one call at a time. Where
  * several threads call, the program holds a lock of its own around each call (or orders calls by starting and joining
- * threads). Calls on different heaps need no lock. metronome_text and metronome_version need none. The library starts no
+ * threads), or each thread has a seat at the heap (metronome_shared.h). Calls on different heaps need no lock. metronome_text and metronome_version need none. The library starts no
  * thread, takes no lock and never waits. Don't call it from a signal handler, nor in a child that was forked by a process
  * with threads.
  *
@@ -106,7 +106,11 @@ enum metronome_status {
     METRONOME_BAD_SCHEDULE = 18,    /* collector_ticks * rate isn't 256 to 1000000: mend the settings */
     METRONOME_BAD_HANDLE = 19,      /* what was given as a handle is none: set it to METRONOME_CLOSED where it is defined */
     METRONOME_BAD_SETTING = 20,     /* and the place of the first setting out of its range, 0 (pages) to 10 (live): mend it */
-    METRONOME_OTHER_VERSION = 40    /* the library is of another version than this header: compile the program anew */
+    METRONOME_OTHER_VERSION = 40,   /* the library is of another version than this header: compile the program anew */
+    METRONOME_TAKEN = 41,           /* another seat has the turn: metronome_gate_enter waits for it. 41 to 44 are of seats alone */
+    METRONOME_INSIDE = 42,          /* the seat has the turn, and the call wants it not to: metronome_seat_leave first */
+    METRONOME_OUTSIDE = 43,         /* the seat hasn't the turn: metronome_seat_enter first */
+    METRONOME_NOT_YOURS = 44        /* the mutator isn't one of the seat's: a mistake */
 };
 
 /* What kind an answer is, and what its number tells. */

@@ -36,7 +36,7 @@ pub enum Phase {
 }
 
 impl Phase {
-    fn of(number: u32) -> Phase {
+    pub(crate) fn of(number: u32) -> Phase {
         const PHASES: [Phase; 5] = [Phase::Idle, Phase::Roots, Phase::Marking, Phase::Sweeping, Phase::Moving];
         PHASES[number as usize]
     }

@@ -19,6 +19,8 @@
 //! }
 //! ```
 //!
+//! A heap that threads share is a [`Shared`]: each thread has a [`Seat`] at it, and does its calls in a [`Turn`].
+//!
 //! A heap takes one call at a time, so it isn't `Sync`:
 //!
 //! ```compile_fail,E0277
@@ -44,6 +46,8 @@ mod mutator;
 mod record;
 mod refusal;
 mod root;
+mod seat;
+mod turn;
 
 pub use calls::{version, Counts, CycleLimit, Page, Settings};
 pub use heap::{Heap, Pacing, Phase, Spent};
@@ -51,3 +55,5 @@ pub use mutator::Mutator;
 pub use record::Recording;
 pub use refusal::{Refusal, Result};
 pub use root::{Compared, Description, Root, Shape};
+pub use seat::{Seat, Shared};
+pub use turn::Turn;

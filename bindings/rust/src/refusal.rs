@@ -41,12 +41,18 @@ pub enum Refusal {
     BadSetting(u32),
     /// The installed library is of another version than this crate.
     OtherVersion,
+    /// Another seat has the turn.
+    Taken,
+    /// The mutator isn't one of the seat's, or of those that no seat has.
+    NotYours,
+    /// The seat isn't at this heap: the crate finds it, and metronome.h has no number for it.
+    OtherHeap,
     /// A status of the library for which this crate has no other name.
     Other(u32),
 }
 
 /// The numbers that metronome.h has for them.
-const NUMBERED: [(u32, Refusal); 14] = [
+const NUMBERED: [(u32, Refusal); 16] = [
     (1, Refusal::BadSlot),
     (2, Refusal::NullSlot),
     (3, Refusal::BadIndex),
@@ -61,6 +67,8 @@ const NUMBERED: [(u32, Refusal); 14] = [
     (15, Refusal::AlreadyLive),
     (18, Refusal::BadSchedule),
     (40, Refusal::OtherVersion),
+    (41, Refusal::Taken),
+    (44, Refusal::NotYours),
 ];
 
 const FIRST_SETTING: u32 = 20;
@@ -87,9 +95,10 @@ impl Refusal {
 
 impl fmt::Display for Refusal {
     fn fmt(&self, out: &mut fmt::Formatter<'_>) -> fmt::Result {
-        let status = match self.status() {
-            Some(status) if *self != Refusal::OtherVersion => status,
-            _ => return out.write_str("the library is of another version"),
+        let status = match (self, self.status()) {
+            (Refusal::OtherHeap, _) => return out.write_str("the seat is at another heap"),
+            (Refusal::OtherVersion, _) | (_, None) => return out.write_str("the library is of another version"),
+            (_, Some(status)) => status,
         };
         let mut text = [0u8; 64];
         // SAFETY: `text` has that many bytes, and nothing else uses it while the call runs.

@@ -46,7 +46,7 @@ pub enum Shape {
 }
 
 impl Shape {
-    fn of(told: &ShapeTold) -> Shape {
+    pub(crate) fn of(told: &ShapeTold) -> Shape {
         match told.kind {
             0 => Shape::Plain { refs: told.refs, words: told.words },
             1 => Shape::Refs(told.refs),

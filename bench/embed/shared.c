@@ -1,0 +1,111 @@
+/*
+ * shared WAY THREADS CALLS_A_TURN CALLS: so many calls by threads at one heap, get and put in turn, each at an object of its thread's
+ * own. WAY says what a thread goes through for each turn: `gate`, seats that wait at a gate; `seats`, seats that wait at a mutex; or
+ * `mutex`, one handle with a mutex round it. It prints the nanoseconds of a call: the time from where the first thread begins to
+ * where the last one ends, over all calls.
+ */
+#define _POSIX_C_SOURCE 200809L
+#include "measure.h"
+#include "metronome_shared.h"
+#include <pthread.h>
+#include <stdlib.h>
+#include <string.h>
+
+enum { MOST = 64 };
+enum way { GATE, SEATS, MUTEX };
+
+/* Each on a cache line of its own. */
+static struct { _Alignas(128) metronome_gate it; } gate = { METRONOME_GATE };
+static struct { _Alignas(128) pthread_mutex_t it; } lock = { PTHREAD_MUTEX_INITIALIZER };
+static struct { _Alignas(128) metronome_seat it; int64_t began, ended; } seats[MOST];
+static struct { _Alignas(128) metronome it; } heap = { METRONOME_CLOSED };
+
+static enum way way;
+static uint32_t threads, batch;
+static uint64_t turns;
+static pthread_barrier_t start;
+
+static void need(int holds) {
+    if (holds) return;
+    fprintf(stderr, "shared: a call was refused\n");
+    exit(1);
+}
+
+static void with_seat(metronome_seat *seat, uint32_t m) {
+    for (uint32_t n = 0; n < batch; n++)
+        need((n % 2 ? metronome_seat_put(seat, m, 0, 0, n) : metronome_seat_get(seat, m, 0, 0)).kind != METRONOME_REFUSED);
+}
+
+static void with_heap(uint32_t m) {
+    for (uint32_t n = 0; n < batch; n++)
+        need((n % 2 ? metronome_put(&heap.it, m, 0, 0, n) : metronome_get(&heap.it, m, 0, 0)).kind != METRONOME_REFUSED);
+}
+
+static void take_turn(metronome_seat *seat, uint32_t m) {
+    if (way == GATE) {
+        need(metronome_gate_enter(&gate.it, seat) == METRONOME_OK);
+        with_seat(seat, m);
+        metronome_gate_leave(&gate.it, seat);
+        return;
+    }
+    pthread_mutex_lock(&lock.it);
+    if (way == SEATS) {
+        need(metronome_seat_enter(seat) == METRONOME_OK);
+        with_seat(seat, m);
+        metronome_seat_leave(seat);
+    } else {
+        with_heap(m);
+    }
+    pthread_mutex_unlock(&lock.it);
+}
+
+static void *run(void *argument) {
+    uint32_t m = (uint32_t)(uintptr_t)argument;
+    pthread_barrier_wait(&start);
+    seats[m].began = nanoseconds(CLOCK_MONOTONIC);
+    for (uint64_t turn = 0; turn < turns; turn++) take_turn(&seats[m].it, m);
+    seats[m].ended = nanoseconds(CLOCK_MONOTONIC);
+    return NULL;
+}
+
+/* How long all threads took. */
+static int64_t taken(void) {
+    int64_t began = seats[0].began, ended = seats[0].ended;
+    for (uint32_t m = 1; m < threads; m++) {
+        if (seats[m].began < began) began = seats[m].began;
+        if (seats[m].ended > ended) ended = seats[m].ended;
+    }
+    return ended - began;
+}
+
+/* The heap, an object for each thread in its slot 0, and a seat for each. */
+static void open_heap(void) {
+    metronome_settings settings = METRONOME_SETTINGS(16, threads, 1);
+    if (way == MUTEX) {
+        need(metronome_create(&heap.it, &settings) == METRONOME_OK);
+        for (uint32_t m = 0; m < threads; m++) need(metronome_new_words(&heap.it, m, 0, 1).kind == METRONOME_MADE);
+        return;
+    }
+    need(metronome_seat_create(&seats[0].it, &settings) == METRONOME_OK && metronome_seat_enter(&seats[0].it) == METRONOME_OK);
+    for (uint32_t m = 0; m < threads; m++) need(metronome_seat_new_words(&seats[0].it, m, 0, 1).kind == METRONOME_MADE);
+    need(metronome_seat_leave(&seats[0].it) == METRONOME_OK);
+    for (uint32_t m = threads - 1; m > 0; m--) need(metronome_seat_another(&seats[0].it, &seats[m].it, m) == METRONOME_OK);
+}
+
+int main(int count, char **words) {
+    pthread_t running[MOST];
+    if (count != 5) return 2;
+    way = strcmp(words[1], "gate") == 0 ? GATE : strcmp(words[1], "seats") == 0 ? SEATS : MUTEX;
+    threads = (uint32_t)atoi(words[2]);
+    batch = (uint32_t)atoi(words[3]);
+    if (threads < 1 || threads > MOST || batch < 1) return 2;
+    turns = strtoull(words[4], NULL, 10) / threads / batch + 1;
+    open_heap();
+    pthread_barrier_init(&start, NULL, threads);
+    for (uintptr_t m = 0; m < threads; m++) need(pthread_create(&running[m], NULL, run, (void *)m) == 0);
+    for (uint32_t m = 0; m < threads; m++) pthread_join(running[m], NULL);
+    printf("%.1f\n", (double)taken() / (double)(turns * threads * batch));
+    for (uint32_t m = 0; m < threads; m++) metronome_seat_destroy(&seats[m].it);
+    metronome_destroy(&heap.it);
+    return 0;
+}

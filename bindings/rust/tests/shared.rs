@@ -1,0 +1,159 @@
+//! Heaps that threads share: seats, turns, and what each call finds.
+use std::panic::{catch_unwind, AssertUnwindSafe};
+use std::sync::mpsc;
+use std::thread;
+
+use metronome::{Compared, Description, Page, Phase, Refusal, Result, Seat, Settings, Shape, Shared};
+
+/// Four mutators of four slots, and one static.
+const SMALL: Settings = Settings { statics: 1, ..Settings::new(16, 4, 4) };
+
+const ROUNDS: u64 = 5000;
+
+#[test]
+fn mutators_go_to_seats() -> Result<()> {
+    let shared = Shared::new(&SMALL)?;
+    let mut last = shared.seat(2)?;
+    assert_eq!(shared.seat(3).err(), Some(Refusal::NotYours));
+    let mut very_last = last.another(3)?;
+    assert_eq!(last.another(1).err(), Some(Refusal::NotYours));
+    for (seat, own, strange) in [(&mut last, 2, 3), (&mut very_last, 3, 2)] {
+        let mut turn = seat.enter();
+        turn.clear(own, 0)?;
+        assert_eq!(turn.clear(strange, 0).err(), Some(Refusal::NotYours));
+        assert_eq!(turn.clear(0, 0).err(), Some(Refusal::NotYours));
+    }
+    shared.enter().clear(1, 0)?;
+    assert_eq!(shared.enter().clear(2, 0).err(), Some(Refusal::NotYours));
+    assert_eq!((shared.place(), last.place()), (3, 3));
+    Ok(())
+}
+
+#[test]
+fn the_turn_is_one_seats() -> Result<()> {
+    let shared = Shared::new(&SMALL)?;
+    let mut seat = shared.seat(1)?;
+    let turn = shared.enter();
+    let taken = thread::scope(|scope| scope.spawn(|| seat.try_enter().err()).join().expect("the thread ends"));
+    assert_eq!(taken, Some(Refusal::Taken));
+    assert_eq!(Refusal::Taken.status(), Some(41));
+    assert_eq!(seat.place(), 0);
+    drop(turn);
+    seat.try_enter()?.clear(1, 0)?;
+    assert_eq!(seat.place(), 1);
+    Ok(())
+}
+
+#[test]
+fn who_panics_gives_the_turn_back() -> Result<()> {
+    let shared = Shared::new(&SMALL)?;
+    let mut seat = shared.seat(1)?;
+    let panicked = catch_unwind(AssertUnwindSafe(|| {
+        let _turn = seat.enter();
+        std::panic::resume_unwind(Box::new(()));
+    }));
+    assert!(panicked.is_err());
+    seat.try_enter()?.clear(1, 0)?;
+    shared.enter().clear(0, 0)?;
+    Ok(())
+}
+
+#[test]
+fn cells_are_read_and_written() -> Result<()> {
+    let shared = Shared::new(&SMALL)?;
+    let mut turn = shared.enter();
+    assert_eq!((turn.new_plain(0, 0, 2, 1)?, turn.new_refs(0, 1, 300)?, turn.new_words(0, 2, 1)?), (1, 2, 3));
+    assert_eq!(turn.describe(0, 0)?, Description { identity: 1, shape: Shape::Plain { refs: 2, words: 1 } });
+    assert_eq!(turn.describe(0, 1)?.shape, Shape::Refs(300));
+    assert_eq!(turn.describe(0, 3).err(), Some(Refusal::NullSlot));
+    turn.put(0, 0, 0, u64::MAX)?;
+    assert_eq!(turn.compare_put(0, 0, 0, 1, 2)?, Compared::Kept(u64::MAX));
+    assert_eq!(turn.compare_put(0, 0, 0, u64::MAX, 2)?, Compared::Stored);
+    turn.store(0, 0, 1, 1)?;
+    assert_eq!((turn.load(0, 3, 0, 1)?, turn.load(0, 3, 0, 0)?), (2, 0));
+    assert_eq!(turn.compare_store(0, 0, 0, 1, 2)?, Compared::Kept(0));
+    assert_eq!(turn.compare_store(0, 0, 0, 3, 0)?, Compared::Stored);
+    assert_eq!(turn.compare_static(0, 0, 3, 0)?, Compared::Stored);
+    turn.store_static(0, 0, 2)?;
+    assert_eq!(turn.load_static(0, 3, 0)?, 3);
+    assert!(turn.is_same(0, 2, 3)? && !turn.is_same(0, 0, 3)?);
+    turn.copy(0, 3, 0)?;
+    assert_eq!((turn.get(0, 3, 0)?, turn.get(0, 3, 1).err()), (2, Some(Refusal::BadIndex)));
+    turn.retire(0)?;
+    assert_eq!(turn.clear(0, 0).err(), Some(Refusal::NotLive));
+    turn.join(0)?;
+    assert_eq!(turn.describe(0, 0).err(), Some(Refusal::NullSlot));
+    Ok(())
+}
+
+#[test]
+fn cycles_go_by_quanta() -> Result<()> {
+    let shared = Shared::new(&SMALL)?;
+    let mut turn = shared.enter();
+    assert_eq!((turn.phase(), turn.units(), turn.free_pages()), (Phase::Idle, 0, 16));
+    assert!(turn.begin() && !turn.begin());
+    assert_eq!(turn.quantum(255).err(), Some(Refusal::BadBudget));
+    let spent = turn.quantum(256)?;
+    assert!(spent.units > 0 && u64::from(spent.units) == turn.units() && spent.phase == turn.phase());
+    assert_eq!((turn.count().objects, turn.page(0)), (0, Page::default()));
+    Ok(())
+}
+
+#[test]
+fn a_seat_learns_at_its_own_heap() -> Result<()> {
+    let (here, there) = (Shared::new(&SMALL)?, Shared::new(&SMALL)?);
+    let (own, strange) = (here.seat(2)?, there.seat(2)?);
+    assert_eq!(here.learn(strange).err(), Some(Refusal::OtherHeap));
+    assert_eq!(Refusal::OtherHeap.status(), None);
+    assert_eq!(Refusal::OtherHeap.to_string(), "the seat is at another heap");
+    assert_eq!(here.learn(own), Ok(()));
+    assert_eq!(here.enter().clear(2, 0).err(), Some(Refusal::NotYours));
+    assert_eq!(Shared::new(&Settings { slots: 0, ..SMALL }).err(), Some(Refusal::BadSetting(2)));
+    Ok(())
+}
+
+/// Adds to the word of an object that a static holds, two commands in a turn, and makes garbage.
+fn add(seat: &mut Seat, mutator: u32) -> Result<()> {
+    seat.enter().load_static(mutator, 0, 0)?;
+    for _ in 0..ROUNDS {
+        let mut turn = seat.enter();
+        let word = turn.get(mutator, 0, 0)?;
+        turn.put(mutator, 0, 0, word + 1)?;
+        turn.new_plain(mutator, 1, 1, 1)?;
+    }
+    Ok(())
+}
+
+/// A quantum in each turn, until what ends it is told.
+fn collect(mut seat: Seat, ends: &mpsc::Receiver<()>) -> Result<Seat> {
+    while ends.try_recv() == Err(mpsc::TryRecvError::Empty) {
+        let mut turn = seat.enter();
+        turn.begin();
+        turn.quantum(1000)?;
+    }
+    Ok(seat)
+}
+
+/// There are pages for all objects, also where the collector's thread gets no turn.
+#[test]
+fn what_threads_did_is_one_history() -> Result<()> {
+    let shared = Shared::new(&Settings { pages: 64, ..SMALL })?;
+    let (end, ends) = mpsc::channel();
+    let collector = shared.seat(4)?;
+    let collecting = thread::spawn(move || collect(collector, &ends));
+    shared.enter().new_words(0, 0, 1)?;
+    shared.enter().store_static(0, 0, 0)?;
+    let mut threads = Vec::new();
+    for mutator in (1..4).rev() {
+        let mut seat = shared.seat(mutator)?;
+        threads.push(thread::spawn(move || add(&mut seat, mutator).map(|()| seat)));
+    }
+    for thread in threads {
+        shared.learn(thread.join().expect("the thread ends")?)?;
+    }
+    end.send(()).expect("the collector's thread goes on");
+    shared.learn(collecting.join().expect("the thread ends")?)?;
+    assert_eq!(shared.enter().get(0, 0, 0)?, 3 * ROUNDS);
+    assert_eq!(shared.place(), 3 * (3 * ROUNDS + 1) + 3);
+    Ok(())
+}

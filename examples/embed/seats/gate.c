@@ -1,0 +1,190 @@
+/*
+ * Threads that wait at a gate: one that has the turn for long, one that ends in its turn, and one whose seat is closed or learnt
+ * from in its turn. The program's own `syscall` counts what the gate asks of the system: nothing where nobody waits, and one wake
+ * for each thread that sleeps.
+ */
+#define _GNU_SOURCE
+#include "metronome_shared.h"
+#include <pthread.h>
+#include <stdio.h>
+#include <time.h>
+
+enum { WAITERS = 4, TURNS = 100000, MILLISECOND = 1000000 };
+
+static metronome_gate gate = METRONOME_GATE;
+static metronome_seat own = METRONOME_NO_SEAT, seats[WAITERS];
+static uint64_t waits, wakes; /* how often a thread slept, and how many were to be woken; counted as atomics */
+static uint64_t entered;      /* written in turns alone */
+static int passed, failed;
+
+static void check(int holds, int line) {
+    if (holds) {
+        passed++;
+    } else {
+        failed++;
+        fprintf(stderr, "failed: line %d\n", line);
+    }
+}
+
+#define IS(status, call) check((call) == (uint32_t)(status), __LINE__)
+
+static uint64_t count_of(uint64_t *count) {
+    return __atomic_load_n(count, __ATOMIC_SEQ_CST);
+}
+
+/* What the linker puts in the place of syscall. */
+long __real_syscall(long number, ...);
+long __wrap_syscall(long number, uint32_t *at, long what, long value, void *none, void *nothing, long last);
+
+long __wrap_syscall(long number, uint32_t *at, long what, long value, void *none, void *nothing, long last) {
+    if (number == SYS_futex && what == FUTEX_WAIT_PRIVATE) __atomic_fetch_add(&waits, 1, __ATOMIC_SEQ_CST);
+    if (number == SYS_futex && what == FUTEX_WAKE_PRIVATE) __atomic_fetch_add(&wakes, (uint64_t)value, __ATOMIC_SEQ_CST);
+    return __real_syscall(number, at, what, value, none, nothing, last);
+}
+
+static void sleep_for(long nanoseconds) {
+    struct timespec time = { 0, nanoseconds };
+    nanosleep(&time, NULL);
+}
+
+/* Waits until so many threads wait asleep. */
+static void await(uint64_t many) {
+    while (count_of(&waits) < many) sleep_for(MILLISECOND);
+    sleep_for(20 * MILLISECOND);
+}
+
+static void open_seats(void) {
+    static const metronome_seat none = METRONOME_NO_SEAT;
+    metronome_settings settings = METRONOME_SETTINGS(4, WAITERS, 2);
+    IS(METRONOME_OK, metronome_seat_create(&own, &settings));
+    for (uint32_t n = WAITERS; n > 0; n--) {
+        seats[n - 1] = none;
+        IS(METRONOME_OK, metronome_seat_another(&own, &seats[n - 1], n - 1));
+    }
+}
+
+static void close_seats(void) {
+    for (int n = 0; n < WAITERS; n++) metronome_seat_destroy(&seats[n]);
+    metronome_seat_destroy(&own);
+}
+
+/* A turn of a thread; how the calls end is what it answers. */
+static void *turn(void *argument) {
+    metronome_seat *seat = argument;
+    uint32_t status = metronome_gate_enter(&gate, seat);
+    entered++;
+    if (status == METRONOME_OK) status = metronome_gate_leave(&gate, seat);
+    return (void *)(uintptr_t)status;
+}
+
+/* Takes the turn and ends. */
+static void *end_in_turn(void *argument) {
+    return (void *)(uintptr_t)metronome_gate_enter(&gate, argument);
+}
+
+static void start(pthread_t *thread, void *(*work)(void *), metronome_seat *seat) {
+    check(pthread_create(thread, NULL, work, seat) == 0, __LINE__);
+}
+
+static void is_ended(pthread_t thread) {
+    void *status;
+    check(pthread_join(thread, &status) == 0 && (uintptr_t)status == METRONOME_OK, __LINE__);
+}
+
+/* One thread, and then another one after it, ask nothing of the system. */
+static void turns_with_nobody_beside_ask_nothing(void) {
+    int done = 0;
+    for (int n = 0; n < TURNS; n++) {
+        metronome_seat *seat = &seats[n % WAITERS];
+        done += metronome_gate_enter(&gate, seat) == METRONOME_OK && metronome_gate_leave(&gate, seat) == METRONOME_OK;
+    }
+    check(done == TURNS && waits == 0 && wakes == 0, __LINE__);
+    IS(METRONOME_OUTSIDE, metronome_gate_leave(&gate, &own));
+    check(waits == 0 && wakes == 0, __LINE__);
+}
+
+/* While one has the turn for long, the others sleep: they take next to no processor time. Each of them is woken once. */
+static void who_waits_sleeps(void) {
+    pthread_t threads[WAITERS];
+    uint64_t asleep = count_of(&waits), before = count_of(&wakes);
+    entered = 0;
+    IS(METRONOME_OK, metronome_gate_enter(&gate, &own));
+    for (int n = 0; n < WAITERS; n++) start(&threads[n], turn, &seats[n]);
+    await(asleep + WAITERS);
+    clock_t began = clock();
+    sleep_for(200 * MILLISECOND);
+    check((double)(clock() - began) / CLOCKS_PER_SEC < 0.1 && entered == 0, __LINE__);
+    check(count_of(&wakes) == before, __LINE__);
+    IS(METRONOME_INSIDE, metronome_gate_enter(&gate, &own));
+    IS(METRONOME_OK, metronome_gate_leave(&gate, &own));
+    for (int n = 0; n < WAITERS; n++) is_ended(threads[n]);
+    check(entered == WAITERS && count_of(&wakes) - before <= WAITERS, __LINE__);
+}
+
+/* How a turn that its thread left open is ended by another thread. */
+static uint32_t by_leaving(metronome_seat *seat) {
+    return metronome_gate_leave(&gate, seat);
+}
+
+static uint32_t by_closing(metronome_seat *seat) {
+    metronome_seat_destroy(seat);
+    metronome_gate_wake(&gate);
+    return METRONOME_OK;
+}
+
+static uint32_t by_learning(metronome_seat *seat) {
+    uint32_t status = metronome_seat_learn(&own, seat);
+    metronome_gate_wake(&gate);
+    return status;
+}
+
+/* Of a thread that ended in its turn the turn is taken for all others, until its seat gives it back. */
+static void who_ends_in_its_turn_keeps_it(uint32_t (*give_back)(metronome_seat *)) {
+    pthread_t ended, waiting;
+    uint64_t before = count_of(&waits);
+    uint64_t place = 7;
+    entered = 0;
+    start(&ended, end_in_turn, &seats[0]);
+    is_ended(ended);
+    for (int n = 0; n < 100; n++)
+        if (metronome_seat_enter(&own) != METRONOME_TAKEN) check(0, __LINE__);
+    IS(METRONOME_OK, metronome_seat_place(&own, &place));
+    check(place == 0, __LINE__);
+    start(&waiting, turn, &seats[1]);
+    await(before + 1);
+    IS(METRONOME_TAKEN, metronome_seat_enter(&own));
+    IS(METRONOME_OK, give_back(&seats[0]));
+    is_ended(waiting);
+    check(entered == 1, __LINE__);
+}
+
+/* A wake is never lost: two threads that do nothing but take turns come to their end. */
+static void *many_turns(void *argument) {
+    uintptr_t status = METRONOME_OK;
+    for (int n = 0; n < TURNS && status == METRONOME_OK; n++) status = (uintptr_t)turn(argument);
+    return (void *)status;
+}
+
+static void no_wake_is_lost(void) {
+    pthread_t threads[WAITERS];
+    entered = 0;
+    for (int n = 1; n < WAITERS; n++) start(&threads[n], many_turns, &seats[n]);
+    for (int n = 1; n < WAITERS; n++) is_ended(threads[n]);
+    check(entered == (uint64_t)(WAITERS - 1) * TURNS, __LINE__);
+    check(gate.waiting == 0, __LINE__);
+}
+
+int main(void) {
+    open_seats();
+    turns_with_nobody_beside_ask_nothing();
+    who_waits_sleeps();
+    no_wake_is_lost();
+    who_ends_in_its_turn_keeps_it(by_leaving);
+    who_ends_in_its_turn_keeps_it(by_learning);
+    close_seats();
+    open_seats();
+    who_ends_in_its_turn_keeps_it(by_closing);
+    close_seats();
+    printf("%d passed, %d failed\n", passed, failed);
+    return failed != 0;
+}

@@ -1,0 +1,162 @@
+// The classes of metronome_shared.hpp, and what is given back when they go out of scope. Built without exceptions too, and then what
+// throws is left out.
+#include "metronome_shared.hpp"
+#include <cstdio>
+#include <thread>
+#include <vector>
+
+using namespace barleynight;
+
+static int passed, failed;
+
+static void check(bool holds, int line) {
+    (holds ? passed : failed)++;
+    if (!holds) std::fprintf(stderr, "failed: line %d\n", line);
+}
+
+#define CHECK(holds) check(holds, __LINE__)
+#define IS(status, call) check((call) == static_cast<std::uint32_t>(status), __LINE__)
+
+static constexpr std::uint32_t THREADS = 4, ROUNDS = 20000;
+
+static const metronome_settings SETTINGS = METRONOME_SETTINGS(16, THREADS, 3);
+
+// A closed seat refuses; one that is open opens once; one that was moved away is closed.
+static void check_seats() {
+    Seat seat, other;
+    std::uint64_t place = 7;
+    IS(METRONOME_NO_HEAP, seat.try_place(place));
+    IS(METRONOME_NO_HEAP, seat.try_another(0, other));
+    IS(METRONOME_OK, seat.try_open(SETTINGS));
+    IS(METRONOME_OPEN, seat.try_open(SETTINGS));
+    IS(METRONOME_OPEN, seat.try_another(0, seat));
+    IS(METRONOME_NOT_YOURS, seat.try_another(THREADS + 1, other));
+    IS(METRONOME_OK, seat.try_another(1, other));
+    Seat moved = std::move(other);
+    IS(METRONOME_NO_HEAP, other.try_place(place)); // NOLINT: what was moved away is closed
+    CHECK(place == 7);
+    IS(METRONOME_BAD_HANDLE, seat.try_learn(seat));
+    IS(METRONOME_OK, seat.try_learn(moved));
+    IS(METRONOME_NO_HEAP, moved.try_place(place));
+    Seat strange;
+    IS(METRONOME_OK, strange.try_open(SETTINGS));
+    seat = std::move(strange);
+    IS(METRONOME_OK, seat.try_place(place));
+    CHECK(place == 0);
+}
+
+// A turn ends with its scope, and is one seat's at a time.
+static void check_turns() {
+    Gate gate;
+    Seat first, second;
+    IS(METRONOME_OK, first.try_open(SETTINGS));
+    IS(METRONOME_OK, first.try_another(2, second));
+    metronome_answer answer{};
+    {
+        std::optional<Turn> turn, again;
+        IS(METRONOME_OK, Turn::try_enter(gate, first, turn));
+        IS(METRONOME_INSIDE, Turn::try_enter(gate, first, again));
+        IS(METRONOME_TAKEN, metronome_seat_enter(second.handle()));
+        IS(METRONOME_OK, turn->try_call(answer, metronome_seat_new_plain, 0, 2, 0, 1));
+        CHECK(answer.kind == METRONOME_MADE && answer.number == 1 && !again);
+        IS(METRONOME_OK, turn->try_call(answer, metronome_seat_put, 0, 2, 0, 42));
+        IS(METRONOME_NOT_YOURS, turn->try_call(answer, metronome_seat_get, 2, 2, 0));
+        CHECK(answer.kind == METRONOME_DONE);
+    }
+    std::optional<Turn> turn;
+    IS(METRONOME_OK, Turn::try_enter(gate, second, turn));
+    IS(METRONOME_NULL_SLOT, turn->try_call(answer, metronome_seat_get, 2, 2, 0));
+    turn.reset();
+    IS(METRONOME_OK, Turn::try_enter(gate, first, turn));
+    metronome_shape shape{};
+    IS(METRONOME_OK, turn->try_call(answer, metronome_seat_describe, 0, 2, &shape));
+    CHECK(shape.kind == METRONOME_PLAIN && shape.words == 1);
+    metronome_spent spent{};
+    IS(METRONOME_OK, turn->try_begin());
+    IS(METRONOME_BUSY, turn->try_begin());
+    IS(METRONOME_BAD_BUDGET, turn->try_quantum(255, spent));
+    IS(METRONOME_OK, turn->try_quantum(256, spent));
+    std::uint64_t units = 0;
+    IS(METRONOME_OK, turn->try_units(units));
+    CHECK(units == spent.units);
+}
+
+// What a mutator's thread does: it adds to a word of an object, two calls in a turn.
+static void count_up(Gate &gate, Seat seat, std::uint32_t mutator, Seat &back) {
+    for (std::uint32_t n = 0; n < ROUNDS; n++) {
+        std::optional<Turn> turn;
+        metronome_answer answer{};
+        if (Turn::try_enter(gate, seat, turn) != METRONOME_OK) break;
+        if (turn->try_call(answer, metronome_seat_get, mutator, 0, 0) != METRONOME_OK) break;
+        if (turn->try_call(answer, metronome_seat_put, mutator, 0, 0, answer.number + 1) != METRONOME_OK) break;
+    }
+    back = std::move(seat);
+}
+
+// An object that all mutators share, in a static: no round of a thread is lost, since no other call comes between its two.
+static void check_threads() {
+    metronome_settings settings = SETTINGS;
+    settings.statics = 1;
+    Gate gate;
+    Seat own;
+    std::vector<Seat> seats(THREADS);
+    IS(METRONOME_OK, own.try_open(settings));
+    std::optional<Turn> turn;
+    metronome_answer answer{};
+    IS(METRONOME_OK, Turn::try_enter(gate, own, turn));
+    IS(METRONOME_OK, turn->try_call(answer, metronome_seat_new_words, 0, 0, 1));
+    IS(METRONOME_OK, turn->try_call(answer, metronome_seat_store_static, 0, 0, 0));
+    for (std::uint32_t m = 1; m < THREADS; m++) IS(METRONOME_OK, turn->try_call(answer, metronome_seat_load_static, m, 0, 0));
+    turn.reset();
+    for (std::uint32_t m = THREADS; m > 0; m--) IS(METRONOME_OK, own.try_another(m - 1, seats[m - 1]));
+    std::vector<std::thread> threads;
+    for (std::uint32_t m = 0; m < THREADS; m++)
+        threads.emplace_back(count_up, std::ref(gate), std::move(seats[m]), m, std::ref(seats[m]));
+    for (std::thread &thread : threads) thread.join();
+    IS(METRONOME_OK, Turn::try_enter(gate, seats[0], turn));
+    IS(METRONOME_OK, turn->try_call(answer, metronome_seat_get, 0, 0, 0));
+    CHECK(answer.number == std::uint64_t{THREADS} * ROUNDS);
+    turn.reset();
+    for (Seat &seat : seats) IS(METRONOME_OK, own.try_learn(seat));
+    std::uint64_t place = 0;
+    IS(METRONOME_OK, own.try_place(place));
+    CHECK(place == 2 * std::uint64_t{THREADS} * ROUNDS + THREADS + 2);
+}
+
+#ifdef __cpp_exceptions
+
+// What is refused throws, and a turn ends there too.
+static void check_throwing() {
+    Gate gate;
+    Seat seat(SETTINGS);
+    Seat other = seat.another(2);
+    std::uint32_t status = METRONOME_OK;
+    try {
+        Turn turn(gate, seat);
+        turn.call(metronome_seat_clear, 0, 0);
+        CHECK(turn.begin() && !turn.begin() && turn.quantum(256).units <= 256 && turn.phase() != METRONOME_MOVING);
+        CHECK(turn.free_pages() == 16 && turn.count().objects == 0 && turn.page(0).size == 0 && turn.units() <= 256);
+        turn.call(metronome_seat_clear, 2, 0);
+    } catch (const Refusal &refusal) {
+        status = refusal.status();
+    }
+    CHECK(status == METRONOME_NOT_YOURS && other.place() == 1);
+    CHECK(Turn(gate, other).call(metronome_seat_same, 2, 0, 1).number == 1);
+    seat.learn(other);
+    CHECK(seat.place() == 2);
+}
+
+#else
+
+static void check_throwing() {}
+
+#endif
+
+int main() {
+    check_seats();
+    check_turns();
+    check_threads();
+    check_throwing();
+    std::printf("%d passed, %d failed\n", passed, failed);
+    return failed != 0;
+}

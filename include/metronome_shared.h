@@ -1,0 +1,151 @@
+/*
+ * metronome_shared.h: a heap that threads share, for C11, C17 and C++17. Each thread has a seat at the heap. A seat takes the
+ * turn, does as many calls as it likes, and gives the turn back: no other seat's calls come between. With several calls a turn
+ * threads contend less. The calls are of the library of metronome.h, which this header includes.
+ *
+ * No call waits. Where another seat has the turn, TAKEN says so, and nothing has changed. How a thread waits is the program's: at
+ * a gate, by metronome_gate_enter and metronome_gate_leave of metronome_gate.h, which this header includes unless
+ * METRONOME_CALLS_ALONE is defined; or at a mutex of its own, held from before metronome_seat_enter until after
+ * metronome_seat_leave. A thread that forgets to wait is told TAKEN, or OUTSIDE, and the heap stays whole.
+ *
+ * MUTATORS. A seat calls for a range of mutators, which are no other seat's. The first seat of a heap has them all, and
+ * metronome_seat_another gives some of a seat's to a new one. A seat with none may still take the turn for the collector's calls.
+ * Statics are all seats'.
+ *
+ * THREADS. Threads may call on different seats at once, also of one heap; a seat takes one call at a time. The turn is a seat's
+ * and no thread's: a seat may go from thread to thread, its turn too. What a program reads and writes in its turns needs no further
+ * lock: who takes the turn finds all that was written before it was given back.
+ *
+ * NOT PROMISED is that a seat ever gets the turn, nor how soon, nor in what order seats get it. A seat whose thread ends in its
+ * turn keeps it, so that it is TAKEN for ever: unless another thread, once that one has ended, calls metronome_seat_leave or
+ * metronome_seat_destroy on it.
+ *
+ * WHAT C MUST NOT DO with a metronome_seat is what it must not do with a metronome, as metronome.h says. A seat that was never set
+ * is answered with BAD_HANDLE, unless it has by chance the one value that the library leaves in an open one.
+ *
+ * MEMORY of a heap comes from malloc by metronome_seat_create, and goes back when its last seat is destroyed. That of a seat, a
+ * few hundred bytes, comes when it is made. No other call asks for any.
+ *
+ * docs/EMBEDDING.md says what is proved of each function. Of what is `static inline` here nothing is: it is only tested. Calls on
+ * seats aren't recorded (metronome_record.h).
+ */
+#ifndef METRONOME_SHARED_H
+#define METRONOME_SHARED_H
+
+#include "metronome.h"
+
+#ifdef __cplusplus
+extern "C" {
+#endif
+
+/* A handle: it holds a seat at a heap, or none. All zeros hold none, as METRONOME_NO_SEAT. Its fields belong to the library. */
+typedef struct metronome_seat {
+    void *at;
+    uint64_t check;
+} metronome_seat;
+
+#define METRONOME_NO_SEAT { 0, 0 }
+
+/* ---- Seats. Where NO_HEAP is the status for a handle that holds no seat, here and below, BAD_HANDLE is the status for what is no
+ * handle ---- */
+
+/* Makes a heap, and its first seat where the handle holds none, for a program that was built for this version. The seat hasn't the
+ * turn. Programs call metronome_seat_create.
+ * OK, OPEN, NO_MEMORY, BAD_SCHEDULE, BAD_HANDLE, OTHER_VERSION, or BAD_SETTING and the place of a setting, as
+ * metronome_create_for; the handle stays as it was unless it is OK. */
+uint32_t metronome_seat_create_for(metronome_seat *seat, const metronome_settings *settings, uint32_t version) METRONOME_NONNULL;
+
+/* The same, for this header's version. */
+METRONOME_NONNULL static inline uint32_t metronome_seat_create(metronome_seat *seat, const metronome_settings *settings) {
+    return metronome_seat_create_for(seat, settings, METRONOME_VERSION);
+}
+
+/* Makes one more seat at the same heap, where `made` holds none. It calls for the mutators of `seat` from number `from` on, and
+ * `seat` keeps those below. Where `from` is the number after its last one, `made` gets none.
+ * OK; or, in this order: NO_HEAP or BAD_HANDLE of seat; OPEN or BAD_HANDLE of made; INSIDE; NOT_YOURS where `from` is below the
+ * seat's first mutator, or beyond the number after its last; NO_MEMORY. Both handles stay as they were then. */
+uint32_t metronome_seat_another(metronome_seat *seat, metronome_seat *made, uint32_t from) METRONOME_NONNULL;
+
+/* Takes the turn if no seat has it. It never waits. TAKEN is also told where another seat had it while the call ran.
+ * OK, TAKEN, INSIDE, NO_HEAP. */
+uint32_t metronome_seat_enter(metronome_seat *seat) METRONOME_NONNULL;
+
+/* Gives the turn back. OK, OUTSIDE, NO_HEAP. */
+uint32_t metronome_seat_leave(metronome_seat *seat) METRONOME_NONNULL;
+
+/* The length of the history, as it wraps at 2^63: how many commands all seats have done, also such as the heap refused, but not
+ * those that were refused before they came to it. It needs no turn; what a seat does counts once it gives the turn back.
+ * OK; INSIDE or NO_HEAP, and *place is left as it was. */
+uint32_t metronome_seat_place(metronome_seat *seat, uint64_t *place) METRONOME_NONNULL;
+
+/* Takes in what another seat of the same heap can tell of the history, and closes that one: nobody calls for its mutators any
+ * more. Where it had the turn, the turn is given back first. Once one seat has learnt from all others, and takes the turn, the
+ * heap's history is a merge of what was called by all of them. A seat at another heap is closed too, and nothing is learnt from it.
+ * A thread that waits at a gate isn't woken: metronome_gate_wake does it.
+ * OK; NO_HEAP or BAD_HANDLE of seat, then of other, and nothing has changed then. */
+uint32_t metronome_seat_learn(metronome_seat *seat, metronome_seat *other) METRONOME_NONNULL;
+
+/* Closes a seat; where it had the turn, the turn is given back first. With the last seat of a heap its memory goes back. Where the
+ * handle holds none nothing is done. A thread that waits at a gate isn't woken: metronome_gate_wake does it. */
+void metronome_seat_destroy(metronome_seat *seat) METRONOME_NONNULL;
+
+/* ---- Commands of mutators, in the turn. Each is what the command of the same name in metronome.h is, and has its answers. Before
+ * all reasons that are named there it is refused, in this order, as NO_HEAP or BAD_HANDLE, OUTSIDE, or NOT_YOURS ---- */
+
+metronome_answer metronome_seat_new_plain(metronome_seat *seat, uint32_t mutator, uint32_t dst, uint32_t refs,
+                                          uint32_t words) METRONOME_NONNULL;
+metronome_answer metronome_seat_new_refs(metronome_seat *seat, uint32_t mutator, uint32_t dst, uint32_t refs) METRONOME_NONNULL;
+metronome_answer metronome_seat_new_words(metronome_seat *seat, uint32_t mutator, uint32_t dst, uint32_t words) METRONOME_NONNULL;
+metronome_answer metronome_seat_load(metronome_seat *seat, uint32_t mutator, uint32_t dst, uint32_t obj,
+                                     uint32_t i) METRONOME_NONNULL;
+metronome_answer metronome_seat_store(metronome_seat *seat, uint32_t mutator, uint32_t obj, uint32_t i,
+                                      uint32_t src) METRONOME_NONNULL;
+metronome_answer metronome_seat_compare_store(metronome_seat *seat, uint32_t mutator, uint32_t obj, uint32_t i, uint32_t expect,
+                                              uint32_t replacement) METRONOME_NONNULL;
+metronome_answer metronome_seat_get(metronome_seat *seat, uint32_t mutator, uint32_t obj, uint32_t i) METRONOME_NONNULL;
+metronome_answer metronome_seat_put(metronome_seat *seat, uint32_t mutator, uint32_t obj, uint32_t i,
+                                    uint64_t word) METRONOME_NONNULL;
+metronome_answer metronome_seat_compare_put(metronome_seat *seat, uint32_t mutator, uint32_t obj, uint32_t i, uint64_t old,
+                                            uint64_t replacement) METRONOME_NONNULL;
+metronome_answer metronome_seat_copy(metronome_seat *seat, uint32_t mutator, uint32_t dst, uint32_t src) METRONOME_NONNULL;
+metronome_answer metronome_seat_clear(metronome_seat *seat, uint32_t mutator, uint32_t dst) METRONOME_NONNULL;
+metronome_answer metronome_seat_load_static(metronome_seat *seat, uint32_t mutator, uint32_t dst, uint32_t k) METRONOME_NONNULL;
+metronome_answer metronome_seat_store_static(metronome_seat *seat, uint32_t mutator, uint32_t k, uint32_t src) METRONOME_NONNULL;
+metronome_answer metronome_seat_compare_static(metronome_seat *seat, uint32_t mutator, uint32_t k, uint32_t expect,
+                                               uint32_t replacement) METRONOME_NONNULL;
+metronome_answer metronome_seat_same(metronome_seat *seat, uint32_t mutator, uint32_t a, uint32_t b) METRONOME_NONNULL;
+metronome_answer metronome_seat_describe(metronome_seat *seat, uint32_t mutator, uint32_t a,
+                                         metronome_shape *shape) METRONOME_NONNULL;
+
+/* A mutator of the seat becomes live, as by metronome_join. */
+metronome_answer metronome_seat_join(metronome_seat *seat, uint32_t mutator) METRONOME_NONNULL;
+
+/* A mutator of the seat is live no more, as by metronome_leave. */
+metronome_answer metronome_seat_retire(metronome_seat *seat, uint32_t mutator) METRONOME_NONNULL;
+
+/* ---- The collector, in the turn of any seat, as in metronome.h ---- */
+
+/* OK, BUSY, OUTSIDE, NO_HEAP. */
+uint32_t metronome_seat_begin(metronome_seat *seat) METRONOME_NONNULL;
+
+/* OK; BAD_BUDGET, OUTSIDE or NO_HEAP, and *spent is left as it was. */
+uint32_t metronome_seat_quantum(metronome_seat *seat, uint32_t budget, metronome_spent *spent) METRONOME_NONNULL;
+
+/* ---- Figures, in the turn of any seat, as in metronome.h: OK; OUTSIDE or NO_HEAP, and what the last pointer leads to is left as
+ * it was ---- */
+
+uint32_t metronome_seat_phase(metronome_seat *seat, uint32_t *phase) METRONOME_NONNULL;
+uint32_t metronome_seat_units(metronome_seat *seat, uint64_t *units) METRONOME_NONNULL;
+uint32_t metronome_seat_free_pages(metronome_seat *seat, uint64_t *free_pages) METRONOME_NONNULL;
+uint32_t metronome_seat_count(metronome_seat *seat, metronome_counts *counts) METRONOME_NONNULL;
+uint32_t metronome_seat_page(metronome_seat *seat, size_t number, metronome_page_view *page) METRONOME_NONNULL;
+
+#ifdef __cplusplus
+}
+#endif
+
+#ifndef METRONOME_CALLS_ALONE
+#include "metronome_gate.h"
+#endif
+
+#endif

@@ -1,0 +1,188 @@
+/*
+ * metronome_shared.hpp: the shared heap of metronome_shared.h for C++17: seats, which are moved and not copied, and turns, which
+ * are given back when they go out of scope. Plain C++ over these calls, of which nothing is proved.
+ *
+ * As in metronome.hpp `try_NAME` throws nothing and answers a metronome_status, and NAME answers what it finds, or throws a Refusal.
+ * Mutators and slots are named by their numbers: what a slot holds stays from turn to turn.
+ */
+#ifndef METRONOME_SHARED_HPP
+#define METRONOME_SHARED_HPP
+
+#include "metronome.hpp"
+#include "metronome_shared.h"
+
+#include <cstddef>
+#include <cstdint>
+#include <optional>
+#include <utility>
+
+namespace barleynight {
+
+// Where the threads of one heap wait for the turn. It outlives the turns.
+class Gate {
+public:
+    Gate() = default;
+    Gate(const Gate &) = delete;
+    Gate &operator=(const Gate &) = delete;
+
+    metronome_gate *handle() noexcept { return &gate; }
+
+private:
+    metronome_gate gate = METRONOME_GATE;
+};
+
+// A seat at a shared heap, or none: of a closed one each call is refused as NO_HEAP. A thread at a time uses it. The heap is there
+// until its last seat is gone.
+class Seat {
+public:
+    Seat() = default;
+    Seat(Seat &&other) noexcept : seat(std::exchange(other.seat, metronome_seat METRONOME_NO_SEAT)) {}
+    Seat &operator=(Seat &&other) noexcept {
+        std::swap(seat, other.seat);
+        return *this;
+    }
+    Seat(const Seat &) = delete;
+    Seat &operator=(const Seat &) = delete;
+    ~Seat() { metronome_seat_destroy(&seat); }
+
+    // The first seat of a new heap: it calls for all mutators.
+    std::uint32_t try_open(const metronome_settings &settings) noexcept { return metronome_seat_create(&seat, &settings); }
+
+    // One more seat, which calls for this one's mutators from a number on.
+    std::uint32_t try_another(std::uint32_t from, Seat &made) noexcept {
+        return &made == this ? std::uint32_t{METRONOME_OPEN} : metronome_seat_another(&seat, &made.seat, from);
+    }
+
+    // The length of the history.
+    std::uint32_t try_place(std::uint64_t &place) noexcept { return metronome_seat_place(&seat, &place); }
+
+    // Takes in what another seat of the heap can tell, which is closed then, and its turn is over. BAD_HANDLE of itself.
+    std::uint32_t try_learn(Seat &other) noexcept {
+        return &other == this ? std::uint32_t{METRONOME_BAD_HANDLE} : metronome_seat_learn(&seat, &other.seat);
+    }
+
+    // The handle for calls of metronome_shared.h. It is only read and written by these.
+    metronome_seat *handle() noexcept { return &seat; }
+
+#ifdef __cpp_exceptions
+    explicit Seat(const metronome_settings &settings) { detail::need(try_open(settings)); }
+
+    Seat another(std::uint32_t from) {
+        Seat made;
+        detail::need(try_another(from, made));
+        return made;
+    }
+    std::uint64_t place() {
+        std::uint64_t place = 0;
+        detail::need(try_place(place));
+        return place;
+    }
+    void learn(Seat &other) { detail::need(try_learn(other)); }
+#endif
+
+private:
+    metronome_seat seat = METRONOME_NO_SEAT;
+};
+
+// The turn of a seat, from where it is got at a gate until it goes out of scope. The seat and the gate outlive it.
+class Turn {
+public:
+    // Waits for the turn. INSIDE where the seat has it already; NO_HEAP.
+    static std::uint32_t try_enter(Gate &gate, Seat &seat, std::optional<Turn> &turn) noexcept {
+        const std::uint32_t status = metronome_gate_enter(gate.handle(), seat.handle());
+        if (status == METRONOME_OK) turn.emplace(Turn(gate.handle(), seat.handle()));
+        return status;
+    }
+
+    Turn(Turn &&other) noexcept : gate(other.gate), seat(std::exchange(other.seat, nullptr)) {}
+    Turn &operator=(Turn &&) = delete;
+    Turn(const Turn &) = delete;
+    Turn &operator=(const Turn &) = delete;
+    ~Turn() {
+        if (seat != nullptr) metronome_gate_leave(gate, seat);
+    }
+
+    // A command: one of the 18 of metronome_shared.h, with what it takes behind the seat. What is found goes to `answer`.
+    template <typename... Taken, typename... Given>
+    std::uint32_t try_call(metronome_answer &answer, metronome_answer (*command)(metronome_seat *, Taken...),
+                           Given... given) noexcept {
+        const metronome_answer found = command(seat, static_cast<Taken>(given)...);
+        if (found.kind != METRONOME_REFUSED) answer = found;
+        return detail::status_of(found);
+    }
+
+    // BUSY where a cycle is running already.
+    std::uint32_t try_begin() noexcept { return metronome_seat_begin(seat); }
+    std::uint32_t try_quantum(std::uint32_t budget, metronome_spent &spent) noexcept {
+        return metronome_seat_quantum(seat, budget, &spent);
+    }
+
+    std::uint32_t try_phase(std::uint32_t &phase) noexcept { return metronome_seat_phase(seat, &phase); }
+    std::uint32_t try_units(std::uint64_t &units) noexcept { return metronome_seat_units(seat, &units); }
+    std::uint32_t try_free_pages(std::uint64_t &pages) noexcept { return metronome_seat_free_pages(seat, &pages); }
+    std::uint32_t try_count(metronome_counts &counts) noexcept { return metronome_seat_count(seat, &counts); }
+    std::uint32_t try_page(std::size_t number, metronome_page_view &page) noexcept {
+        return metronome_seat_page(seat, number, &page);
+    }
+
+#ifdef __cpp_exceptions
+    Turn(Gate &its_gate, Seat &its_seat) : gate(its_gate.handle()), seat(its_seat.handle()) {
+        detail::need(metronome_gate_enter(gate, seat));
+    }
+
+    template <typename... Taken, typename... Given>
+    metronome_answer call(metronome_answer (*command)(metronome_seat *, Taken...), Given... given) {
+        metronome_answer answer{};
+        detail::need(try_call(answer, command, given...));
+        return answer;
+    }
+
+    // Whether a cycle began: none was running.
+    bool begin() {
+        const std::uint32_t status = try_begin();
+        if (status != METRONOME_BUSY) detail::need(status);
+        return status == METRONOME_OK;
+    }
+    metronome_spent quantum(std::uint32_t budget) {
+        metronome_spent spent{};
+        detail::need(try_quantum(budget, spent));
+        return spent;
+    }
+
+    std::uint32_t phase() {
+        std::uint32_t phase = METRONOME_IDLE;
+        detail::need(try_phase(phase));
+        return phase;
+    }
+    std::uint64_t units() {
+        std::uint64_t units = 0;
+        detail::need(try_units(units));
+        return units;
+    }
+    std::uint64_t free_pages() {
+        std::uint64_t pages = 0;
+        detail::need(try_free_pages(pages));
+        return pages;
+    }
+    metronome_counts count() {
+        metronome_counts counts{};
+        detail::need(try_count(counts));
+        return counts;
+    }
+    metronome_page_view page(std::size_t number) {
+        metronome_page_view page{};
+        detail::need(try_page(number, page));
+        return page;
+    }
+#endif
+
+private:
+    Turn(metronome_gate *its_gate, metronome_seat *its_seat) noexcept : gate(its_gate), seat(its_seat) {}
+
+    metronome_gate *gate;
+    metronome_seat *seat;
+};
+
+} // namespace barleynight
+
+#endif

@@ -9,6 +9,7 @@ use Rattle.atomic_table.specs.Seated.{TableId}
 use Rattle.settings.specs.declared.config.Config.{Config}
 use Rattle.heap_model.specs.Event.{Course, Event, Command_done, Does}
 use Rattle.heap_model.specs.Settings.{HeapSettings, settings_of, settings_by}
+use Rattle.heap_model.specs.State.{HeapState}
 use Rattle.machine.specs.Headline.{AlwaysHolds}
 use Rattle.machine.specs.Space.{FindsSpace, FoundSpace}
 use Rattle.heap_shared.specs.declared.rule.Account.{Account}
@@ -100,6 +101,11 @@ DoesIn {A} (Some r) event old answer new = (a : A) × (k : Course) × (answer �
 -- an event that is done where the member has the turn: without it nothing is done
 abbrev pub DoesInTurn : {A : Type 0} → (A → Event) → MemberView → Option A → MemberView → Type 0
 DoesInTurn event old answer new = DoesIn old.turn event old answer new
+
+-- What is found of the heap while the member has the turn; without it nothing is. Nothing changes.
+abbrev pub Finds : {A : Type 0} → (HeapState → A → Type 0) → MemberView → Option A → MemberView → Type 0
+Finds look old None new = (old.turn ≡ None) × (new ≡ old)
+Finds look old (Some a) new = (r : Course) × (old.turn ≡ Some r) × look r.heap a × (new ≡ old)
 
 -- A command of one of the member's mutators is one event of the heap with its history. Without the turn, or for another
 -- mutator, nothing is done.

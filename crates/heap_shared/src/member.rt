@@ -1,17 +1,18 @@
 //! Members of a shared heap.
-ghost use Rattle.std.specs.Prelude.{◌≡◌, ◌∷◌, ◌++◌, [], IfOk, IfSome, None};
+ghost use Rattle.std.specs.Prelude.{◌≡◌, ◌∷◌, ◌++◌, [], IfOk, IfSome, MatchResult, Ok, Err, None};
+ghost use Rattle.std.specs.Fn.{FnOnceReturnsAt};
 ghost use Rattle.heap_model.specs.Settings.{settings_by};
 ghost use Rattle.machine.specs.Headline.{AlwaysHolds};
 ghost use Rattle.machine.specs.Space.{FindsSpace, FoundSpace};
 ghost use Rattle.machine.specs.Recorded.{begin_done, quantum_done};
-ghost use Rattle.heap_shared.specs.Members.{Enters, Leaves, Places, Calls, DoesInTurn, Adds, Learns, IsPromised};
+ghost use Rattle.heap_shared.specs.Members.{Enters, Leaves, Places, Calls, DoesInTurn, Finds, Adds, Learns, IsPromised};
 ghost use mathlib.Core.List.{IsPrefix};
 
 use crate::rule::{Cut, Enter, Halve, Known, Learn, Leave, Look, TURN_WORD, TurnRule, WORDS};
 use crate::shared_heap::SharedHeap;
 use atomic_table::{Refused, Seat, Table};
 use graph_heap::{Command, NoMemory, Reply};
-use machine::{BudgetOutOfRange, Busy, Spent};
+use machine::{BudgetOutOfRange, Busy, Heap, Spent};
 use settings::Config;
 use std::alloc::Global;
 use std::marker::Model;
@@ -142,6 +143,26 @@ impl Member {
         })
     }
 
+    /// The same, in a box. Where there is no memory for that, nothing changes either.
+    pub fn another_in(&mut self, alloc: Global, from: u32) -> Result<Box<Member>, NoMember>
+        ensures { MatchResult result (λ b. Adds self.old from (Ok b.value) self.new)
+            (λ why. Adds self.old from (Err why) self.new) }
+    {
+        if self.inside {
+            return Err(NoMember::Inside);
+        }
+        if from < self.from || self.to < from {
+            return Err(NoMember::NotYours);
+        }
+        // One without mutators comes first, so that none are given away where there is no box for them.
+        let to = self.to;
+        let Ok(mut boxed) = Box::new(alloc, self.another(to)?) else {
+            return Err(NoMember::NoMemory);
+        };
+        *boxed = self.another(from)?;
+        Ok(boxed)
+    }
+
     /// Takes the turn, if nobody has it. It waits for nobody.
     #[inline(always)]
     pub fn enter(&mut self) -> Result<(), NoTurn>
@@ -231,6 +252,17 @@ impl Member {
             return None;
         }
         Some(self.seat.slot_mut(&self.table.shared, 0).quantum(budget))
+    }
+
+    /// What is found of the heap, where the member has the turn.
+    pub fn inspect<T, F: FnOnce(&Heap) -> T + Drop>(&mut self, look: F) -> Option<T>
+        requires { F.IsAlwaysCallable look }
+        ensures { Finds (FnOnceReturnsAt F.FnOnce look) self.old result self.new }
+    {
+        if !self.inside {
+            return None;
+        }
+        Some(self.seat.slot_mut(&self.table.shared, 0).inspect(look))
     }
 
     /// Learns what another member of the same heap can tell of the history, once that has given the turn back. Nobody calls

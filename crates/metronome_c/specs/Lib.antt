@@ -8,6 +8,7 @@ pub mod Kept
 pub mod Lending
 pub mod Lifetime
 pub mod Limit
+pub mod Seats
 pub mod Status
 pub mod Steps
 pub mod Text

@@ -12,6 +12,7 @@ mod limit;
 mod metronome;
 mod page;
 mod phase;
+mod seats;
 mod status;
 mod text;
 mod touching;

@@ -30,7 +30,7 @@ pub record DoesWith (h : HeapState) (m : ℕ) (cs : List Command) (rs : List Rep
   pub order : InOrder m h cs rs p.refused after
   pub done : p.done ≡ length rs
 
--- the same, whatever was replied
+-- a list of commands was done in order, as far as the progress tells, whatever was replied
 abbrev pub DoesFront : HeapState → ℕ → List Command → Progress → HeapState → Type 0
 DoesFront h m cs p after = (rs : List Reply) × DoesWith h m cs rs p after
 

@@ -7,11 +7,11 @@ use crate::progress::{Progress, refusal_in};
 use graph_heap::PLAIN_CELLS;
 use machine::Heap;
 
-/// What `count` reference cells of the object in slot from hold, at most 252, from from_first on, into as many of the object
-/// in slot to, from to_first on: two commands for each, a load into slot through and a store from there. So slot through
-/// holds what was loaded last. The cells are copied in rising order: where both objects are one and to_first lies among
-/// what is copied, what was written before is copied on. The first cell that an object doesn't have is refused as BadIndex;
-/// a number above 32 bits counts as the greatest that these hold, which no cell has.
+/// What `count` reference cells of the object in slot from hold, at most 252, from cell `from_first` on, into as many of the
+/// object in slot to, from cell `to_first` on: two commands for each, a load into slot through and a store from there. So slot
+/// through holds what was loaded last. The cells are copied in rising order: where both objects are one and `to_first` lies
+/// among what is copied, what was written before is copied on. The first cell that an object doesn't have is refused as
+/// BadIndex; a number above 32 bits counts as the greatest that these hold, which no cell has.
 pub fn copy_refs(
     heap: &mut Heap,
     mutator: u32,

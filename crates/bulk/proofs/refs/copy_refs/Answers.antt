@@ -1,12 +1,11 @@
-use Rattle.std.proofs.Common.{◌≡◌, ◌∙◌, ℕ, ◌+◌, ◌*◌, List, [], ◌∷◌, ◌++◌, sym, ap, subst, arith}
+use Rattle.std.proofs.Common.{◌≡◌, ◌∙◌, ℕ, ◌*◌, sym, ap, subst, arith}
 use Rattle.std.specs.Prelude.{None}
-use Rattle.std.specs.List.{flat_map}
 use Rattle.graph_heap.specs.declared.command.Command.TheVariants as commands
 use Rattle.bulk.specs.InOrder.{DoesFront}
-use Rattle.bulk.specs.Lists.{upto, copies}
+use Rattle.bulk.specs.Lists.{copies}
 use Rattle.bulk.proofs.InOrder.{none_done}
 use Rattle.bulk.proofs.Lists.{load_at, store_from}
-use Rattle.bulk.proofs.Rows.{pair, first_goes_on, first_ends, second_goes_on, second_ends}
+use Rattle.bulk.proofs.Rows.{first_goes_on, first_ends, second_goes_on, second_ends}
 use Rattle.bulk.proofs.refs.copy_refs.Goals as goal
 
 pub loop-i-init : goal.loop-i-init

@@ -1,5 +1,5 @@
-use Rattle.std.proofs.Common.{◌≡◌, ◌∙◌, ◌⊎◌, inl, inr, ℕ, ◌+◌, ◌<◌, List, ◌∷◌, ◌++◌, length, take, drop, sym, ap, refl, subst, arith, length-set}
-use Rattle.std.specs.Prelude.{None, slice_set}
+use Rattle.std.proofs.Common.{◌≡◌, ◌∙◌, ℕ, ◌+◌, ◌<◌, List, length, take, drop, sym, ap, refl, subst, arith}
+use Rattle.std.specs.Prelude.{None}
 use Rattle.std.proofs.lemmas.List.{drop-drop, drop-set-lt}
 use Rattle.graph_heap.specs.declared.command.Command.TheVariants as commands
 use Rattle.graph_heap.specs.declared.command.Reply.{Reply}

@@ -1,4 +1,4 @@
-use Rattle.std.specs.Prelude.{◌≡◌, None, length, map, take, drop, slice_index}
+use Rattle.std.specs.Prelude.{◌≡◌, None, take, drop}
 use Rattle.bulk.specs.InOrder.{DoesWith, words_told}
 use Rattle.bulk.specs.Lists.{gets}
 use Rattle.bulk.proofs.Reading.{HasGraph}

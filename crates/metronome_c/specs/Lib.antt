@@ -1,5 +1,6 @@
 pub mod Answer
 pub mod Asking
+pub mod BulkCalls
 pub mod Calls
 pub mod Collecting
 pub mod Figures

@@ -2,6 +2,7 @@
 #![tactic(auto)]
 
 mod answer;
+mod bulk_calls;
 mod collector;
 mod commands;
 mod figures;

@@ -131,10 +131,12 @@ Adds old from (Err members.NoMemory) new = new ≡ old
 Adds old from (Ok made) new = (old.turn ≡ None) × (old.from ≤ from) × (from ≤ old.to)
     × (new ≡ record old { to = from }) × (made ≡ record old { from = from; learnt = [] })
 
--- A member learns another's account, and all that it had learnt, once that has given the turn back.
+-- Another member gives its turn back. Where both are of one heap, the one learns the other's account, and all that it had
+-- learnt; else nothing.
 abbrev pub Learns : MemberView → MemberView → MemberView → Type 0
 Learns old other new = (had : Bool) × (left : MemberView) × Leaves other had left
-    × (new ≡ record old { learnt = old.learnt ++ own_account left ∷ left.learnt })
+    × (other.heap ≡ old.heap → new ≡ record old { learnt = old.learnt ++ own_account left ∷ left.learnt })
+    × (other.heap ≢ old.heap → new ≡ old)
 
 -- all that is promised of a heap with its history holds: now, whatever events are done next, and of the events that led here
 pub record IsPromised (r : Course) : Type 0 where

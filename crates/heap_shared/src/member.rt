@@ -8,7 +8,10 @@ ghost use Rattle.machine.specs.Recorded.{begin_done, quantum_done};
 ghost use Rattle.heap_shared.specs.Members.{Enters, Leaves, Places, Calls, DoesInTurn, Finds, Adds, Learns, IsPromised};
 ghost use mathlib.Core.List.{IsPrefix};
 
-use crate::rule::{Cut, Enter, Halve, Known, Learn, Leave, Look, TURN_WORD, TurnRule, WORDS};
+use crate::fitting::fitting_first;
+use crate::rule::{
+    Cut, Enter, Halve, Known, Learn, Leave, Look, Spare, TURN_WORD, TurnRule, WORDS,
+};
 use crate::shared_heap::SharedHeap;
 use atomic_table::{Refused, Seat, Table};
 use graph_heap::{Command, NoMemory, Reply};
@@ -151,7 +154,7 @@ impl Member {
         if self.inside {
             return Err(NoMember::Inside);
         }
-        if from < self.from || self.to < from {
+        if from > self.to || from < self.from {
             return Err(NoMember::NotYours);
         }
         // One without mutators comes first, so that none are given away where there is no box for them.
@@ -265,15 +268,18 @@ impl Member {
         Some(self.seat.slot_mut(&self.table.shared, 0).inspect(look))
     }
 
-    /// Learns what another member of the same heap can tell of the history, once that has given the turn back. Nobody calls
-    /// for that one's mutators any more.
+    /// Learns what another member can tell of the history, once that has given the turn back, where both are of one heap; of
+    /// another heap it learns nothing. Nobody calls for the other one's mutators any more.
     pub fn learn(&mut self, mut other: Member)
-        requires { other.heap ≡ self.old.heap }
         ensures { Learns self.old other self.new }
     {
         other.leave();
         let Member { seat, .. } = other;
-        self.table.shared.join_seat::<Learn>(&mut self.seat, seat);
+        let spare = self.table.shared.split_seat::<Spare>(&mut self.seat);
+        let (fitting, _) = fitting_first(seat, spare);
+        self.table
+            .shared
+            .join_seat::<Learn>(&mut self.seat, fitting);
     }
 
     /// What is promised of the heap and its history, where the member has the turn. It does nothing.

@@ -10,7 +10,7 @@ use Rattle.heap_model.specs.State.{HeapState}
 use Rattle.machine.specs.declared.collector.Busy.{Busy as CycleOn}
 use Rattle.machine.specs.declared.collector.BudgetOutOfRange.{BudgetOutOfRange as Refused}
 use Rattle.machine.specs.declared.collector.Spent.{Spent}
-use Rattle.heap_shared.specs.Members.{MemberView, Leaves, Calls, Finds, Adds}
+use Rattle.heap_shared.specs.Members.{MemberView, Leaves, Calls, Finds, Adds, Learns}
 use Rattle.metronome_c.specs.declared.answer.Answer.{Answer}
 use Rattle.metronome_c.specs.declared.answer.MetronomeShape.{MetronomeShape}
 use Rattle.metronome_c.specs.declared.collector.QuantumSpent.{QuantumSpent}
@@ -33,7 +33,7 @@ abbrev pub status_of : {A : Type 0} → Result A Status → Status
 status_of (Ok done) = Done
 status_of (Err why) = why
 
--- the same, where C is told the status
+-- a call of the seat that a handle holds, where C is told the status of its answer
 abbrev pub TellsStatus : {A B : Type 0} → (MemberView → A → MemberView → Type 0) → (A → Result B Status)
     → Result MemberView Status → Result MemberView Status → ℕ → Type 0
 TellsStatus call told old new status = AsksSeat call told old new (λ found. status ≡ status_number (status_of found))
@@ -77,11 +77,11 @@ abbrev pub DoesSeat : Result MemberView Status → ℕ → Command → Result Me
     → (Result Reply Status → Type 0) → Type 0
 DoesSeat old m c new Says = AsksSeat (λ s reply k. Calls s m c reply k) (told_by not_done_status) old new Says
 
--- the same, where C is told the reply
+-- a command by a seat, where C is told the reply, or why there is none
 abbrev pub AnswersSeat : Result MemberView Status → ℕ → Command → Result MemberView Status → Answer → Type 0
 AnswersSeat old m c new answer = DoesSeat old m c new (λ outcome. answer ≡ answered outcome)
 
--- the same, where C is told the shape that the reply tells, too
+-- a command by a seat, where C is told the reply, or why there is none, and the shape that it tells
 abbrev pub ShapesSeat : Result MemberView Status → ℕ → Command → Result MemberView Status → MetronomeShape
     → Answer × MetronomeShape → Type 0
 ShapesSeat old m c new before told =
@@ -117,6 +117,15 @@ AddsSeat old (Ok held) from new after status =
     (new ≡ old) × (after ≡ Ok held) × (status ≡ status_number (none_or Open old))
 AddsSeat old (Err why) from new after status =
     (new ≡ old) × (after ≡ Err why) × (status ≡ status_number (none_or why old))
+
+-- A seat learns what the seat of another handle can tell, once that has given its turn back, and that handle is closed.
+-- Where one of the two holds no seat, both stay as they are.
+abbrev pub LearnsSeat : Result MemberView Status → Result MemberView Status → Result MemberView Status
+    → Result MemberView Status → ℕ → Type 0
+LearnsSeat (Ok s) (Ok other) new after status =
+    (k : MemberView) × Learns s other k × (new ≡ Ok k) × (after ≡ Err Closed) × (status ≡ status_number Done)
+LearnsSeat (Ok s) (Err why) new after status = (new ≡ Ok s) × (after ≡ Err why) × (status ≡ status_number why)
+LearnsSeat (Err why) was new after status = (new ≡ Err why) × (after ≡ was) × (status ≡ status_number why)
 
 -- A seat gives its turn back, where it has it, and then its handle is closed. Another handle stays as it is.
 abbrev pub DestroysSeat : Result MemberView Status → Result MemberView Status → Type 0

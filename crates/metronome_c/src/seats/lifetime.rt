@@ -3,7 +3,7 @@ ghost use Rattle.std.specs.Prelude.{◌≡◌, ◌≢◌, IfOk, None};
 ghost use Rattle.metronome_c.specs.declared.status.Status.TheVariants.{OtherVersion};
 ghost use Rattle.metronome_c.specs.Lifetime.{Creates, Destroys};
 ghost use Rattle.metronome_c.specs.Opened.{seat_in};
-ghost use Rattle.metronome_c.specs.Seats.{IsNewSeat, AddsSeat, DestroysSeat};
+ghost use Rattle.metronome_c.specs.Seats.{IsNewSeat, AddsSeat, LearnsSeat, DestroysSeat};
 ghost use Rattle.metronome_c.specs.Status.{status_number};
 
 use crate::seats::seat::MetronomeSeat;
@@ -81,6 +81,22 @@ pub extern "C" fn metronome_seat_another(
         }
         Err(why) => Status::of_no_member(why).number(),
     }
+}
+
+/// A seat takes in what another one at the same heap can tell of the history. That one gives its turn back, if it has it,
+/// and its handle is closed.
+#[unsafe(no_mangle)]
+pub extern "C" fn metronome_seat_learn(seat: &mut MetronomeSeat, other: &mut MetronomeSeat) -> u32
+    ensures { LearnsSeat (seat_in seat.old) (seat_in other.old) (seat_in seat.new) (seat_in other.new) result }
+{
+    if !seat.is_open() {
+        return seat.why_empty().number();
+    }
+    if !other.is_open() {
+        return other.why_empty().number();
+    }
+    seat.handle.lend().learn(Box::into_inner(other.take()));
+    Status::Done.number()
 }
 
 /// Gives a seat back, and the turn before, if it has it. The heap's memory is given back with its last seat. Where the

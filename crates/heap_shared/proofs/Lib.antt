@@ -9,3 +9,4 @@ pub mod Members
 pub mod Merging
 pub mod Histories
 pub mod Sending
+pub mod Tables

@@ -1,6 +1,8 @@
--- A member's mutators are cut in two, and a member learns another's account: both keep the rule of the word.
+-- A member's mutators are cut in two, a seat is made that can't say anything, and a member learns what another can tell: each keeps
+-- the rule of the word.
 use Rattle.std.proofs.Common.{◌≡◌, ◌≢◌, ℕ, zero, suc, ◌<◌, ◌≤◌, Bool, true, false, true≢false, List, [], ◌∷◌, ◌++◌, length, set, refl, sym, ap, ◌∙◌, arith, Some, None}
 use Rattle.std.specs.List.{All}
+use Rattle.std.specs.Prelude.{Option as Maybe}
 use Rattle.std.proofs.lemmas.List.Elements.{All-append, All-cons, All-nil}
 use mathlib.Core.Option.{Option, none, some, some-ne-none}
 use lib.ListN.{get_elem?}
@@ -11,7 +13,7 @@ use Rattle.heap_model.specs.Event.{Course}
 use Rattle.heap_shared.specs.declared.rule.Account.{Account}
 use Rattle.heap_shared.specs.declared.rule.Known.{Known}
 use Rattle.heap_shared.specs.Accounts.{IsWithin, BearsOut, account_of}
-use Rattle.heap_shared.specs.Turns.{Turn, free, taken, before_cut, behind_cut, learning, nobody, IsTurn, Knows, Keeps}
+use Rattle.heap_shared.specs.Turns.{Turn, free, taken, before_cut, behind_cut, told_by, learning, nobody, IsTurn, Knows, Keeps}
 use Rattle.heap_shared.proofs.Accounts.{bears_fewer}
 use Rattle.heap_shared.proofs.Owners.{given, given_within, given_else, given_other, apart_some}
 use Rattle.heap_shared.proofs.Views.{others_and_new, others_two}
@@ -94,6 +96,38 @@ splits c id v out low high s k at =
       below = k.below;
     }
 
+-- nobody says nothing
+nobody_knows : (c : Config) (log : List Entry) (owner : ℕ → Option ℕ) (k : ℕ) → Knows c log owner k nobody
+nobody_knows c log owner k = record {
+  config = λ d is. let z : None ≡ Some d = is in cc;
+  range = omega arith;
+  own = ((log, refl), λ m r. absurd (omega (arith, r.1)));
+  owns = λ m r. absurd (omega (arith, r.1));
+  learnt = All-nil (BearsOut log);
+  gone = All-nil (λ (a : Account). (m : ℕ) → IsWithin a.from a.to m → owner m ≡ none);
+}
+
+turn_spared : (c : Config) (s : S) (log : List Entry) (id : ℕ) (v : Known) → get_elem? s.views id ≡ some v → (t : Turn) → IsTurn c s log t
+    → IsTurn c (record { words = s.words; homes = s.homes; views = set s.views id v ++ nobody ∷ [] }) log t
+turn_spared c s log id v at (free r) is = (is.0, is.1, is.2, is.3, others_and_new (λ k u. u.inside ≡ false) s.views id v nobody (is.4 id v at) refl (λ k u apart below e. is.4 k u e))
+turn_spared c s log id v at (taken by) is = (
+  is.0,
+  is.1,
+  others_and_new (λ k u. u.inside ≡ true → (k ≡ by) × (u.seen ≡ log)) s.views id v nobody (is.2 id v at) (λ so. absurd (both_ways false refl so)) (λ k u apart below e. is.2 k u e),
+)
+
+-- a seat is made that can't say anything
+pub spares : (c : Config) (id : ℕ) (v : Known) → Splits (Keeps c) id v v nobody
+spares c id v s k at = record {
+  log = k.log;
+  turn = k.turn;
+  owner = k.owner;
+  has_word = k.has_word;
+  stands = turn_spared c s k.log id v at k.turn k.stands;
+  known = others_and_new (Knows c k.log k.owner) s.views id v nobody (k.known id v at) (nobody_knows c k.log k.owner (length s.views)) (λ j u apart below e. k.known j u e);
+  below = k.below;
+}
+
 module _ (c : Config) (log : List Entry) (owner : ℕ → Option ℕ) (id other : ℕ) (v w : Known) (apart : id ≢ other) (knows : Knows c log owner id v) (theirs : Knows c log owner other w) where
   abbrev freed : ℕ → Option ℕ
   freed = given w.from w.to none owner
@@ -107,25 +141,22 @@ module _ (c : Config) (log : List Entry) (owner : ℕ → Option ℕ) (id other 
   abbrev Gone : Account → Type 0
   Gone a = (m : ℕ) → IsWithin a.from a.to m → freed m ≡ none
 
+  told_so : (x : Maybe Config) → All (BearsOut log) (told_by x w)
+  told_so None = All-nil (BearsOut log)
+  told_so (Some d) = All-cons (BearsOut log) (account_of w) w.learnt theirs.own theirs.learnt
+
+  told_gone : (x : Maybe Config) → All Gone (told_by x w)
+  told_gone None = All-nil Gone
+  told_gone (Some d) = All-cons Gone (account_of w) w.learnt (λ m r. given_within w.from w.to none owner m r) (still_gone w.learnt theirs.gone)
+
   pub both_know : Knows c log freed id (learning v w)
   both_know = record {
     config = knows.config;
     range = knows.range;
     own = knows.own;
     owns = λ m r. keeps_owner m (some id) (knows.owns m r) (apart_some id other apart);
-    learnt = All-append (BearsOut log) v.learnt (account_of w ∷ w.learnt) knows.learnt (All-cons (BearsOut log) (account_of w) w.learnt theirs.own theirs.learnt);
-    gone = All-append Gone v.learnt (account_of w ∷ w.learnt) (still_gone v.learnt knows.gone)
-        (All-cons Gone (account_of w) w.learnt (λ m r. given_within w.from w.to none owner m r) (still_gone w.learnt theirs.gone));
-  }
-
-  pub nobody_knows : Knows c log freed other nobody
-  nobody_knows = record {
-    config = λ d is. let z : None ≡ Some d = is in cc;
-    range = omega arith;
-    own = ((log, refl), λ m r. absurd (omega (arith, r.1)));
-    owns = λ m r. absurd (omega (arith, r.1));
-    learnt = All-nil (BearsOut log);
-    gone = All-nil Gone;
+    learnt = All-append (BearsOut log) v.learnt (told_by w.config w) knows.learnt (told_so w.config);
+    gone = All-append Gone v.learnt (told_by w.config w) (still_gone v.learnt knows.gone) (told_gone w.config);
   }
 
   pub rest_still : (k : ℕ) (u : Known) → k ≢ other → Knows c log owner k u → Knows c log freed k u
@@ -155,7 +186,7 @@ there_else (x ∷ xs) zero (suc other) u w n e = e
 there_else (x ∷ xs) (suc id) zero u w n e = e
 there_else (x ∷ xs) (suc id) (suc other) u w n e = there_else xs id other u w (λ h. n (ap suc h)) e
 
--- a member learns another's account
+-- a member learns what another can tell
 pub learns : (c : Config) (id : ℕ) (v : Known) (other : ℕ) (w : Known) → Joins (Keeps c) id v other w (learning v w) nobody
 learns c id v other w s k at off there =
     let apart : id ≢ other = λ e. off (sym e) in
@@ -169,7 +200,7 @@ learns c id v other w s k at off there =
       stands = turn_learnt c s k.log id other v w apart at k.turn k.stands;
       known = others_two (Knows c k.log (given w.from w.to none k.owner)) s.views id other (learning v w) nobody
           (both_know c k.log k.owner id other v w apart knows theirs)
-          (nobody_knows c k.log k.owner id other v w apart knows theirs)
+          (nobody_knows c k.log (given w.from w.to none k.owner) other)
           (λ j u off_id off_other e. rest_still c k.log k.owner id other v w apart knows theirs j u off_other (k.known j u e))
           apart;
       below = k.below;

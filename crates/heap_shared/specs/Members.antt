@@ -9,6 +9,7 @@ use Rattle.atomic_table.specs.Seated.{TableId}
 use Rattle.settings.specs.declared.config.Config.{Config}
 use Rattle.heap_model.specs.Event.{Course, Event, Command_done, Does}
 use Rattle.heap_model.specs.Settings.{HeapSettings, settings_of, settings_by}
+use Rattle.heap_model.specs.State.{HeapState}
 use Rattle.machine.specs.Headline.{AlwaysHolds}
 use Rattle.machine.specs.Space.{FindsSpace, FoundSpace}
 use Rattle.heap_shared.specs.declared.rule.Account.{Account}
@@ -101,6 +102,11 @@ DoesIn {A} (Some r) event old answer new = (a : A) × (k : Course) × (answer �
 abbrev pub DoesInTurn : {A : Type 0} → (A → Event) → MemberView → Option A → MemberView → Type 0
 DoesInTurn event old answer new = DoesIn old.turn event old answer new
 
+-- What is found of the heap while the member has the turn; without it nothing is. Nothing changes.
+abbrev pub Finds : {A : Type 0} → (HeapState → A → Type 0) → MemberView → Option A → MemberView → Type 0
+Finds look old None new = (old.turn ≡ None) × (new ≡ old)
+Finds look old (Some a) new = (r : Course) × (old.turn ≡ Some r) × look r.heap a × (new ≡ old)
+
 -- A command of one of the member's mutators is one event of the heap with its history. Without the turn, or for another
 -- mutator, nothing is done.
 abbrev pub Calls : MemberView → ℕ → Command → Result Reply NotDone → MemberView → Type 0
@@ -125,10 +131,12 @@ Adds old from (Err members.NoMemory) new = new ≡ old
 Adds old from (Ok made) new = (old.turn ≡ None) × (old.from ≤ from) × (from ≤ old.to)
     × (new ≡ record old { to = from }) × (made ≡ record old { from = from; learnt = [] })
 
--- A member learns another's account, and all that it had learnt, once that has given the turn back.
+-- Another member gives its turn back. Where both are of one heap, the one learns the other's account, and all that it had
+-- learnt; else nothing.
 abbrev pub Learns : MemberView → MemberView → MemberView → Type 0
 Learns old other new = (had : Bool) × (left : MemberView) × Leaves other had left
-    × (new ≡ record old { learnt = old.learnt ++ own_account left ∷ left.learnt })
+    × (other.heap ≡ old.heap → new ≡ record old { learnt = old.learnt ++ own_account left ∷ left.learnt })
+    × (other.heap ≢ old.heap → new ≡ old)
 
 -- all that is promised of a heap with its history holds: now, whatever events are done next, and of the events that led here
 pub record IsPromised (r : Course) : Type 0 where

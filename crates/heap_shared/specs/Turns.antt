@@ -1,5 +1,5 @@
 -- Members of a heap, who take turns.
-use Rattle.std.specs.Prelude.{ℕ, ◌≡◌, ◌≢◌, ◌+◌, ◌*◌, ◌/◌, ◌%◌, ◌<◌, ◌≤◌, true, false, List, [], ◌∷◌, ◌++◌, length, slice_index, Some, None}
+use Rattle.std.specs.Prelude.{ℕ, ◌≡◌, ◌≢◌, ◌+◌, ◌*◌, ◌/◌, ◌%◌, ◌<◌, ◌≤◌, true, false, List, [], ◌∷◌, ◌++◌, length, slice_index, Option, Some, None}
 use Rattle.std.specs.List.{All}
 use mathlib.Core.Option as home
 use lib.ListN.{get_elem?}
@@ -8,6 +8,7 @@ use Rattle.graph_heap.specs.declared.command.Entry.{Entry}
 use Rattle.settings.specs.declared.config.Config.{Config}
 use Rattle.heap_model.specs.Event.{Course}
 use Rattle.heap_model.specs.Settings.{settings_of, settings_by}
+use Rattle.heap_shared.specs.declared.rule.Account.{Account}
 use Rattle.heap_shared.specs.declared.rule.Known.{Known}
 use Rattle.heap_shared.specs.declared.rule.TheConstants.{TURN_WORD}
 use Rattle.heap_shared.specs.Accounts.{IsWithin, BearsOut, AreBelow, account_of}
@@ -32,11 +33,16 @@ before_cut v = record v { to = v.cut }
 abbrev pub behind_cut : Known → Known
 behind_cut v = record v { from = v.cut; learnt = []; inside = false }
 
--- who has learnt another's account, with all that it had learnt
-abbrev pub learning : Known → Known → Known
-learning v w = record v { learnt = v.learnt ++ account_of w ∷ w.learnt }
+-- what a member of a heap of a configuration can tell: its account, and all that it has learnt; who is none tells nothing
+abbrev pub told_by : Option Config → Known → List Account
+told_by None w = []
+told_by (Some c) w = account_of w ∷ w.learnt
 
--- who has told another its account: it calls for nobody, and can't say anything more
+-- who has learnt what another can tell
+abbrev pub learning : Known → Known → Known
+learning v w = record v { learnt = v.learnt ++ told_by w.config w }
+
+-- who is no member, or no more: it calls for nobody, and can't say anything
 abbrev pub nobody : Known
 nobody = record { config = None; from = 0; to = 0; cut = 0; seen = []; learnt = []; inside = false }
 

@@ -3,6 +3,7 @@
 #![tactic(auto)]
 
 mod crossing;
+mod fitting;
 mod ghost_history;
 mod laws;
 mod member;

@@ -1,17 +1,21 @@
 //! Members of a shared heap.
-ghost use Rattle.std.specs.Prelude.{◌≡◌, ◌∷◌, ◌++◌, [], IfOk, IfSome, None};
+ghost use Rattle.std.specs.Prelude.{◌≡◌, ◌∷◌, ◌++◌, [], IfOk, IfSome, MatchResult, Ok, Err, None};
+ghost use Rattle.std.specs.Fn.{FnOnceReturnsAt};
 ghost use Rattle.heap_model.specs.Settings.{settings_by};
 ghost use Rattle.machine.specs.Headline.{AlwaysHolds};
 ghost use Rattle.machine.specs.Space.{FindsSpace, FoundSpace};
 ghost use Rattle.machine.specs.Recorded.{begin_done, quantum_done};
-ghost use Rattle.heap_shared.specs.Members.{Enters, Leaves, Places, Calls, DoesInTurn, Adds, Learns, IsPromised};
+ghost use Rattle.heap_shared.specs.Members.{Enters, Leaves, Places, Calls, DoesInTurn, Finds, Adds, Learns, IsPromised};
 ghost use mathlib.Core.List.{IsPrefix};
 
-use crate::rule::{Cut, Enter, Halve, Known, Learn, Leave, Look, TURN_WORD, TurnRule, WORDS};
+use crate::fitting::fitting_first;
+use crate::rule::{
+    Cut, Enter, Halve, Known, Learn, Leave, Look, Spare, TURN_WORD, TurnRule, WORDS,
+};
 use crate::shared_heap::SharedHeap;
 use atomic_table::{Refused, Seat, Table};
 use graph_heap::{Command, NoMemory, Reply};
-use machine::{BudgetOutOfRange, Busy, Spent};
+use machine::{BudgetOutOfRange, Busy, Heap, Spent};
 use settings::Config;
 use std::alloc::Global;
 use std::marker::Model;
@@ -142,6 +146,26 @@ impl Member {
         })
     }
 
+    /// The same, in a box. Where there is no memory for that, nothing changes either.
+    pub fn another_in(&mut self, alloc: Global, from: u32) -> Result<Box<Member>, NoMember>
+        ensures { MatchResult result (λ b. Adds self.old from (Ok b.value) self.new)
+            (λ why. Adds self.old from (Err why) self.new) }
+    {
+        if self.inside {
+            return Err(NoMember::Inside);
+        }
+        if from > self.to || from < self.from {
+            return Err(NoMember::NotYours);
+        }
+        // One without mutators comes first, so that none are given away where there is no box for them.
+        let to = self.to;
+        let Ok(mut boxed) = Box::new(alloc, self.another(to)?) else {
+            return Err(NoMember::NoMemory);
+        };
+        *boxed = self.another(from)?;
+        Ok(boxed)
+    }
+
     /// Takes the turn, if nobody has it. It waits for nobody.
     #[inline(always)]
     pub fn enter(&mut self) -> Result<(), NoTurn>
@@ -233,15 +257,29 @@ impl Member {
         Some(self.seat.slot_mut(&self.table.shared, 0).quantum(budget))
     }
 
-    /// Learns what another member of the same heap can tell of the history, once that has given the turn back. Nobody calls
-    /// for that one's mutators any more.
+    /// What is found of the heap, where the member has the turn.
+    pub fn inspect<T, F: FnOnce(&Heap) -> T + Drop>(&mut self, look: F) -> Option<T>
+        requires { F.IsAlwaysCallable look }
+        ensures { Finds (FnOnceReturnsAt F.FnOnce look) self.old result self.new }
+    {
+        if !self.inside {
+            return None;
+        }
+        Some(self.seat.slot_mut(&self.table.shared, 0).inspect(look))
+    }
+
+    /// Learns what another member can tell of the history, once that has given the turn back, where both are of one heap; of
+    /// another heap it learns nothing. Nobody calls for the other one's mutators any more.
     pub fn learn(&mut self, mut other: Member)
-        requires { other.heap ≡ self.old.heap }
         ensures { Learns self.old other self.new }
     {
         other.leave();
         let Member { seat, .. } = other;
-        self.table.shared.join_seat::<Learn>(&mut self.seat, seat);
+        let spare = self.table.shared.split_seat::<Spare>(&mut self.seat);
+        let (fitting, _) = fitting_first(seat, spare);
+        self.table
+            .shared
+            .join_seat::<Learn>(&mut self.seat, fitting);
     }
 
     /// What is promised of the heap and its history, where the member has the turn. It does nothing.

@@ -91,7 +91,18 @@ impl Split<Known> for Halve {
     ghost right = { behind_cut };
 }
 
-/// A member learns another's account.
+/// A seat is made of which a member has no need: it can't say anything.
+pub struct Spare;
+
+impl Split<Known> for Spare {
+    ghost use Rattle.heap_shared.specs.Turns.{nobody};
+
+    ghost left = { λ v. v };
+
+    ghost right = { λ _. nobody };
+}
+
+/// A member learns what another can tell.
 pub struct Learn;
 
 impl atomic_table::Join<Known> for Learn {

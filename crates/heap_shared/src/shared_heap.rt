@@ -1,5 +1,6 @@
 //! The heap that members share, with its history, which exists in proofs alone.
 ghost use Rattle.std.specs.Prelude.{◌≡◌, ◌⊎◌, ◌+◌, ◌<◌, [], IfOk};
+ghost use Rattle.std.specs.Fn.{FnOnceReturnsAt};
 ghost use Rattle.heap_model.specs.Event.{Does};
 ghost use Rattle.heap_model.specs.Event as done;
 ghost use Rattle.heap_model.specs.Opening.{IsOpening};
@@ -7,9 +8,10 @@ ghost use Rattle.heap_model.specs.Settings.{settings_of, settings_by};
 ghost use Rattle.machine.specs.Headline.{AlwaysHolds};
 ghost use Rattle.machine.specs.Space.{FindsSpace, FoundSpace};
 ghost use Rattle.machine.specs.Recorded.{begin_done, quantum_done};
+ghost use Rattle.machine.specs.Plan.{Steps};
 
 use crate::ghost_history::GhostHistory;
-use graph_heap::{Command, NoMemory, Reply};
+use graph_heap::{Command, NoMemory, Reply, dispatch};
 use machine::{BudgetOutOfRange, Busy, Heap, Spent};
 use settings::Config;
 use std::alloc::Global;
@@ -42,6 +44,15 @@ impl Model for SharedHeap {
     ghost invariant = { λ a. IsCourse (course_of a.heap a.history.past) };
 }
 
+/// Does a command of a mutator, and replies. It is `Heap::step` in line: where the caller knows the command, the method that
+/// does it is called at once.
+#[inline(always)]
+fn step(heap: &mut Heap, mutator: u32, command: Command) -> Reply
+    ensures { Steps heap.old mutator command result heap.new }
+{
+    dispatch!(Heap, heap, mutator, command)
+}
+
 impl SharedHeap {
     /// A new heap, without history. Refused only for lack of memory.
     pub fn new(alloc: Global, config: &Config) -> Result<SharedHeap, NoMemory>
@@ -61,9 +72,17 @@ impl SharedHeap {
     pub fn call(&mut self, mutator: u32, command: Command) -> Reply
         ensures { Does self.old (done.Command_done mutator command result) self.new }
     {
-        let reply = self.heap.step(mutator, command);
+        let reply = step(&mut self.heap, mutator, command);
         self.history.enter(mutator, command, reply);
         reply
+    }
+
+    /// What is found of the heap.
+    pub fn inspect<T, F: FnOnce(&Heap) -> T + Drop>(&self, look: F) -> T
+        requires { F.IsAlwaysCallable look }
+        ensures { FnOnceReturnsAt F.FnOnce look self.now.heap result }
+    {
+        look(&self.heap)
     }
 
     /// Begins a cycle of the collector, unless one is running.

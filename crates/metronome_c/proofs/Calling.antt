@@ -105,11 +105,11 @@ calls_from (call ∷ calls) r new w d =
     record { events = one.event ∷ rest.events; course = rest.course; runs = (one.after, one.does, rest.runs); told = (one.told, rest.told); left = rest.left; is = rest.is }
 
 -- a heap that was created is one of a configuration with the settings
-made_unless : (fault : Option ConfigFault) (s : Settings) (h : HeapState) (status : ℕ) → MakesUnless fault s (Ok h) status → IsMadeOf s h
+made_unless : (fault : Option ConfigFault) (s : Settings) (h : HeapState) (status : ℕ) → MakesUnless fault (IsMadeOf s) (Ok h) status → IsMadeOf s h
 made_unless (Some fault) s h status m = absurd (let z : Ok h ≡ Err Closed = m.0 in cc)
 made_unless None s h status m = m.1
 
-pub made_by : (s : Settings) (h : HeapState) (status : ℕ) → Creates (Err Closed) s (Ok h) status → IsMadeOf s h
+pub made_by : (s : Settings) (h : HeapState) (status : ℕ) → Creates IsMadeOf (Err Closed) s (Ok h) status → IsMadeOf s h
 made_by s h status created = made_unless (fault_of Library s) s h status created
 
 module _ (s : Settings) (h : HeapState) (made : IsMadeOf s h) where

@@ -1,8 +1,11 @@
 pub mod Asking
 pub mod Holding
 pub mod Stepping
+pub mod Seating
 pub mod Telling
 pub mod Values
+pub mod SeatValues
+pub mod Crossing
 pub mod Moving
 pub mod Making
 pub mod Beginning

@@ -17,7 +17,7 @@ tells tell (Err why) found new before after status asks told =
 tells tell (Ok h) found new before after status asks told =
     let told' = subst (λ f. IsTold f before after status) asks.2 told in (asks.3 ∙ ap Ok asks.4.0, told'.0 ∙ asks.4.1, told'.1)
 
--- what each call shows of the heap that is asked
-pub shows : {A : Type 0} (P : HeapState → Type 0) (old : Result HeapState Status) (found : Result A Status) (new : Result HeapState Status) → Asks (λ h a k. P h) old found new → IfOk old P
+-- what each call shows of what is asked
+pub shows : {S A : Type 0} (P : S → Type 0) (old : Result S Status) (found : Result A Status) (new : Result S Status) → Asks (λ h a k. P h) old found new → IfOk old P
 shows P (Err why) found new asks = tt
 shows P (Ok h) found new asks = asks.4

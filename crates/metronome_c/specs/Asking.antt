@@ -1,4 +1,4 @@
--- What is asked of the heap that C holds.
+-- What is asked of what C holds: a heap, or a seat.
 use Rattle.std.specs.Prelude.{◌≡◌, Result, Ok, Err}
 use Rattle.graph_heap.specs.declared.command.Reply.{Reply}
 use Rattle.heap_model.specs.State.{HeapState}
@@ -7,11 +7,10 @@ use Rattle.metronome_c.specs.declared.answer.MetronomeShape.{MetronomeShape}
 use Rattle.metronome_c.specs.declared.status.Status.{Status}
 use Rattle.metronome_c.specs.Answer.{answered, shape_told}
 
--- A call of the heap gives its answer, and what the call left is held. Without a heap the answer is why there is none.
-abbrev pub Asks : {A : Type 0} → (HeapState → A → HeapState → Type 0) → Result HeapState Status → Result A Status
-    → Result HeapState Status → Type 0
+-- A call of what is held gives its answer, and what the call left is held. Where nothing is held the answer is why.
+abbrev pub Asks : {S A : Type 0} → (S → A → S → Type 0) → Result S Status → Result A Status → Result S Status → Type 0
 Asks call (Err why) answer new = (answer ≡ Err why) × (new ≡ Err why)
-Asks {A} call (Ok h) answer new = (a : A) × (k : HeapState) × (answer ≡ Ok a) × (new ≡ Ok k) × call h a k
+Asks {S} {A} call (Ok s) answer new = (a : A) × (k : S) × (answer ≡ Ok a) × (new ≡ Ok k) × call s a k
 
 -- a handle is asked for a reply, which C is told
 abbrev pub AsksTold : (HeapState → Reply → HeapState → Type 0) → Result HeapState Status → Result HeapState Status

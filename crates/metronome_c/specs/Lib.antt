@@ -1,5 +1,6 @@
 pub mod Answer
 pub mod Asking
+pub mod BulkCalls
 pub mod Calls
 pub mod Collecting
 pub mod Figures
@@ -8,6 +9,7 @@ pub mod Kept
 pub mod Lending
 pub mod Lifetime
 pub mod Limit
+pub mod Seats
 pub mod Status
 pub mod Steps
 pub mod Text

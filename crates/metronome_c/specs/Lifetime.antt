@@ -1,4 +1,4 @@
--- Heaps are made.
+-- Heaps are made, and what a handle holds is given back.
 use Rattle.std.specs.Prelude.{◌≡◌, ℕ, Option, Some, None, Result, Ok, Err}
 use Rattle.settings.specs.declared.settings.Settings.{Settings}
 use Rattle.settings.specs.declared.config.Config.{Config}
@@ -16,23 +16,24 @@ use Rattle.metronome_c.specs.Status.{status_number, fault_status}
 abbrev pub IsMadeOf : Settings → HeapState → Type 0
 IsMadeOf s h = (c : Config) × IsOpening h × IsOf s c × (settings_of h ≡ settings_by c)
 
--- such a heap is made; or there was no memory for it, and the handle is closed
-abbrev pub IsMade : Settings → Result HeapState Status → ℕ → Type 0
-IsMade s (Ok h) status = (status ≡ status_number Done) × IsMadeOf s h
-IsMade s (Err why) status = (why ≡ Closed) × (status ≡ status_number NoMemory)
+-- such a thing is made; or there was no memory for it, and the handle is closed
+abbrev pub IsMade : {S : Type 0} → (S → Type 0) → Result S Status → ℕ → Type 0
+IsMade Such (Ok made) status = (status ≡ status_number Done) × Such made
+IsMade Such (Err why) status = (why ≡ Closed) × (status ≡ status_number NoMemory)
 
--- a heap is made where the settings have no fault
-abbrev pub MakesUnless : Option ConfigFault → Settings → Result HeapState Status → ℕ → Type 0
-MakesUnless (Some fault) s new status = (new ≡ Err Closed) × (status ≡ status_number (fault_status fault))
-MakesUnless None s new status = IsMade s new status
+-- it is made where the settings have no fault
+abbrev pub MakesUnless : {S : Type 0} → Option ConfigFault → (S → Type 0) → Result S Status → ℕ → Type 0
+MakesUnless (Some fault) Such new status = (new ≡ Err Closed) × (status ≡ status_number (fault_status fault))
+MakesUnless None Such new status = IsMade Such new status
 
--- a heap is made where the settings have no fault and the handle is closed; another handle stays as it is
-abbrev pub Creates : Result HeapState Status → Settings → Result HeapState Status → ℕ → Type 0
-Creates (Ok h) s new status = (new ≡ Ok h) × (status ≡ status_number Open)
-Creates (Err Closed) s new status = MakesUnless (fault_of Library s) s new status
-Creates (Err why) s new status = (new ≡ Err why) × (status ≡ status_number why)
+-- What is so of these settings is made where the settings have no fault and the handle is closed; another handle stays
+-- as it is.
+abbrev pub Creates : {S : Type 0} → (Settings → S → Type 0) → Result S Status → Settings → Result S Status → ℕ → Type 0
+Creates IsSo (Ok held) s new status = (new ≡ Ok held) × (status ≡ status_number Open)
+Creates IsSo (Err Closed) s new status = MakesUnless (fault_of Library s) (IsSo s) new status
+Creates IsSo (Err why) s new status = (new ≡ Err why) × (status ≡ status_number why)
 
--- a handle that holds a heap is closed, and another stays as it is
-abbrev pub Destroys : Result HeapState Status → Result HeapState Status → Type 0
-Destroys (Ok h) new = new ≡ Err Closed
+-- a handle that holds something is closed, and another stays as it is
+abbrev pub Destroys : {S : Type 0} → Result S Status → Result S Status → Type 0
+Destroys (Ok held) new = new ≡ Err Closed
 Destroys (Err why) new = new ≡ Err why

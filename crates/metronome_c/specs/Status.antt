@@ -9,9 +9,15 @@ use Rattle.settings.specs.declared.key.TheConstants.Key.{ALL}
 use Rattle.settings.specs.Keys.{name_of}
 use Rattle.settings.specs.declared.fault.ConfigFault.{ConfigFault}
 use Rattle.settings.specs.declared.fault.ConfigFault.TheVariants as faults
+use Rattle.heap_shared.specs.declared.member.NoTurn.{NoTurn}
+use Rattle.heap_shared.specs.declared.member.NoTurn.TheVariants as turns
+use Rattle.heap_shared.specs.declared.member.NotDone.{NotDone}
+use Rattle.heap_shared.specs.declared.member.NotDone.TheVariants as undone
+use Rattle.heap_shared.specs.declared.member.NoMember.{NoMember}
+use Rattle.heap_shared.specs.declared.member.NoMember.TheVariants as members
 use Rattle.metronome_c.specs.declared.status.Status.{Status}
 use Rattle.metronome_c.specs.declared.status.Status.TheVariants as statuses
-use Rattle.metronome_c.specs.declared.status.TheConstants.Status.{BEFORE_SETTINGS}
+use Rattle.metronome_c.specs.declared.status.TheConstants.Status.{BEFORE_SETTINGS, BEHIND_SETTINGS}
 
 -- the place of a key among the settings, from 0: that in `Key::ALL`
 abbrev pub key_number : Key → ℕ
@@ -30,10 +36,14 @@ status_number statuses.ScheduleOutOfRange = 18
 status_number statuses.BadHandle = 19
 status_number (statuses.SettingOutOfRange key) = 20 + key_number key
 status_number statuses.OtherVersion = 40
+status_number statuses.Taken = 41
+status_number statuses.Inside = 42
+status_number statuses.Outside = 43
+status_number statuses.NotYours = 44
 
 -- all statuses, in the order of their numbers: one for each setting, in the order of `Key::ALL`
 abbrev pub all_statuses : List Status
-all_statuses = (BEFORE_SETTINGS ++ map statuses.SettingOutOfRange ALL) ++ statuses.OtherVersion ∷ []
+all_statuses = (BEFORE_SETTINGS ++ map statuses.SettingOutOfRange ALL) ++ BEHIND_SETTINGS
 
 -- the first of them with a number
 abbrev pub status_numbered : ℕ → Option Status
@@ -43,6 +53,22 @@ status_numbered number = find (λ s. status_number s == number) all_statuses
 abbrev pub fault_status : ConfigFault → Status
 fault_status (faults.OutOfRange key) = statuses.SettingOutOfRange key
 fault_status _ = statuses.ScheduleOutOfRange
+
+-- the status of why a member doesn't get the turn
+abbrev pub no_turn_status : NoTurn → Status
+no_turn_status turns.Taken = statuses.Taken
+no_turn_status turns.Inside = statuses.Inside
+
+-- the status of why a member's command isn't done
+abbrev pub not_done_status : NotDone → Status
+not_done_status undone.Outside = statuses.Outside
+not_done_status undone.NotYours = statuses.NotYours
+
+-- the status of why there is no other member
+abbrev pub no_member_status : NoMember → Status
+no_member_status members.Inside = statuses.Inside
+no_member_status members.NotYours = statuses.NotYours
+no_member_status members.NoMemory = statuses.NoMemory
 
 -- a setting is out of its range: the name by which a file gives it, and the same words after each
 abbrev pub setting_text : Key → List ℕ
@@ -70,6 +96,10 @@ status_text statuses.ScheduleOutOfRange = codes "collector_ticks times rate is o
 status_text statuses.BadHandle = codes "this is no handle"
 status_text (statuses.SettingOutOfRange key) = setting_text key
 status_text statuses.OtherVersion = codes "the program was built for another version"
+status_text statuses.Taken = codes "another seat has the turn"
+status_text statuses.Inside = codes "the seat has the turn"
+status_text statuses.Outside = codes "the seat hasn't the turn"
+status_text statuses.NotYours = codes "the mutator isn't the seat's"
 
 -- the text of a number, which may be that of no status
 abbrev pub text_or_none : Option Status → List ℕ

@@ -29,7 +29,7 @@ pub struct Counts {
 
 impl Counts {
     /// The counts of a heap. It looks at each block.
-    fn from_heap(heap: &Heap) -> Counts
+    pub(crate) fn from_heap(heap: &Heap) -> Counts
         ensures { result ≡ counts_of heap.now }
     {
         let copies = heap.copies();

@@ -12,8 +12,8 @@ use std::marker::Model;
 
 /// A box as its pointer.
 pub(crate) struct Loose<T, A: Allocator> {
-    at: *mut T,
-    alloc: A,
+    pub(crate) at: *mut T,
+    pub(crate) alloc: A,
     pub(crate) ghost value: { T },
 }
 

@@ -10,26 +10,27 @@ ghost use Rattle.heap_model.specs.Settings.{settings_of, settings_by};
 ghost use Rattle.heap_model.specs.Spent.{cycle_limit};
 ghost use Rattle.heap_model.specs.State.{HeapState};
 ghost use Rattle.metronome_c.specs.Calls.{Call, Calls, AreEvents, IsPromised};
-ghost use Rattle.metronome_c.specs.Lifetime.{Creates};
+ghost use Rattle.metronome_c.specs.Lifetime.{IsMadeOf, Creates};
 ghost use Rattle.metronome_c.specs.Limit.{limit_of};
 ghost use Rattle.metronome_c.specs.Status.{all_statuses};
 ghost use Rattle.metronome_c.specs.Touching.{touched_heap};
 ghost use Rattle.metronome_c.specs.declared.metronome.TheConstants.{CHECK_WORD};
 ghost use Rattle.metronome_c.specs.declared.status.Status.{Status};
-ghost use Rattle.metronome_c.specs.declared.status.Status.TheVariants.{Done, Refused, NoMemory, Busy, BudgetOutOfRange, Closed, Open, ScheduleOutOfRange, BadHandle, SettingOutOfRange, OtherVersion};
+ghost use Rattle.metronome_c.specs.declared.status.Status.TheVariants.{Done, Refused, NoMemory, Busy, BudgetOutOfRange, Closed, Open, ScheduleOutOfRange, BadHandle, SettingOutOfRange, OtherVersion, Taken, Inside, Outside, NotYours};
 
 /// Where a heap was just made of a closed handle, and a program calls the library as it likes, the calls are events
 /// that the heap does one after the other, with a history that only grows: each call tells the outcome of its event,
 /// and what is promised of a heap with its history (`machine::Recorded::run`) holds of it, whatever comes. So it is where
 /// the program touched pages of it first.
 pub fn calls_are_events()
-    ensures made { (s : Settings) (h : HeapState) (status : ℕ) → Creates (Err Closed) s (Ok h) status → IsPromised s h }
+    ensures made { (s : Settings) (h : HeapState) (status : ℕ) → Creates IsMadeOf (Err Closed) s (Ok h) status
+        → IsPromised s h }
     ensures calls { (s : Settings) (h : HeapState) (status : ℕ) (calls : List Call) (new : Result HeapState Status)
-        → Creates (Err Closed) s (Ok h) status → Calls (Ok h) calls new → AreEvents h calls new }
-    ensures touched { (s : Settings) (h : HeapState) (status pages : ℕ) → Creates (Err Closed) s (Ok h) status
+        → Creates IsMadeOf (Err Closed) s (Ok h) status → Calls (Ok h) calls new → AreEvents h calls new }
+    ensures touched { (s : Settings) (h : HeapState) (status pages : ℕ) → Creates IsMadeOf (Err Closed) s (Ok h) status
         → IsPromised s (touched_heap h pages) }
     ensures after { (s : Settings) (h : HeapState) (status pages : ℕ) (calls : List Call)
-        (new : Result HeapState Status) → Creates (Err Closed) s (Ok h) status
+        (new : Result HeapState Status) → Creates IsMadeOf (Err Closed) s (Ok h) status
         → Calls (Ok (touched_heap h pages)) calls new → AreEvents (touched_heap h pages) calls new }
 {}
 
@@ -53,7 +54,7 @@ pub fn statuses_are_in_order()
         ∷ SettingOutOfRange keys.Statics ∷ SettingOutOfRange keys.Identities ∷ SettingOutOfRange keys.DefragBelow
         ∷ SettingOutOfRange keys.DefragPages ∷ SettingOutOfRange keys.CollectorTicks
         ∷ SettingOutOfRange keys.MutatorTicks ∷ SettingOutOfRange keys.Rate ∷ SettingOutOfRange keys.Live
-        ∷ OtherVersion ∷ [] }
+        ∷ OtherVersion ∷ Taken ∷ Inside ∷ Outside ∷ NotYours ∷ [] }
 {}
 
 /// The check word of a handle that holds a heap. Memory that nothing set hardly has it by chance.

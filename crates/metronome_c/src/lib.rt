@@ -2,6 +2,7 @@
 #![tactic(auto)]
 
 mod answer;
+mod bulk_calls;
 mod collector;
 mod commands;
 mod figures;
@@ -12,6 +13,7 @@ mod limit;
 mod metronome;
 mod page;
 mod phase;
+mod seats;
 mod status;
 mod text;
 mod touching;

@@ -2,7 +2,7 @@
 ghost use Rattle.std.specs.Prelude.{◌≡◌, ◌≢◌};
 ghost use Rattle.metronome_c.specs.declared.status.Status.TheVariants.{OtherVersion};
 ghost use Rattle.metronome_c.specs.Opened.{heap_in};
-ghost use Rattle.metronome_c.specs.Lifetime.{Creates, Destroys};
+ghost use Rattle.metronome_c.specs.Lifetime.{IsMadeOf, Creates, Destroys};
 ghost use Rattle.metronome_c.specs.Status.{status_number};
 
 use crate::metronome::Metronome;
@@ -19,7 +19,7 @@ pub extern "C" fn metronome_create_for(
     settings: &Settings,
     version: u32,
 ) -> u32
-    ensures same { version ≡ 2 → Creates (heap_in heap.old) settings.now (heap_in heap.new) result }
+    ensures same { version ≡ 2 → Creates IsMadeOf (heap_in heap.old) settings.now (heap_in heap.new) result }
     ensures other { version ≢ 2 → (heap_in heap.new ≡ heap_in heap.old) × (result ≡ status_number OtherVersion) }
 {
     if version != VERSION {
@@ -30,7 +30,7 @@ pub extern "C" fn metronome_create_for(
 
 /// Makes a heap of these settings, where the handle is closed.
 fn create(heap: &mut Metronome, settings: &Settings) -> u32
-    ensures { Creates (heap_in heap.old) settings.now (heap_in heap.new) result }
+    ensures { Creates IsMadeOf (heap_in heap.old) settings.now (heap_in heap.new) result }
 {
     if heap.is_open() {
         return Status::Open.number();

@@ -3,11 +3,16 @@ ghost use Rattle.std.specs.Prelude.{◌≡◌, ◌==◌, Some, None, IsSome};
 ghost use Rattle.std.specs.Option.{is_some};
 ghost use Rattle.std.specs.Fn.{FnOnceReturnsAtMut};
 ghost use Rattle.metronome_c.specs.declared.metronome.TheConstants.{CHECK_WORD};
+ghost use Rattle.std.specs.Prelude.{◌≤◌, length, take, drop, IfOk, IfErr};
+ghost use Rattle.graph_heap.specs.declared.command.TheConstants.{PLAIN_CELLS};
+ghost use Rattle.bulk.specs.InOrder.{DoesWith, words_told};
+ghost use Rattle.bulk.specs.Lists.{gets};
 ghost use Rattle.metronome_c.specs.Asking.{Asks, AsksTold, AsksToldWithShape};
 
 use crate::answer::{Answer, MetronomeShape};
 use crate::handle::{Handle, Loose};
 use crate::status::Status;
+use bulk::Progress;
 use graph_heap::Reply;
 use machine::Heap;
 use std::alloc::Global;
@@ -127,5 +132,26 @@ impl Metronome {
         let reply = self.ask(call);
         *shape = shape.told_by(reply);
         Answer::from_outcome(reply)
+    }
+
+    /// Reads words of an object of the heap, if there is one, as `bulk::get_words` does.
+    #[inline(always)]
+    pub(crate) fn read_words(
+        &mut self,
+        mutator: u32,
+        obj: u32,
+        first: u32,
+        words: &mut [u64],
+    ) -> Result<Progress, Status>
+        requires { length words.old ≤ PLAIN_CELLS }
+        ensures asks { Asks (λ h p k. DoesWith h mutator (gets obj first (length words.old))
+            (words_told (take p.done words.new)) p k) (heap_in self.old) result (heap_in self.new) }
+        ensures rest { IfOk result (λ p. drop p.done words.new ≡ drop p.done words.old) }
+        ensures same { IfErr result (λ why. words.new ≡ words.old) }
+    {
+        if !self.is_open() {
+            return Err(self.why_empty());
+        }
+        Ok(bulk::get_words(self.handle.lend(), mutator, obj, first, words))
     }
 }

@@ -20,7 +20,7 @@ pub struct MetronomePage {
 
 impl MetronomePage {
     /// The page of a number; a free one, where there is none.
-    fn from_heap(heap: &Heap, number: usize) -> MetronomePage
+    pub(crate) fn from_heap(heap: &Heap, number: usize) -> MetronomePage
         ensures { result ≡ page_of number heap.now }
     {
         match heap.page(number) {

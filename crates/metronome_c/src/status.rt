@@ -2,10 +2,11 @@
 ghost use Rattle.std.specs.Prelude.{◌≡◌};
 ghost use Rattle.metronome_c.specs.Status as statuses;
 ghost use Rattle.metronome_c.specs.Status.{status_number, status_numbered, fault_status};
+ghost use Rattle.metronome_c.specs.Status.{no_turn_status, not_done_status, no_member_status};
 
 use graph_heap::Refusal;
+use heap_shared::{NoMember, NoTurn, NotDone};
 use settings::{ConfigFault, Key};
-use std::iter::once;
 
 /// How a call ends.
 #[derive(Clone, Copy, Debug, PartialEq, Eq)]
@@ -28,6 +29,14 @@ pub enum Status {
     SettingOutOfRange(Key),
     /// The program was built for another version of this interface.
     OtherVersion,
+    /// Another seat has the turn.
+    Taken,
+    /// The seat has the turn already.
+    Inside,
+    /// The seat hasn't the turn.
+    Outside,
+    /// The mutator isn't one of the seat's.
+    NotYours,
 }
 
 /// The place of a key among the settings, from 0.
@@ -60,6 +69,15 @@ impl Status {
         Status::BadHandle,
     ];
 
+    /// Those behind the settings out of their ranges, in the order of their numbers.
+    pub const BEHIND_SETTINGS: [Status; 5] = [
+        Status::OtherVersion,
+        Status::Taken,
+        Status::Inside,
+        Status::Outside,
+        Status::NotYours,
+    ];
+
     /// The number by which C is told.
     pub fn number(self) -> u32
         ensures { result ≡ status_number self }
@@ -76,6 +94,10 @@ impl Status {
             Status::BadHandle => 19,
             Status::SettingOutOfRange(key) => 20 + key_number(key),
             Status::OtherVersion => 40,
+            Status::Taken => 41,
+            Status::Inside => 42,
+            Status::Outside => 43,
+            Status::NotYours => 44,
         }
     }
 
@@ -88,7 +110,7 @@ impl Status {
             .iter()
             .copied()
             .chain(settings)
-            .chain(once(Status::OtherVersion))
+            .chain(Status::BEHIND_SETTINGS.iter().copied())
             .find(|status| status.number() == number)
     }
 
@@ -99,6 +121,37 @@ impl Status {
         match fault {
             ConfigFault::OutOfRange(key) => Status::SettingOutOfRange(key),
             _ => Status::ScheduleOutOfRange,
+        }
+    }
+
+    /// The status of why a member doesn't get the turn.
+    pub fn of_no_turn(why: NoTurn) -> Status
+        ensures { result ≡ no_turn_status why }
+    {
+        match why {
+            NoTurn::Taken => Status::Taken,
+            NoTurn::Inside => Status::Inside,
+        }
+    }
+
+    /// The status of why a member's command isn't done.
+    pub fn of_not_done(why: NotDone) -> Status
+        ensures { result ≡ not_done_status why }
+    {
+        match why {
+            NotDone::Outside => Status::Outside,
+            NotDone::NotYours => Status::NotYours,
+        }
+    }
+
+    /// The status of why there is no other member.
+    pub fn of_no_member(why: NoMember) -> Status
+        ensures { result ≡ no_member_status why }
+    {
+        match why {
+            NoMember::Inside => Status::Inside,
+            NoMember::NotYours => Status::NotYours,
+            NoMember::NoMemory => Status::NoMemory,
         }
     }
 
@@ -127,6 +180,10 @@ impl Status {
             Status::BadHandle => "this is no handle",
             Status::SettingOutOfRange(key) => setting_text(key),
             Status::OtherVersion => "the program was built for another version",
+            Status::Taken => "another seat has the turn",
+            Status::Inside => "the seat has the turn",
+            Status::Outside => "the seat hasn't the turn",
+            Status::NotYours => "the mutator isn't the seat's",
         }
     }
 }

@@ -3,24 +3,25 @@ use Rattle.std.specs.Prelude.{Some, None}
 use Rattle.std.specs.Result.{result_err}
 use Rattle.settings.specs.declared.ranges.Ranges.TheVariants.{Library}
 use Rattle.settings.specs.Config.{fault_of}
+use Rattle.metronome_c.specs.Lifetime.{IsMadeOf}
 use Rattle.metronome_c.specs.Status.{status_number}
 use Rattle.metronome_c.proofs.Making.{creates_none, creates_one, creates_open, creates_bad}
 use Rattle.metronome_c.proofs.lifetime.create.Goals as goal
 
 pub returns-then-is_open : goal.returns-then-is_open
-returns-then-is_open c = creates_open _ _ _ _ (sym c.is_open.ensures ∙ c.if-is_open.true) (search rules)
+returns-then-is_open c = creates_open IsMadeOf _ _ _ _ (sym c.is_open.ensures ∙ c.if-is_open.true) (search rules)
 
 pub returns-then-not-is_closed : goal.returns-then-not-is_closed
-returns-then-not-is_closed c = creates_bad _ _ _ _ (sym c.is_open.ensures ∙ c.if-is_open.false) (sym c.is_closed.ensures ∙ c.if-not-is_closed.true) (search rules)
+returns-then-not-is_closed c = creates_bad IsMadeOf _ _ _ _ (sym c.is_open.ensures ∙ c.if-is_open.false) (sym c.is_closed.ensures ∙ c.if-not-is_closed.true) (search rules)
 
 pub returns-in-Err : goal.returns-in-Err
 returns-in-Err c =
     let s = c.args.settings.now in
     let f : Some c.in-Err.fault ≡ fault_of Library s = ap result_err (sym c.in-Err.is) ∙ c.check.ensures.fault in
-    creates_none _ _ s c.in-Err.fault _ (sym c.is_open.ensures ∙ c.if-is_open.false) (sym c.is_closed.ensures ∙ c.if-not-is_closed.false) f (c.number-in-Err.ensures ∙ ap status_number c.of_fault.ensures)
+    creates_none IsMadeOf _ _ s c.in-Err.fault _ (sym c.is_open.ensures ∙ c.if-is_open.false) (sym c.is_closed.ensures ∙ c.if-not-is_closed.false) f (c.number-in-Err.ensures ∙ ap status_number c.of_fault.ensures)
 
 pub returns : goal.returns
 returns c =
     let s = c.args.settings.now in
     let f : None ≡ fault_of Library s = ap result_err (sym c.in-Ok.is) ∙ c.check.ensures.fault in
-    creates_one _ _ _ _ c.in-Ok-new.made s c.in-Ok.config _ (sym c.is_open.ensures ∙ c.if-is_open.false) (sym c.is_closed.ensures ∙ c.if-not-is_closed.false) f (c.put.ensures ∙ ap Some c.in-Ok-new-2.ensures.ok) (search rules) c.in-Ok-new.ensures.opening c.in-Ok.ensures.values c.in-Ok-new.ensures.settings
+    creates_one IsMadeOf _ _ _ _ c.in-Ok-new.made s _ (sym c.is_open.ensures ∙ c.if-is_open.false) (sym c.is_closed.ensures ∙ c.if-not-is_closed.false) f (c.put.ensures ∙ ap Some c.in-Ok-new-2.ensures.ok) (search rules) (c.in-Ok.config, c.in-Ok-new.ensures.opening, c.in-Ok.ensures.values, c.in-Ok-new.ensures.settings)

@@ -1,24 +1,37 @@
-use Rattle.std.proofs.Common.{◌≡◌, ◌<◌, sym, ap, ◌∙◌, subst, arith}
+use Rattle.std.proofs.Common.{◌≡◌, ◌<◌, ◌⊎◌, ⊎_elim, [], refl, sym, ap, ◌∙◌, subst, arith}
 use Rattle.heap_shared.specs.Members.{MemberView}
-use Rattle.heap_shared.proofs.Splitting.{learns}
-use Rattle.heap_shared.proofs.Members.{empty_handed, left_none, left_heap}
+use Rattle.heap_shared.proofs.Splitting.{spares, learns}
+use Rattle.heap_shared.proofs.Members.{empty_handed, left_none}
 use Rattle.heap_shared.proofs.member.Member.learn.Goals as goal
+
+pub split_seat-spare-requires : goal.split_seat-spare-requires
+split_seat-spare-requires c =
+    let d = c.deref.ensures in
+    let words : 16 < c.deref.result.now.shared.table_id.words = subst (λ t. 16 < t.shared.table_id.words) (sym d) c.self.invariant.1 in
+    let mine = c.self.inside.seat in (
+      c.self.invariant.0 ∙ sym (ap (λ t. t.shared.table_id) d),
+      omega (arith, words),
+      spares c.deref.result.now.shared.key mine.id mine.me.0,
+    )
 
 pub join_seat-requires : goal.join_seat-requires
 join_seat-requires c =
-    let d = c.deref.ensures in
-    let words : 16 < c.deref.result.now.shared.table_id.words = subst (λ t. 16 < t.shared.table_id.words) (sym d) c.self.invariant.1 in
-    let key = c.deref.result.now.shared.key in
-    let mine = c.self.inside.seat in
+    let d = c.deref-2.ensures in
+    let words : 16 < c.deref-2.result.now.shared.table_id.words = subst (λ t. 16 < t.shared.table_id.words) (sym d) c.self.invariant.1 in
+    let mine = c.split_seat-spare.new.seat in
+    let fits = c.fitting_first-fitting.result.0 in
+    let split = c.split_seat-spare.ensures in
+    let spare = c.split_seat-spare.result in
     let theirs = c.other.inside.seat in
-    let left = c.leave.ensures.leaves in
     let at = c.self.invariant.0 ∙ sym (ap (λ t. t.shared.table_id) d) in
-    let seen = ap (λ (v : MemberView). v.heap) c.other.view_is in
-    let heap : theirs.table_id ≡ mine.table_id = seen ∙ (left_heap _ _ _ left ∙ (c.requires ∙ sym (ap (λ (v : MemberView). v.heap) c.self.view_is))) in
-    let none = ap (λ (v : MemberView). v.turn) c.other.view_is ∙ left_none _ _ _ left in (
-      at,
-      heap ∙ at,
-      empty_handed _ _ _ _ none c.other.invariant.5,
+    let none = ap (λ (v : MemberView). v.turn) c.other.view_is ∙ left_none _ _ _ c.leave.ensures.leaves in
+    let here : (fits.table_id ≡ spare.table_id) × (fits.me.1 ≡ []) = ⊎_elim
+    (λ t. (ap (λ s. s.table_id) t.1 ∙ t.0, ap (λ s. s.me.1) t.1 ∙ empty_handed _ _ _ _ none c.other.invariant.5))
+    (λ t. (ap (λ s. s.table_id) t.1, ap (λ s. s.me.1) t.1 ∙ ap (λ m. m.1) split.4))
+    c.fitting_first-fitting.ensures in (
+      split.0 ∙ at,
+      here.0 ∙ (split.3 ∙ at),
+      here.1,
       omega (arith, words),
-      learns key mine.id mine.me.0 theirs.id theirs.me.0,
+      learns c.deref-2.result.now.shared.key mine.id mine.me.0 fits.id fits.me.0,
     )

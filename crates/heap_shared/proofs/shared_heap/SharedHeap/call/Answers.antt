@@ -7,13 +7,13 @@ use Rattle.heap_shared.proofs.shared_heap.SharedHeap.call.Goals as goal
 pub invariant_of-self : goal.invariant_of-self
 invariant_of-self c =
     let step = c.step-reply in
-    subst (λ (p : Past). IsCourse (course_of step.new.self p)) (sym c.enter.ensures)
-    (still c.self.inside.heap c.self.inside.history.past c.args.mutator c.args.command step.result step.new.self c.self.invariant step.ensures.reply step.ensures.does)
+    subst (λ (p : Past). IsCourse (course_of step.new.heap p)) (sym c.enter.ensures)
+    (still c.self.inside.heap c.self.inside.history.past c.args.mutator c.args.command step.result step.new.heap c.self.invariant step.ensures.reply step.ensures.does)
 
 pub returns : goal.returns
 returns c =
     let step = c.step-reply in
-    let after = step.new.self in
+    let after = step.new.heap in
     let e = Command_done c.args.mutator c.args.command step.result in
     subst (λ (r : Course). Does r e (course_of after c.enter.new.self.past)) c.self.view_is
     (subst (λ (p : Past). Does (course_of c.self.inside.heap c.self.inside.history.past) e (course_of after p)) (sym c.enter.ensures)

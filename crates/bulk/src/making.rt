@@ -1,0 +1,38 @@
+//! A new object with its first contents.
+ghost use Rattle.std.specs.Prelude.{◌+◌, ◌≤◌, length};
+ghost use Rattle.bulk.specs.InOrder.{DoesFront};
+ghost use Rattle.bulk.specs.Lists.{makes};
+
+use crate::progress::{Progress, refusal_in};
+use crate::refs::store_slots;
+use crate::words::put_words;
+use graph_heap::{PLAIN_CELLS, Shape};
+use machine::Heap;
+
+/// A new object into slot dst; then what the slots `refs` hold into its first reference cells, and the words into its first
+/// word cells, at most 252 together. The other cells stay null and zero. Where dst is among `refs`, the new object is meant,
+/// which it holds by then. Where a store or a put is refused, the object is made and stays in dst, with what was written
+/// before.
+pub fn new_with(
+    heap: &mut Heap,
+    mutator: u32,
+    dst: u32,
+    shape: Shape,
+    refs: &[u32],
+    words: &[u64],
+) -> Progress
+    requires { length refs.now + length words.now ≤ PLAIN_CELLS }
+    ensures { DoesFront heap.old mutator (makes dst shape refs.now words.now) result heap.new }
+{
+    if let Some(refusal) = refusal_in(heap.make(mutator, dst, shape)) {
+        return Progress {
+            done: 0,
+            refused: Some(refusal),
+        };
+    }
+    let stored = store_slots(heap, mutator, dst, refs);
+    if stored.refused.is_some() {
+        return stored.behind(1);
+    }
+    put_words(heap, mutator, dst, 0, words).behind(1 + stored.done)
+}

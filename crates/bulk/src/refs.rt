@@ -1,0 +1,68 @@
+//! References of objects, written in a row.
+ghost use Rattle.std.specs.Prelude.{◌≤◌, length};
+ghost use Rattle.bulk.specs.InOrder.{DoesFront};
+ghost use Rattle.bulk.specs.Lists.{copies, stores};
+
+use crate::progress::{Progress, refusal_in};
+use graph_heap::PLAIN_CELLS;
+use machine::Heap;
+
+/// What `count` reference cells of the object in slot from hold, at most 252, from cell `from_first` on, into as many of the
+/// object in slot to, from cell `to_first` on: two commands for each, a load into slot through and a store from there. So slot
+/// through holds what was loaded last. The cells are copied in rising order: where both objects are one and `to_first` lies
+/// among what is copied, what was written before is copied on. The first cell that an object doesn't have is refused as
+/// BadIndex; a number above 32 bits counts as the greatest that these hold, which no cell has.
+pub fn copy_refs(
+    heap: &mut Heap,
+    mutator: u32,
+    through: u32,
+    from: u32,
+    from_first: u32,
+    to: u32,
+    to_first: u32,
+    count: u32,
+) -> Progress
+    requires { count ≤ PLAIN_CELLS }
+    ensures { DoesFront heap.old mutator (copies through from from_first to to_first count) result heap.new }
+{
+    for i in 0..count {
+        let load = heap.load(mutator, through, from, from_first.saturating_add(i));
+        if let Some(refusal) = refusal_in(load) {
+            return Progress {
+                done: 2 * i,
+                refused: Some(refusal),
+            };
+        }
+        let store = heap.store(mutator, to, to_first.saturating_add(i), through);
+        if let Some(refusal) = refusal_in(store) {
+            return Progress {
+                done: 2 * i + 1,
+                refused: Some(refusal),
+            };
+        }
+    }
+    Progress {
+        done: 2 * count,
+        refused: None,
+    }
+}
+
+/// What slots hold, at most 252, into the first reference cells of the object in slot obj.
+pub(crate) fn store_slots(heap: &mut Heap, mutator: u32, obj: u32, slots: &[u32]) -> Progress
+    requires { length slots.now ≤ PLAIN_CELLS }
+    ensures { DoesFront heap.old mutator (stores obj slots.now) result heap.new }
+{
+    let count = slots.len() as u32;
+    for i in 0..count {
+        if let Some(refusal) = refusal_in(heap.store(mutator, obj, i, slots[i as usize])) {
+            return Progress {
+                done: i,
+                refused: Some(refusal),
+            };
+        }
+    }
+    Progress {
+        done: count,
+        refused: None,
+    }
+}

@@ -1,0 +1,55 @@
+//! Slots of a mutator, cleared and moved.
+ghost use Rattle.bulk.specs.InOrder.{DoesFront};
+ghost use Rattle.bulk.specs.Lists.{clears, moves};
+
+use crate::progress::{Progress, refusal_in};
+use machine::Heap;
+
+/// Null into each of `count` slots, from the first on. Done are the slots that were cleared. The first that the mutator
+/// doesn't have is refused as BadSlot, and so is the first of all where the mutator isn't live, as NotLive; a number above
+/// 32 bits counts as the greatest that these hold, which no slot has.
+pub fn clear_slots(heap: &mut Heap, mutator: u32, first: u32, count: u32) -> Progress
+    ensures { DoesFront heap.old mutator (clears first count) result heap.new }
+{
+    for i in 0..count {
+        if let Some(refusal) = refusal_in(heap.clear(mutator, first.saturating_add(i))) {
+            return Progress {
+                done: i,
+                refused: Some(refusal),
+            };
+        }
+    }
+    Progress {
+        done: count,
+        refused: None,
+    }
+}
+
+/// What slot src holds into slot dst, and then null into src: two commands. A slot that is moved into itself keeps what it
+/// holds, by one command.
+pub fn move_slot(heap: &mut Heap, mutator: u32, dst: u32, src: u32) -> Progress
+    ensures { DoesFront heap.old mutator (moves dst src) result heap.new }
+{
+    if let Some(refusal) = refusal_in(heap.copy(mutator, dst, src)) {
+        return Progress {
+            done: 0,
+            refused: Some(refusal),
+        };
+    }
+    if dst == src {
+        return Progress {
+            done: 1,
+            refused: None,
+        };
+    }
+    match refusal_in(heap.clear(mutator, src)) {
+        Some(refusal) => Progress {
+            done: 1,
+            refused: Some(refusal),
+        },
+        None => Progress {
+            done: 2,
+            refused: None,
+        },
+    }
+}

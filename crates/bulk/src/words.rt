@@ -1,0 +1,62 @@
+//! Words of an object, read and written in a row.
+ghost use Rattle.std.specs.Prelude.{◌≡◌, ◌≤◌, length, take, drop};
+ghost use Rattle.bulk.specs.InOrder.{DoesFront, DoesWith, words_told};
+ghost use Rattle.bulk.specs.Lists.{gets, puts};
+
+use crate::progress::{Progress, refusal_in};
+use graph_heap::{PLAIN_CELLS, Reply};
+use machine::Heap;
+
+/// Reads as many word cells of the object in slot obj as the slice has room for, at most 252, from the first on. Done are
+/// the words that were read: they stand at the front of the slice, and the rest of it stays. The first cell that the object
+/// doesn't have is refused as BadIndex; a number above 32 bits counts as the greatest that these hold, which no cell has.
+pub fn get_words(heap: &mut Heap, mutator: u32, obj: u32, first: u32, words: &mut [u64]) -> Progress
+    requires { length words.old ≤ PLAIN_CELLS }
+    ensures reads { DoesWith heap.old mutator (gets obj first (length words.old))
+        (words_told (take result.done words.new)) result heap.new }
+    ensures rest { drop result.done words.new ≡ drop result.done words.old }
+{
+    // What is read here is only that the heap represents some graph heap, by which a word is all that Get replies where it
+    // isn't refused.
+    let _phase = heap.phase();
+    let room = words.len() as u32;
+    for i in 0..room {
+        match heap.get(mutator, obj, first.saturating_add(i)) {
+            Reply::Word(word) => words[i as usize] = word,
+            Reply::Refused(refusal) => {
+                return Progress {
+                    done: i,
+                    refused: Some(refusal),
+                };
+            }
+            _ => unreachable!(),
+        }
+    }
+    Progress {
+        done: room,
+        refused: None,
+    }
+}
+
+/// Writes at most 252 words into as many word cells of the object in slot obj, from the first on. Done are the words that
+/// were written. The first cell that the object doesn't have is refused as BadIndex; a number above 32 bits counts as the
+/// greatest that these hold, which no cell has.
+pub fn put_words(heap: &mut Heap, mutator: u32, obj: u32, first: u32, words: &[u64]) -> Progress
+    requires { length words.now ≤ PLAIN_CELLS }
+    ensures { DoesFront heap.old mutator (puts obj first words.now) result heap.new }
+{
+    let count = words.len() as u32;
+    for i in 0..count {
+        let word = words[i as usize];
+        if let Some(refusal) = refusal_in(heap.put(mutator, obj, first.saturating_add(i), word)) {
+            return Progress {
+                done: i,
+                refused: Some(refusal),
+            };
+        }
+    }
+    Progress {
+        done: count,
+        refused: None,
+    }
+}

@@ -1,0 +1,174 @@
+//! Calls that do a list of commands, one after the other.
+ghost use Rattle.std.specs.Prelude.{◌≡◌, ◌+◌, ◌<◌, ◌≤◌, length};
+ghost use Rattle.std.specs.Fn.{FnOnceReturnsAtMut};
+ghost use Rattle.graph_heap.specs.declared.command.TheConstants.{PLAIN_CELLS as most_cells};
+ghost use Rattle.graph_heap.specs.declared.command.Shape.TheVariants as shapes;
+ghost use Rattle.bulk.specs.Lists.{clears, moves, gets, puts, copies, makes};
+ghost use Rattle.metronome_c.specs.BulkCalls.{progress_told, too_many, DoesList, ReadsList};
+ghost use Rattle.metronome_c.specs.Opened.{heap_in};
+
+use crate::metronome::Metronome;
+use crate::status::Status;
+use bulk::Progress;
+use graph_heap::{PLAIN_CELLS, Refusal, Shape};
+
+/// How far a list of commands was done: how many were, and the status of the next one, which was refused. Where all were
+/// done that is the status of success.
+#[repr(C)]
+#[derive(Clone, Copy, Debug, PartialEq, Eq)]
+pub struct MetronomeProgress {
+    pub done: u32,
+    pub status: u32,
+}
+
+impl MetronomeProgress {
+    /// What C is told of how far a list was done, or of why none of it was.
+    #[inline(always)]
+    pub(crate) fn from_outcome(progress: Result<Progress, Status>) -> MetronomeProgress
+        ensures { result ≡ progress_told progress }
+    {
+        let (done, status) = match progress {
+            Ok(Progress { done, refused }) => match refused {
+                Some(refusal) => (done, Status::Refused(refusal)),
+                None => (done, Status::Done),
+            },
+            Err(why) => (0, why),
+        };
+        MetronomeProgress {
+            done,
+            status: status.number(),
+        }
+    }
+
+    /// What C is told where more than 252 cells are named.
+    #[cold]
+    fn too_many() -> MetronomeProgress
+        ensures { result ≡ too_many }
+    {
+        MetronomeProgress::from_outcome(Err(Status::Refused(Refusal::TooLarge)))
+    }
+}
+
+/// Null into each of `count` slots, from the first on.
+#[unsafe(no_mangle)]
+pub extern "C" fn metronome_clear_slots(
+    heap: &mut Metronome,
+    mutator: u32,
+    first: u32,
+    count: u32,
+) -> MetronomeProgress
+    ensures { DoesList (heap_in heap.old) mutator (clears first count) (heap_in heap.new) result }
+{
+    MetronomeProgress::from_outcome(heap.ask(|inner| bulk::clear_slots(
+        inner, mutator, first, count,
+    )))
+}
+
+/// What slot src holds into slot dst, and then null into src, unless it is dst.
+#[unsafe(no_mangle)]
+pub extern "C" fn metronome_move(
+    heap: &mut Metronome,
+    mutator: u32,
+    dst: u32,
+    src: u32,
+) -> MetronomeProgress
+    ensures { DoesList (heap_in heap.old) mutator (moves dst src) (heap_in heap.new) result }
+{
+    MetronomeProgress::from_outcome(heap.ask(|inner| bulk::move_slot(inner, mutator, dst, src)))
+}
+
+/// Writes at most 252 words into as many word cells of an object, from the first on. Of more none is written.
+#[unsafe(no_mangle)]
+pub extern "C" fn metronome_put_words(
+    heap: &mut Metronome,
+    mutator: u32,
+    obj: u32,
+    first: u32,
+    words: &[u64],
+) -> MetronomeProgress
+    ensures few { length words.now ≤ most_cells
+        → DoesList (heap_in heap.old) mutator (puts obj first words.now) (heap_in heap.new) result }
+    ensures many { most_cells < length words.now → (heap_in heap.new ≡ heap_in heap.old) × (result ≡ too_many) }
+{
+    if words.len() > PLAIN_CELLS as usize {
+        return MetronomeProgress::too_many();
+    }
+    MetronomeProgress::from_outcome(heap.ask(|inner| bulk::put_words(
+        inner, mutator, obj, first, words,
+    )))
+}
+
+/// Reads as many word cells of an object as there is room for, at most 252, from the first on. Where there is room for more
+/// none is read.
+#[unsafe(no_mangle)]
+pub extern "C" fn metronome_get_words(
+    heap: &mut Metronome,
+    mutator: u32,
+    obj: u32,
+    first: u32,
+    words: &mut [u64],
+) -> MetronomeProgress
+    ensures few { length words.old ≤ most_cells → ReadsList (heap_in heap.old) mutator
+        (gets obj first (length words.old)) (heap_in heap.new) (words.old, words.new) result }
+    ensures many { most_cells < length words.old
+        → (heap_in heap.new ≡ heap_in heap.old) × (words.new ≡ words.old) × (result ≡ too_many) }
+{
+    if words.len() > PLAIN_CELLS as usize {
+        return MetronomeProgress::too_many();
+    }
+    MetronomeProgress::from_outcome(heap.read_words(mutator, obj, first, words))
+}
+
+/// What reference cells of an object hold, at most 252, from the first on, into as many of another one, or of the same: each
+/// is loaded into slot `through`, and stored from there. Of more none is copied.
+#[unsafe(no_mangle)]
+pub extern "C" fn metronome_copy_refs(
+    heap: &mut Metronome,
+    mutator: u32,
+    through: u32,
+    from: u32,
+    from_first: u32,
+    to: u32,
+    to_first: u32,
+    count: u32,
+) -> MetronomeProgress
+    ensures few { count ≤ most_cells → DoesList (heap_in heap.old) mutator
+        (copies through from from_first to to_first count) (heap_in heap.new) result }
+    ensures many { most_cells < count → (heap_in heap.new ≡ heap_in heap.old) × (result ≡ too_many) }
+{
+    if count > PLAIN_CELLS {
+        return MetronomeProgress::too_many();
+    }
+    MetronomeProgress::from_outcome(heap.ask(|inner| {
+        bulk::copy_refs(
+            inner, mutator, through, from, from_first, to, to_first, count,
+        )
+    }))
+}
+
+/// A new object of reference cells and word cells, into slot dst; then what slots hold into its first reference cells, and
+/// words into its first word cells, at most 252 together. Of more nothing is done.
+#[unsafe(no_mangle)]
+pub extern "C" fn metronome_new_with(
+    heap: &mut Metronome,
+    mutator: u32,
+    dst: u32,
+    refs: u32,
+    words: u32,
+    slots: &[u32],
+    contents: &[u64],
+) -> MetronomeProgress
+    ensures few { length slots.now + length contents.now ≤ most_cells → DoesList (heap_in heap.old) mutator
+        (makes dst (shapes.Plain refs words) slots.now contents.now) (heap_in heap.new) result }
+    ensures many { most_cells < length slots.now + length contents.now
+        → (heap_in heap.new ≡ heap_in heap.old) × (result ≡ too_many) }
+{
+    let most = PLAIN_CELLS as usize;
+    if slots.len() > most || contents.len() > most - slots.len() {
+        return MetronomeProgress::too_many();
+    }
+    let shape = Shape::Plain { refs, words };
+    MetronomeProgress::from_outcome(heap.ask(|inner| bulk::new_with(
+        inner, mutator, dst, shape, slots, contents,
+    )))
+}

@@ -1,0 +1,251 @@
+//! The commands of mutators by a seat in its turn, each with a function for C, in the order of `graph_heap::Command`.
+ghost use Rattle.graph_heap.specs.declared.command.Command.TheVariants as commands;
+ghost use Rattle.graph_heap.specs.declared.command.Shape.TheVariants as shapes;
+ghost use Rattle.metronome_c.specs.Opened.{seat_in};
+ghost use Rattle.metronome_c.specs.Seats.{AnswersSeat, ShapesSeat};
+
+use crate::answer::{Answer, MetronomeShape};
+use crate::seats::seat::MetronomeSeat;
+use graph_heap::{Command, Shape};
+
+/// A new object of reference cells and word cells, into slot dst.
+#[unsafe(no_mangle)]
+pub extern "C" fn metronome_seat_new_plain(
+    seat: &mut MetronomeSeat,
+    mutator: u32,
+    dst: u32,
+    refs: u32,
+    words: u32,
+) -> Answer
+    ensures { AnswersSeat (seat_in seat.old) mutator (commands.New dst (shapes.Plain refs words))
+        (seat_in seat.new) result }
+{
+    let shape = Shape::Plain { refs, words };
+    seat.answer(mutator, Command::New { dst, shape })
+}
+
+/// A new array of reference cells, into slot dst.
+#[unsafe(no_mangle)]
+pub extern "C" fn metronome_seat_new_refs(
+    seat: &mut MetronomeSeat,
+    mutator: u32,
+    dst: u32,
+    refs: u32,
+) -> Answer
+    ensures { AnswersSeat (seat_in seat.old) mutator (commands.New dst (shapes.RefArray refs))
+        (seat_in seat.new) result }
+{
+    let shape = Shape::RefArray(refs);
+    seat.answer(mutator, Command::New { dst, shape })
+}
+
+/// A new array of word cells, into slot dst.
+#[unsafe(no_mangle)]
+pub extern "C" fn metronome_seat_new_words(
+    seat: &mut MetronomeSeat,
+    mutator: u32,
+    dst: u32,
+    words: u32,
+) -> Answer
+    ensures { AnswersSeat (seat_in seat.old) mutator (commands.New dst (shapes.WordArray words))
+        (seat_in seat.new) result }
+{
+    let shape = Shape::WordArray(words);
+    seat.answer(mutator, Command::New { dst, shape })
+}
+
+/// What a reference cell holds into slot dst.
+#[unsafe(no_mangle)]
+pub extern "C" fn metronome_seat_load(
+    seat: &mut MetronomeSeat,
+    mutator: u32,
+    dst: u32,
+    obj: u32,
+    i: u32,
+) -> Answer
+    ensures { AnswersSeat (seat_in seat.old) mutator (commands.Load dst obj i) (seat_in seat.new) result }
+{
+    seat.answer(mutator, Command::Load { dst, obj, i })
+}
+
+/// What slot src holds into a reference cell.
+#[unsafe(no_mangle)]
+pub extern "C" fn metronome_seat_store(
+    seat: &mut MetronomeSeat,
+    mutator: u32,
+    obj: u32,
+    i: u32,
+    src: u32,
+) -> Answer
+    ensures { AnswersSeat (seat_in seat.old) mutator (commands.Store obj i src) (seat_in seat.new) result }
+{
+    seat.answer(mutator, Command::Store { obj, i, src })
+}
+
+/// What slot new holds into a reference cell, if that holds what slot expect does.
+#[unsafe(no_mangle)]
+pub extern "C" fn metronome_seat_compare_store(
+    seat: &mut MetronomeSeat,
+    mutator: u32,
+    obj: u32,
+    i: u32,
+    expect: u32,
+    new: u32,
+) -> Answer
+    ensures { AnswersSeat (seat_in seat.old) mutator (commands.CompareStore obj i expect new)
+        (seat_in seat.new) result }
+{
+    let command = Command::CompareStore {
+        obj,
+        i,
+        expect,
+        new,
+    };
+    seat.answer(mutator, command)
+}
+
+/// Reads a word cell.
+#[unsafe(no_mangle)]
+pub extern "C" fn metronome_seat_get(
+    seat: &mut MetronomeSeat,
+    mutator: u32,
+    obj: u32,
+    i: u32,
+) -> Answer
+    ensures { AnswersSeat (seat_in seat.old) mutator (commands.Get obj i) (seat_in seat.new) result }
+{
+    seat.answer(mutator, Command::Get { obj, i })
+}
+
+/// Writes a word cell.
+#[unsafe(no_mangle)]
+pub extern "C" fn metronome_seat_put(
+    seat: &mut MetronomeSeat,
+    mutator: u32,
+    obj: u32,
+    i: u32,
+    word: u64,
+) -> Answer
+    ensures { AnswersSeat (seat_in seat.old) mutator (commands.Put obj i word) (seat_in seat.new) result }
+{
+    seat.answer(mutator, Command::Put { obj, i, word })
+}
+
+/// Writes a word cell, if that is old.
+#[unsafe(no_mangle)]
+pub extern "C" fn metronome_seat_compare_put(
+    seat: &mut MetronomeSeat,
+    mutator: u32,
+    obj: u32,
+    i: u32,
+    old: u64,
+    new: u64,
+) -> Answer
+    ensures { AnswersSeat (seat_in seat.old) mutator (commands.ComparePut obj i old new) (seat_in seat.new) result }
+{
+    seat.answer(mutator, Command::ComparePut { obj, i, old, new })
+}
+
+/// What slot src holds into slot dst.
+#[unsafe(no_mangle)]
+pub extern "C" fn metronome_seat_copy(
+    seat: &mut MetronomeSeat,
+    mutator: u32,
+    dst: u32,
+    src: u32,
+) -> Answer
+    ensures { AnswersSeat (seat_in seat.old) mutator (commands.Copy dst src) (seat_in seat.new) result }
+{
+    seat.answer(mutator, Command::Copy { dst, src })
+}
+
+/// Null into slot dst.
+#[unsafe(no_mangle)]
+pub extern "C" fn metronome_seat_clear(seat: &mut MetronomeSeat, mutator: u32, dst: u32) -> Answer
+    ensures { AnswersSeat (seat_in seat.old) mutator (commands.Clear dst) (seat_in seat.new) result }
+{
+    seat.answer(mutator, Command::Clear { dst })
+}
+
+/// What static k holds into slot dst.
+#[unsafe(no_mangle)]
+pub extern "C" fn metronome_seat_load_static(
+    seat: &mut MetronomeSeat,
+    mutator: u32,
+    dst: u32,
+    k: u32,
+) -> Answer
+    ensures { AnswersSeat (seat_in seat.old) mutator (commands.LoadStatic dst k) (seat_in seat.new) result }
+{
+    seat.answer(mutator, Command::LoadStatic { dst, k })
+}
+
+/// What slot src holds into static k.
+#[unsafe(no_mangle)]
+pub extern "C" fn metronome_seat_store_static(
+    seat: &mut MetronomeSeat,
+    mutator: u32,
+    k: u32,
+    src: u32,
+) -> Answer
+    ensures { AnswersSeat (seat_in seat.old) mutator (commands.StoreStatic k src) (seat_in seat.new) result }
+{
+    seat.answer(mutator, Command::StoreStatic { k, src })
+}
+
+/// What slot new holds into static k, if that holds what slot expect does.
+#[unsafe(no_mangle)]
+pub extern "C" fn metronome_seat_compare_static(
+    seat: &mut MetronomeSeat,
+    mutator: u32,
+    k: u32,
+    expect: u32,
+    new: u32,
+) -> Answer
+    ensures { AnswersSeat (seat_in seat.old) mutator (commands.CompareStatic k expect new) (seat_in seat.new) result }
+{
+    seat.answer(mutator, Command::CompareStatic { k, expect, new })
+}
+
+/// Whether slots a and b hold the same object, or both null.
+#[unsafe(no_mangle)]
+pub extern "C" fn metronome_seat_same(
+    seat: &mut MetronomeSeat,
+    mutator: u32,
+    a: u32,
+    b: u32,
+) -> Answer
+    ensures { AnswersSeat (seat_in seat.old) mutator (commands.Same a b) (seat_in seat.new) result }
+{
+    seat.answer(mutator, Command::Same { a, b })
+}
+
+/// The identity of slot a's object, and its shape.
+#[unsafe(no_mangle)]
+pub extern "C" fn metronome_seat_describe(
+    seat: &mut MetronomeSeat,
+    mutator: u32,
+    a: u32,
+    shape: &mut MetronomeShape,
+) -> Answer
+    ensures { ShapesSeat (seat_in seat.old) mutator (commands.Describe a)
+        (seat_in seat.new) shape.old (result, shape.new) }
+{
+    seat.answer_with_shape(mutator, Command::Describe { a }, shape)
+}
+
+/// The mutator becomes live.
+#[unsafe(no_mangle)]
+pub extern "C" fn metronome_seat_join(seat: &mut MetronomeSeat, mutator: u32) -> Answer
+    ensures { AnswersSeat (seat_in seat.old) mutator commands.Join (seat_in seat.new) result }
+{
+    seat.answer(mutator, Command::Join)
+}
+
+/// Null into each slot of the mutator, which is live no more.
+#[unsafe(no_mangle)]
+pub extern "C" fn metronome_seat_retire(seat: &mut MetronomeSeat, mutator: u32) -> Answer
+    ensures { AnswersSeat (seat_in seat.old) mutator commands.Leave (seat_in seat.new) result }
+{
+    seat.answer(mutator, Command::Leave)
+}

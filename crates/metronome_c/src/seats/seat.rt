@@ -1,0 +1,166 @@
+//! What a thread of C holds: a seat at a heap that threads share, or none.
+ghost use Rattle.std.specs.Prelude.{◌≡◌, ◌==◌, Some, None, IsSome};
+ghost use Rattle.std.specs.Option.{is_some};
+ghost use Rattle.std.specs.Fn.{FnOnceReturnsAt, FnOnceReturnsAtMut};
+ghost use Rattle.heap_shared.specs.Members.{Finds};
+ghost use Rattle.metronome_c.specs.Asking.{Asks};
+ghost use Rattle.metronome_c.specs.Seats.{AsksSeat, DoesSeat, AnswersSeat, ShapesSeat, told_or};
+ghost use Rattle.metronome_c.specs.declared.seats.seat.TheConstants.{SEAT_CHECK_WORD};
+ghost use Rattle.metronome_c.specs.declared.status.Status.TheVariants.{Outside};
+
+use crate::answer::{Answer, MetronomeShape};
+use crate::handle::Loose;
+use crate::seats::handle::SeatHandle;
+use crate::status::Status;
+use graph_heap::{Command, Reply};
+use heap_shared::Member;
+use machine::Heap;
+use std::alloc::Global;
+use std::mem::replace;
+
+/// The check word of a handle that holds a seat. That of a closed one is 0, and a struct with another one is no seat's
+/// handle.
+const SEAT_CHECK_WORD: u64 = 5_567_949_226_874_585_428;
+
+/// What a thread of C holds: a seat at a heap, or none. All zeros hold none.
+#[repr(C)]
+#[derive(Drop)]
+pub struct MetronomeSeat {
+    pub handle: SeatHandle,
+    pub(super) alloc: Global,
+    pub check: u64,
+    ghost tied: { (check == SEAT_CHECK_WORD) ≡ is_some handle.value },
+}
+
+impl MetronomeSeat {
+    ghost use Rattle.metronome_c.specs.Opened.{absence, seat_in};
+
+    /// No seat.
+    pub(super) fn closed(alloc: Global) -> MetronomeSeat
+        ensures value { result.handle.value ≡ None }
+        ensures check { result.check ≡ 0 }
+    {
+        MetronomeSeat {
+            handle: SeatHandle::empty(alloc),
+            alloc,
+            check: 0,
+        }
+    }
+
+    /// Whether it holds a seat.
+    #[inline(always)]
+    pub(super) fn is_open(&self) -> bool
+        ensures { result ≡ is_some self.now.handle.value }
+    {
+        self.check == SEAT_CHECK_WORD
+    }
+
+    /// Whether its check word is that of a closed handle.
+    pub(super) fn is_closed(&self) -> bool
+        ensures { result ≡ (self.now.check == 0) }
+    {
+        self.check == 0
+    }
+
+    /// Why it holds no seat, where it holds none.
+    pub(super) fn why_empty(&self) -> Status
+        ensures { result ≡ absence (self.now.check == 0) }
+    {
+        if self.check == 0 {
+            Status::Closed
+        } else {
+            Status::BadHandle
+        }
+    }
+
+    /// Holds this member.
+    pub(super) fn put(&mut self, member: Box<Member>)
+        ensures { self.new.handle.value ≡ Some member.value }
+    {
+        *self = MetronomeSeat {
+            handle: SeatHandle::shut(Loose::from_box(member)),
+            alloc: self.alloc,
+            check: SEAT_CHECK_WORD,
+        };
+    }
+
+    /// The member. None is left.
+    pub(super) fn take(&mut self) -> Box<Member>
+        requires { IsSome self.old.handle.value }
+        ensures value { self.old.handle.value ≡ Some result.value }
+        ensures left { self.new.handle.value ≡ None }
+        ensures check { self.new.check ≡ 0 }
+    {
+        let closed = MetronomeSeat::closed(self.alloc);
+        let MetronomeSeat { handle, .. } = replace(self, closed);
+        handle.open().into_box()
+    }
+
+    /// Asks the member, if there is one.
+    #[inline(always)]
+    pub(super) fn ask<T, F: FnOnce(&mut Member) -> T + Drop>(
+        &mut self,
+        call: F,
+    ) -> Result<T, Status>
+        requires { F.IsAlwaysCallable call }
+        ensures { Asks (FnOnceReturnsAtMut F.FnOnce call) (seat_in self.old) result (seat_in self.new) }
+    {
+        if !self.is_open() {
+            return Err(self.why_empty());
+        }
+        Ok(call(self.handle.lend()))
+    }
+
+    /// What is found of the heap, if there is a seat that has the turn.
+    pub(super) fn inspect<T, F: FnOnce(&Heap) -> T + Drop>(&mut self, look: F) -> Result<T, Status>
+        requires { F.IsAlwaysCallable look }
+        ensures { AsksSeat (Finds (FnOnceReturnsAt F.FnOnce look)) (told_or Outside) (seat_in self.old)
+            (seat_in self.new)
+            (λ told. result ≡ told) }
+    {
+        if !self.is_open() {
+            return Err(self.why_empty());
+        }
+        match self.handle.lend().inspect(look) {
+            Some(found) => Ok(found),
+            None => Err(Status::Outside),
+        }
+    }
+
+    /// Does a command of a mutator, if there is a seat that may, and replies.
+    #[inline(always)]
+    fn call(&mut self, mutator: u32, command: Command) -> Result<Reply, Status>
+        ensures { DoesSeat (seat_in self.old) mutator command (seat_in self.new) (λ told. result ≡ told) }
+    {
+        if !self.is_open() {
+            return Err(self.why_empty());
+        }
+        match self.handle.lend().call(mutator, command) {
+            Ok(reply) => Ok(reply),
+            Err(why) => Err(Status::of_not_done(why)),
+        }
+    }
+
+    /// The same, and tells the reply.
+    #[inline(always)]
+    pub(super) fn answer(&mut self, mutator: u32, command: Command) -> Answer
+        ensures { AnswersSeat (seat_in self.old) mutator command (seat_in self.new) result }
+    {
+        Answer::from_outcome(self.call(mutator, command))
+    }
+
+    /// The same, and tells the shape that the reply tells.
+    #[inline(always)]
+    pub(super) fn answer_with_shape(
+        &mut self,
+        mutator: u32,
+        command: Command,
+        shape: &mut MetronomeShape,
+    ) -> Answer
+        ensures { ShapesSeat (seat_in self.old) mutator command (seat_in self.new) shape.old (result, shape.new) }
+    {
+        let reply = self.call(mutator, command);
+        *shape = shape.told_by(reply);
+        Answer::from_outcome(reply)
+    }
+}

@@ -1,8 +1,7 @@
 -- A seat's machine value is the same whatever table it is at, so what the first of two owns may go with the value of the second.
-use Rattle.atomic_table.proofs.Names.{◌≡◌, List, [], ◌∷◌, ◌++◌, refl, Val, vstruct, of_list, SProp, ent, emp, ‵, raw, ◌⊛◌, ◌$◌, ◌∵◌, !, qed, by, move, keep, split, fsplit3, fjoin, fjoin3, fpack, use0, feq_i, no_more, and_then, returns, enter, alloc_all, pass_all, free_all, look_at, get, sets, of_opd, agg, tables, yes, RattleType, owns, Valss, types_at, plain, nothing, alive, on_entry, Stays, stay_dropped, walk_of, Goes-dropped, fact, fact_i, fsep}
+use Rattle.atomic_table.proofs.Names.{◌≡◌, List, [], ◌∷◌, ◌++◌, refl, Val, vstruct, of_list, SProp, emp, ‵, raw, ◌⊛◌, ◌$◌, ◌∵◌, !, qed, by, move, keep, split, fsplit3, fjoin, fjoin3, fpack, use0, feq_i, no_more, and_then, returns, enter, alloc_all, pass_all, free_all, look_at, get, sets, of_opd, agg, tables, yes, RattleType, owns, Valss, types_at, plain, nothing, alive, Stays, stay_dropped, walk_of, Goes-dropped, fact, fact_i, fsep}
 use Rattle.std.proofs.Common.{◌≢◌, ◌⊎◌, inl, inr, ⊎_elim}
 use Rattle.atomic_table.proofs.Walks.{proved, leaves}
-use Rattle.atomic_table.specs.Seated.{TableId}
 use Rattle.atomic_table.specs.contracts.shared.Seat as seat
 use Rattle.atomic_table.proofs.Fields.{token_val, token_told, pair_of}
 use Rattle.heap_shared.specs.contracts.rule.Known as known

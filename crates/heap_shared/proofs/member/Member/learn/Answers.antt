@@ -1,4 +1,4 @@
-use Rattle.std.proofs.Common.{◌≡◌, ◌<◌, ◌⊎◌, ⊎_elim, [], refl, sym, ap, ◌∙◌, subst, arith}
+use Rattle.std.proofs.Common.{◌≡◌, ◌<◌, ⊎_elim, [], sym, ap, ◌∙◌, subst, arith}
 use Rattle.heap_shared.specs.Members.{MemberView}
 use Rattle.heap_shared.proofs.Splitting.{spares, learns}
 use Rattle.heap_shared.proofs.Members.{empty_handed, left_none}

@@ -1,4 +1,4 @@
-use Rattle.std.proofs.Common.{rules, ◌≡◌}
+use Rattle.std.proofs.Common.{rules}
 use Rattle.metronome_c.specs.Figures.{IsTold}
 use Rattle.metronome_c.specs.Seats.{spent_told}
 use Rattle.metronome_c.proofs.Asking.{asks_so}

@@ -5,7 +5,7 @@ use Rattle.settings.specs.declared.ranges.Ranges.TheVariants.{Library}
 use Rattle.settings.specs.Config.{fault_of}
 use Rattle.metronome_c.specs.Seats.{IsNewSeat}
 use Rattle.metronome_c.specs.Status.{status_number}
-use Rattle.metronome_c.proofs.Making.{creates_none, creates_unmade, creates_one, creates_open, creates_bad}
+use Rattle.metronome_c.proofs.Making.{creates_none, creates_one, creates_open, creates_bad}
 use Rattle.metronome_c.proofs.seats.lifetime.create.Goals as goal
 
 pub returns-then-is_open : goal.returns-then-is_open

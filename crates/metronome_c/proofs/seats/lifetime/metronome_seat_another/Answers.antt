@@ -1,7 +1,4 @@
-use Rattle.std.proofs.Common.{rules, ◌∙◌, sym, ap, subst, refl}
-use Rattle.std.specs.Prelude.{Result, Ok, Err, MatchResult}
-use Rattle.heap_shared.specs.Members.{Adds}
-use Rattle.metronome_c.specs.Status.{status_number}
+use Rattle.std.proofs.Common.{rules, ◌∙◌, sym, refl}
 use Rattle.metronome_c.proofs.Seating.{adds_absent, adds_open, adds_bad, adds_done, adds_refused}
 use Rattle.metronome_c.proofs.seats.lifetime.metronome_seat_another.Goals as goal
 

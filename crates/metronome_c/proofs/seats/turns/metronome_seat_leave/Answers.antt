@@ -1,6 +1,6 @@
 use Rattle.std.proofs.Common.{rules, ◌≡◌}
-use Rattle.metronome_c.specs.Seats.{status_of, told_by, left_told}
-use Rattle.metronome_c.specs.Status.{status_number, no_turn_status}
+use Rattle.metronome_c.specs.Seats.{status_of, left_told}
+use Rattle.metronome_c.specs.Status.{status_number}
 use Rattle.metronome_c.proofs.Asking.{asks_so}
 use Rattle.metronome_c.proofs.Seating.{asks_seat}
 use Rattle.metronome_c.proofs.seats.turns.metronome_seat_leave.Goals as goal

@@ -1,11 +1,9 @@
-use Rattle.std.proofs.Common.{rules, ◌≡◌, subst}
-use Rattle.std.specs.Prelude.{Result}
-use Rattle.metronome_c.specs.declared.status.Status.{Status}
+use Rattle.std.proofs.Common.{rules}
 use Rattle.metronome_c.specs.declared.status.Status.TheVariants.{Inside}
 use Rattle.metronome_c.specs.Figures.{IsTold}
 use Rattle.metronome_c.specs.Seats.{told_or}
 use Rattle.metronome_c.proofs.Asking.{asks_so}
-use Rattle.metronome_c.proofs.Seating.{asks_seat, told_of}
+use Rattle.metronome_c.proofs.Seating.{asks_seat}
 use Rattle.metronome_c.proofs.seats.turns.metronome_seat_place.Goals as goal
 
 pub returns : goal.returns

@@ -4,7 +4,7 @@
  * threads contend less. The calls are of the library of metronome.h, which this header includes.
  *
  * No call waits. Where another seat has the turn, TAKEN says so, and nothing has changed. How a thread waits is the program's: at
- * a gate, by metronome_gate_enter and metronome_gate_leave of metronome_gate.h, which this header includes unless
+ * a gate, by metronome_gate_enter and metronome_gate_leave of metronome_over_seats.h, which this header includes unless
  * METRONOME_CALLS_ALONE is defined; or at a mutex of its own, held from before metronome_seat_enter until after
  * metronome_seat_leave. A thread that forgets to wait is told TAKEN, or OUTSIDE, and the heap stays whole.
  *
@@ -145,7 +145,7 @@ uint32_t metronome_seat_page(metronome_seat *seat, size_t number, metronome_page
 #endif
 
 #ifndef METRONOME_CALLS_ALONE
-#include "metronome_gate.h"
+#include "metronome_over_seats.h"
 #endif
 
 #endif

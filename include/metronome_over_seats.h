@@ -39,7 +39,8 @@ void __tsan_release(void *at);
 /* ---- A gate ---- */
 
 /* A gate, at which threads wait for the turn of one heap. Each thread that takes turns there goes through it. All zeros at first,
- * as METRONOME_GATE; its fields belong to the calls below. It stays where it is as long as a thread uses it. */
+ * as METRONOME_GATE; its fields belong to the calls below. It stays where it is as long as a thread uses it, best on a cache line
+ * that nothing else is written on. */
 typedef struct metronome_gate {
     uint32_t waiting; /* how many threads wait, or are about to */
     uint32_t asleep;  /* 1 where one of these may be asleep that nobody is about to wake */

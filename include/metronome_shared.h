@@ -24,7 +24,8 @@
  * is answered with BAD_HANDLE, unless it has by chance the one value that the library leaves in an open one.
  *
  * MEMORY of a heap comes from malloc by metronome_seat_create, and goes back when its last seat is destroyed. That of a seat, a
- * few hundred bytes, comes when it is made. No other call asks for any.
+ * few hundred bytes, comes when it is made. No other call asks for any. A page is cleared when an object is first made on it: no
+ * call on a seat does what metronome_touch does.
  *
  * docs/EMBEDDING.md says what is proved of each function. Of what is `static inline` here nothing is: it is only tested. Calls on
  * seats aren't recorded (metronome_record.h).

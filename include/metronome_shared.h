@@ -4,7 +4,7 @@
  * threads contend less. The calls are of the library of metronome.h, which this header includes.
  *
  * No call waits. Where another seat has the turn, TAKEN says so, and nothing has changed. How a thread waits is the program's: at
- * a gate, by metronome_gate_enter and metronome_gate_leave of metronome_gate.h, which this header includes unless
+ * a gate, by metronome_gate_enter and metronome_gate_leave of metronome_over_seats.h, which this header includes unless
  * METRONOME_CALLS_ALONE is defined; or at a mutex of its own, held from before metronome_seat_enter until after
  * metronome_seat_leave. A thread that forgets to wait is told TAKEN, or OUTSIDE, and the heap stays whole.
  *
@@ -24,7 +24,8 @@
  * is answered with BAD_HANDLE, unless it has by chance the one value that the library leaves in an open one.
  *
  * MEMORY of a heap comes from malloc by metronome_seat_create, and goes back when its last seat is destroyed. That of a seat, a
- * few hundred bytes, comes when it is made. No other call asks for any.
+ * few hundred bytes, comes when it is made. No other call asks for any. A page is cleared when an object is first made on it: no
+ * call on a seat does what metronome_touch does.
  *
  * docs/EMBEDDING.md says what is proved of each function. Of what is `static inline` here nothing is: it is only tested. Calls on
  * seats aren't recorded (metronome_record.h).
@@ -145,7 +146,7 @@ uint32_t metronome_seat_page(metronome_seat *seat, size_t number, metronome_page
 #endif
 
 #ifndef METRONOME_CALLS_ALONE
-#include "metronome_gate.h"
+#include "metronome_over_seats.h"
 #endif
 
 #endif

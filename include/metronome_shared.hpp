@@ -117,6 +117,11 @@ public:
         return metronome_seat_quantum(seat, budget, &spent);
     }
 
+    std::uint32_t try_whole_cycle(std::uint32_t budget) noexcept { return metronome_seat_whole_cycle(seat, budget); }
+    std::uint32_t try_pace(metronome_pacing &pacing, std::uint64_t words) noexcept {
+        return metronome_seat_pace(seat, &pacing, words);
+    }
+
     std::uint32_t try_phase(std::uint32_t &phase) noexcept { return metronome_seat_phase(seat, &phase); }
     std::uint32_t try_units(std::uint64_t &units) noexcept { return metronome_seat_units(seat, &units); }
     std::uint32_t try_free_pages(std::uint64_t &pages) noexcept { return metronome_seat_free_pages(seat, &pages); }
@@ -148,6 +153,8 @@ public:
         detail::need(try_quantum(budget, spent));
         return spent;
     }
+    void whole_cycle(std::uint32_t budget) { detail::need(try_whole_cycle(budget)); }
+    void pace(metronome_pacing &pacing, std::uint64_t words) { detail::need(try_pace(pacing, words)); }
 
     std::uint32_t phase() {
         std::uint32_t phase = METRONOME_IDLE;

@@ -54,10 +54,10 @@ pub struct Spent {
 /// A pace of the collector: as `metronome_pacing` of metronome_over_calls.h, which says how to choose its numbers.
 #[derive(Clone, Copy, Debug, PartialEq, Eq)]
 pub struct Pacing {
-    begin_below: u64,
-    words: u64,
-    budget: u32,
-    owed: u64,
+    pub(crate) begin_below: u64,
+    pub(crate) words: u64,
+    pub(crate) budget: u32,
+    pub(crate) owed: u64,
 }
 
 impl Pacing {

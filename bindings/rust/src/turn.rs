@@ -3,8 +3,8 @@ use std::fmt;
 use std::sync::MutexGuard;
 
 use crate::calls::{self, done, Answer, Counts, Page, SeatHandle, ShapeTold, SpentTold};
-use crate::heap::{Phase, Spent};
-use crate::refusal::Result;
+use crate::heap::{Pacing, Phase, Spent};
+use crate::refusal::{Refusal, Result};
 use crate::root::{Compared, Description, Shape};
 
 /// The turn of a seat at a shared heap: until it is dropped no other seat's calls come between. It calls for the seat's mutators,
@@ -168,6 +168,38 @@ impl<'s> Turn<'s> {
         // SAFETY: as above, and `told` lives through the call.
         done(unsafe { calls::metronome_seat_quantum(self.seat, budget, &mut told) })?;
         Ok(Spent { units: told.units, phase: Phase::of(told.phase) })
+    }
+
+    /// Goes through two cycles, one that is running among them, in quanta of `budget` units: what nothing leads to is freed then.
+    /// All other seats wait meanwhile. Refused: `BadBudget`.
+    pub fn whole_cycle(&mut self, budget: u32) -> Result<()> {
+        let mut ends = 0;
+        while ends < 2 {
+            self.begin();
+            ends += u32::from(self.quantum(budget)?.phase == Phase::Idle);
+        }
+        Ok(())
+    }
+
+    /// Tells the pace that `words` words are about to be made, as [`crate::Heap::pace`]. Threads at one heap have one pace, behind a
+    /// lock of their own, which is taken in a turn alone, or each has one for what it makes itself. Refused: `BadBudget`.
+    pub fn pace(&mut self, pacing: &mut Pacing, words: u64) -> Result<()> {
+        if pacing.words == 0 {
+            return Err(Refusal::BadBudget);
+        }
+        pacing.owed += words;
+        while pacing.owed >= pacing.words {
+            if self.phase() == Phase::Idle {
+                if self.free_pages() >= pacing.begin_below {
+                    pacing.owed %= pacing.words;
+                    return Ok(());
+                }
+                self.begin();
+            }
+            self.quantum(pacing.budget)?;
+            pacing.owed -= pacing.words;
+        }
+        Ok(())
     }
 
     /// The phase of the collector.

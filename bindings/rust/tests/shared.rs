@@ -3,7 +3,7 @@ use std::panic::{catch_unwind, AssertUnwindSafe};
 use std::sync::mpsc;
 use std::thread;
 
-use metronome::{Compared, Description, Page, Phase, Refusal, Result, Seat, Settings, Shape, Shared};
+use metronome::{Compared, Description, Pacing, Page, Phase, Refusal, Result, Seat, Settings, Shape, Shared};
 
 /// Four mutators of four slots, and one static.
 const SMALL: Settings = Settings { statics: 1, ..Settings::new(16, 4, 4) };
@@ -96,6 +96,24 @@ fn cycles_go_by_quanta() -> Result<()> {
     let spent = turn.quantum(256)?;
     assert!(spent.units > 0 && u64::from(spent.units) == turn.units() && spent.phase == turn.phase());
     assert_eq!((turn.count().objects, turn.page(0)), (0, Page::default()));
+    Ok(())
+}
+
+#[test]
+fn nothing_is_refused_at_a_pace() -> Result<()> {
+    let shared = Shared::new(&SMALL)?;
+    let mut pacing = Pacing::new(16, (1000 - 255) / 20, 1000);
+    let mut seat = shared.seat(0)?;
+    for _ in 0..20_000 {
+        let mut turn = seat.enter();
+        turn.pace(&mut pacing, 6)?;
+        turn.new_plain(0, 0, 1, 1)?;
+    }
+    let mut turn = seat.enter();
+    assert_eq!(turn.pace(&mut Pacing::new(16, 0, 1000), 6).err(), Some(Refusal::BadBudget));
+    turn.clear(0, 0)?;
+    turn.whole_cycle(1000)?;
+    assert_eq!((turn.free_pages(), turn.phase()), (16, Phase::Idle));
     Ok(())
 }
 

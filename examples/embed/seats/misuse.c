@@ -53,12 +53,16 @@ static int refused_commands(metronome_seat *s, uint32_t m, uint32_t status, stru
     return refused;
 }
 
-/* How many of the other calls in a turn tell a status: they are 7. A budget out of its range isn't looked at before. */
+/* How many of the other calls in a turn tell a status: they are 8. A budget out of its range isn't looked at before. */
 static int refused_calls(metronome_seat *s, uint32_t status, struct told *told) {
+    metronome_pacing pacing = METRONOME_PACING(1, 0, 1);
+    metronome_row row = METRONOME_ROW(0, 1, 2);
     return (metronome_seat_begin(s) == status) + (metronome_seat_quantum(s, 1, &told->spent) == status)
         + (metronome_seat_phase(s, &told->phase) == status) + (metronome_seat_units(s, &told->number) == status)
         + (metronome_seat_free_pages(s, &told->number) == status) + (metronome_seat_count(s, &told->counts) == status)
-        + (metronome_seat_page(s, 0, &told->page) == status);
+        + (metronome_seat_page(s, 0, &told->page) == status)
+        + (metronome_seat_pace(s, &pacing, 1) == status && metronome_seat_whole_cycle(s, 1) == status
+           && metronome_seat_close_frame(s, &row, 0) == status && pacing.owed == 0 && row.next == 1);
 }
 
 /* Every call of a turn tells a status, and nothing else, also of mutators that aren't the seat's, or that there aren't. */
@@ -67,7 +71,7 @@ static void no_turn(metronome_seat *s, uint32_t status) {
     memset(&told, 7, sizeof told);
     memset(&stood, 7, sizeof stood);
     check(refused_commands(s, 0, status, &told) == 18 && refused_commands(s, 64, status, &told) == 18, __LINE__);
-    check(refused_calls(s, status, &told) == 7, __LINE__);
+    check(refused_calls(s, status, &told) == 8, __LINE__);
     check(memcmp(&told, &stood, sizeof told) == 0, __LINE__);
     IS(status, metronome_seat_leave(s));
 }

@@ -79,6 +79,10 @@ static void check_turns() {
     std::uint64_t units = 0;
     IS(METRONOME_OK, turn->try_units(units));
     CHECK(units == spent.units);
+    metronome_pacing pacing = METRONOME_PACING(17, 10, 255);
+    IS(METRONOME_BAD_BUDGET, turn->try_pace(pacing, 10));
+    IS(METRONOME_BAD_BUDGET, turn->try_whole_cycle(255));
+    IS(METRONOME_OK, turn->try_whole_cycle(1000));
 }
 
 // What a mutator's thread does: it adds to a word of an object, two calls in a turn.
@@ -136,6 +140,10 @@ static void check_throwing() {
         turn.call(metronome_seat_clear, 0, 0);
         CHECK(turn.begin() && !turn.begin() && turn.quantum(256).units <= 256 && turn.phase() != METRONOME_MOVING);
         CHECK(turn.free_pages() == 16 && turn.count().objects == 0 && turn.page(0).size == 0 && turn.units() <= 256);
+        metronome_pacing pacing = METRONOME_PACING(17, 10, 256);
+        turn.pace(pacing, 25);
+        CHECK(pacing.owed == 5);
+        turn.whole_cycle(1000);
         turn.call(metronome_seat_clear, 2, 0);
     } catch (const Refusal &refusal) {
         status = refusal.status();

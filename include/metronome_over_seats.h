@@ -1,10 +1,12 @@
 /*
- * metronome_gate.h: where threads wait for the turn at a shared heap, as plain C over the calls of metronome_shared.h, which
- * includes it. Of it nothing is proved. It needs gcc, clang, or another compiler that has their atomic operations.
+ * metronome_over_seats.h: a gate, where threads wait for the turn of a shared heap, and frames and a pace in a turn, as plain C
+ * over the calls of metronome_shared.h, which includes it. Of it nothing is proved. It needs gcc, clang, or another compiler that
+ * has their atomic operations.
  */
-#ifndef METRONOME_GATE_H
-#define METRONOME_GATE_H
+#ifndef METRONOME_OVER_SEATS_H
+#define METRONOME_OVER_SEATS_H
 
+#include "metronome_over_calls.h"
 #include "metronome_shared.h"
 
 #ifdef __linux__
@@ -34,8 +36,11 @@ void __tsan_acquire(void *at);
 void __tsan_release(void *at);
 #endif
 
+/* ---- A gate ---- */
+
 /* A gate, at which threads wait for the turn of one heap. Each thread that takes turns there goes through it. All zeros at first,
- * as METRONOME_GATE; its fields belong to the calls below. It stays where it is as long as a thread uses it. */
+ * as METRONOME_GATE; its fields belong to the calls below. It stays where it is as long as a thread uses it, best on a cache line
+ * that nothing else is written on. */
 typedef struct metronome_gate {
     uint32_t waiting; /* how many threads wait, or are about to */
     uint32_t asleep;  /* 1 where one of these may be asleep that nobody is about to wake */
@@ -118,6 +123,52 @@ METRONOME_NONNULL static inline uint32_t metronome_gate_leave(metronome_gate *ga
     uint32_t status = metronome_seat_leave(seat);
     metronome_gate_wake(gate);
     return status;
+}
+
+/* ---- In a turn: what metronome_over_calls.h has for a heap. A row and its frames are of a mutator of the seat's ---- */
+
+/* As metronome_close_frame. OK; OUTSIDE, NOT_YOURS, NOT_LIVE, NO_HEAP, BAD_SLOT. */
+METRONOME_NONNULL static inline uint32_t metronome_seat_close_frame(metronome_seat *seat, metronome_row *row,
+                                                                    metronome_frame frame) {
+    while (row->next > frame) {
+        metronome_answer answer = metronome_seat_clear(seat, row->mutator, row->next - 1);
+        if (answer.kind == METRONOME_REFUSED) return (uint32_t)answer.number;
+        row->next--;
+    }
+    return METRONOME_OK;
+}
+
+/* As metronome_whole_cycle. All others wait meanwhile. OK, BAD_BUDGET, OUTSIDE, NO_HEAP. */
+METRONOME_NONNULL static inline uint32_t metronome_seat_whole_cycle(metronome_seat *seat, uint32_t budget) {
+    metronome_spent spent = { 0, METRONOME_IDLE };
+    uint32_t status = METRONOME_OK;
+    for (int ends = 0; ends < 2 && status == METRONOME_OK; ends += spent.phase == METRONOME_IDLE) {
+        status = metronome_seat_begin(seat);
+        if (status == METRONOME_OK || status == METRONOME_BUSY) status = metronome_seat_quantum(seat, budget, &spent);
+    }
+    return status;
+}
+
+/* As metronome_pace, which says how to choose the numbers. One pacing serves all seats of a heap: it is used in turns alone, and
+ * counts what all of them make. OK; BAD_BUDGET, OUTSIDE, NO_HEAP. */
+METRONOME_NONNULL static inline uint32_t metronome_seat_pace(metronome_seat *seat, metronome_pacing *pacing, uint64_t words) {
+    uint32_t phase = METRONOME_IDLE, status = metronome_seat_phase(seat, &phase);
+    if (status != METRONOME_OK) return status;
+    if (pacing->words == 0) return METRONOME_BAD_BUDGET;
+    for (pacing->owed += words; pacing->owed >= pacing->words; pacing->owed -= pacing->words) {
+        metronome_spent spent;
+        uint64_t free_pages = 0;
+        metronome_seat_phase(seat, &phase);
+        metronome_seat_free_pages(seat, &free_pages);
+        if (phase == METRONOME_IDLE && free_pages >= pacing->begin_below) {
+            pacing->owed %= pacing->words;
+            return METRONOME_OK;
+        }
+        if (phase == METRONOME_IDLE) metronome_seat_begin(seat);
+        status = metronome_seat_quantum(seat, pacing->budget, &spent);
+        if (status != METRONOME_OK) return status;
+    }
+    return METRONOME_OK;
 }
 
 #ifdef __cplusplus

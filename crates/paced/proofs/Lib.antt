@@ -1,6 +1,6 @@
 pub mod Paths
-pub mod Leave
 pub mod Pieces
 pub mod Running
+pub mod Keeping
 pub mod Opened
 pub mod Planning

@@ -22,6 +22,7 @@ use Rattle.paced.specs.declared.plan.Plan.{Plan}
 use Rattle.paced.specs.Pacing.{Counts, PacedState, Path, KeepsPlan}
 use Rattle.paced.specs.Rooms.{planned_flow, IsJustPaced, FindsRoom}
 use Rattle.paced.proofs.Running.{burst_flow, IsKept, follows}
+use Rattle.paced.proofs.Keeping.{IsStrict, keeps_flow}
 
 module _ (live quanta : ℕ) (plan : Plan) where
   abbrev flow : Flow
@@ -77,6 +78,12 @@ module _ (config : Config) (plan : Plan) (live : ℕ) (old new : PacedState) (es
       none : old.counts.words ≡ 0
       none = ap (λ (z : Counts). z.words) o.counts
 
+  strict : IsStrict h plan live k great old (opening_meter h.limits)
+  strict = record {
+    fewer = (let q : old.counts.quanta ≡ 0 = ap (λ (z : Counts). z.quanta) o.counts in omega (arith, q));
+    allowed = λ at. absurd (cc);
+  }
+
   gathers : MovesAll config → GathersAll h
   gathers m = record {
     always = (let a = m.always in let e = same_limit config h o.heap o.settings in let p = same_pages config h o.heap o.settings in omega (arith, a, e, p));
@@ -105,6 +112,8 @@ module _ (config : Config) (plan : Plan) (live : ℕ) (old new : PacedState) (es
         course = x.course;
         heap = x.heap;
         runs = x.runs;
+        paces = λ budgets. subst (λ (l : Limits). AllMetered (Paces (planned_flow live plan) k) (opening_meter l) es) limits
+            (keeps_flow h plan live k great es (opened h) old new (opening_meter h.limits) kept strict p budgets);
         room = λ lives. all_have_room es (opened h) x.course x.runs
             (flow_suffices h es x.course (burst_flow live plan most) 1 (omega arith) o.heap some (gathers moves) x.runs
             (keeps_both live most plan es (opening_meter h.limits) x.paces (subst (λ (l : Limits). AllMetered (LivesIn (planned_flow live plan)) (opening_meter l) es) (sym limits) lives)) (fits f));

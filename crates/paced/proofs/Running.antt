@@ -54,7 +54,7 @@ is_less a b e = grind (arith, nat_tests)
 not_true : (b : Bool) → b ≡ true → b ≡ false → ⊥
 not_true b p q = cc
 
-awaits_runs : (p : Phase) → awaits_sweep_end p ≡ true → in_cycle p ≡ true
+pub awaits_runs : (p : Phase) → awaits_sweep_end p ≡ true → in_cycle p ≡ true
 awaits_runs phases.Idle a = absurd (cc)
 awaits_runs (phases.Roots next) a = refl
 awaits_runs (phases.Marking part cell) a = refl
@@ -258,7 +258,7 @@ module _ (h : HeapState) (plan : Plan) (live k : ℕ) (great : 0 < k) where
         both : (a b : HeapState) (p q : Counts) → a ≡ b → p ≡ q → (let x : PacedState = record { heap = a; counts = p } in let y : PacedState = record { heap = b; counts = q } in x ≡ y)
         both a b p q e f = ap (λ z. record { heap = z; counts = p }) e ∙ ap (λ z. record { heap = b; counts = z }) f
 
-  goes : (e : Event) (r : Course) (v new : PacedState) (t : FlowMeter) → IsKept r v t → KeepsPlan v e → DoesOn v.heap e new.heap → new.counts ≡ counted v.counts e → Goes r v new t e
+  pub goes : (e : Event) (r : Course) (v new : PacedState) (t : FlowMeter) → IsKept r v t → KeepsPlan v e → DoesOn v.heap e new.heap → new.counts ≡ counted v.counts e → Goes r v new t e
   goes (Command_done m c reply) r v new t i may d counts = command_goes r v new t i m c reply may d counts
   goes Cycle_begun r v new t i may d counts = begin_goes r v new t i d counts
   goes Begin_refused r v new t i may d counts = record {

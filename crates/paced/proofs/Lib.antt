@@ -1,3 +1,6 @@
-pub mod Working
+pub mod Paths
+pub mod Pieces
+pub mod Running
+pub mod Keeping
 pub mod Opened
 pub mod Planning

@@ -1,5 +1,5 @@
 -- The plan that is chosen is the one with the most words for each quantum.
-use Rattle.std.proofs.Common.{◌≡◌, ℕ, ◌+◌, ◌-◌, ◌*◌, ◌/◌, ◌<◌, ◌≤◌, true, Some, None, sym, subst, arith, refl}
+use Rattle.std.proofs.Common.{◌≡◌, ℕ, ◌+◌, ◌-◌, ◌*◌, ◌/◌, ◌<◌, ◌≤◌, true, Some, None, ap, ◌∙◌, sym, subst, arith, refl}
 use Rattle.std.proofs.lemmas.Nat.{le-div}
 use Rattle.std.proofs.Math.Nat.{div-mul-le_self, mul-le-mul_left, mul-le-mul_right, lt-div-mul-add}
 use Rattle.size_classes.specs.declared.class.TheConstants.{CLASSES, PAGE_WORDS}
@@ -10,7 +10,7 @@ use Rattle.size_classes.specs.Sizes.{size_of, blocks_in}
 use Rattle.space.specs.Fitting.{swept_at, unmoved_quanta_at}
 use Rattle.fragmentation.specs.declared.flow.TheConstants.{LEAST_PAGE_FILL, PARTLY_FILLED_PAGES}
 use Rattle.fragmentation.specs.Flow.{classes_made}
-use Rattle.paced.specs.Planning.{cycle_quanta, FitsEvenly, IsFastest}
+use Rattle.paced.specs.Planning.{cycle_quanta, FitsEvenly, IsFastest, cycle_quanta_at, HasPlanOn, IsResized, HasPlan}
 
 -- of more, divided by less, comes no less
 div_more : (x y c d : ℕ) → 0 < d → x ≤ y → d ≤ c → x / c ≤ y / d
@@ -44,7 +44,7 @@ share_of c = 2 * cycle_quanta c + unmoved_quanta_at c c.pages
 spread : (b w q : ℕ) → b * (2 * w + q) ≡ 2 * (b * w) + q * b
 spread b w q = grind arith
 
-all_classes : classes_made (λ class. true) ≡ CLASSES
+pub all_classes : classes_made (λ class. true) ≡ CLASSES
 all_classes = refl
 
 -- what has room fits
@@ -87,3 +87,44 @@ fastest_fits c live words is some = (some, refl, has_room c live words fits, λ 
 
     fits : live + words * share_of c < (c.pages + 1 - PARTLY_FILLED_PAGES * CLASSES) * LEAST_PAGE_FILL
     fits = let w = within in let a = above in omega (arith, w, a)
+
+-- a plan with some words for each quantum leaves one with a word
+one_fits : (c : Config) (live : ℕ) → HasPlan c live → FitsEvenly c live 1
+one_fits c live p =
+    let f = fits_room c live p.0 p.2 in
+    let m = mul-le-mul_right (share_of c) p.1 in
+    has_room c live 1 (omega (arith, f, m))
+
+-- on a number of pages there is a plan where one fits in a configuration that has so many
+module _ (c resized : Config) (live : ℕ) (is : IsResized c resized) where
+  whole : cycle_quanta_at c resized.pages ≡ cycle_quanta resized
+  whole =
+      let r = is.roots in
+      let e : (resized.pages + CLASSES) * resized.pages ≡ (resized.defrag_pages + CLASSES) * resized.pages = ap (λ z. (z + CLASSES) * resized.pages) (sym is.empties_all) in
+      let l : c.mutators * c.slots + c.statics + 3 * (PAGE_WORDS * resized.pages) + (resized.pages + CLASSES) * resized.pages + 4 ≡ cycle_limit_of resized = omega (arith, r, e) in
+      ap (λ z. z / (c.collector_ticks * c.rate - (LEAST_BUDGET - 1)) + 1) l ∙ ap (λ b. cycle_limit_of resized / (b - (LEAST_BUDGET - 1)) + 1) (sym is.budget)
+
+  traced : unmoved_quanta_at c resized.pages ≡ unmoved_quanta_at resized resized.pages
+  traced =
+      let l : swept_at c resized.pages ≡ swept_at resized resized.pages = ap (λ r. r + PAGE_WORDS * resized.pages + (blocks_in 0 + 1) * resized.pages + (blocks_in 0 + 4)) (sym is.roots) in
+      ap (λ z. z / (c.collector_ticks * c.rate) + 1) l ∙ ap (λ b. swept_at resized resized.pages / b + 1) (sym is.budget)
+
+  same_words : live + (2 * cycle_quanta_at c resized.pages + (unmoved_quanta_at c resized.pages * 1 + 0)) ≡ live + (2 * (1 * cycle_quanta resized) + (unmoved_quanta_at resized resized.pages * 1 + 0))
+  same_words = let w = whole in let t = traced in omega (arith, w, t)
+
+  pub resized_plan : HasPlanOn c live resized.pages → HasPlan resized live
+  resized_plan l = (
+    1,
+    omega arith,
+    record {
+      traced = (let t = traced_less resized in omega (arith, t));
+      enough = (let d = ap (λ z. z / LEAST_PAGE_FILL) same_words in omega (arith, l, d));
+    },
+  )
+
+  pub plan_resized : HasPlan resized live → HasPlanOn c live resized.pages
+  plan_resized p =
+      let f = one_fits resized live p in
+      let e = f.enough in
+      let d = ap (λ z. z / LEAST_PAGE_FILL) same_words in
+      omega (arith, e, d)

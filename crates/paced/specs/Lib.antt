@@ -1,2 +1,4 @@
 pub mod Pacing
+pub mod Rooms
+pub mod Working
 pub mod Planning

@@ -1,96 +1,133 @@
--- A heap that keeps a flow by itself.
-use Rattle.std.specs.Prelude.{◌≡◌, ℕ, ◌+◌, ◌-◌, ◌*◌, ◌≤◌, true, ◌==◌, if◌then◌else◌, List, [], ◌∷◌}
-use Rattle.settings.specs.declared.config.Config.{Config}
-use Rattle.settings.specs.Config.{limits_of}
-use Rattle.heap_model.specs.Event.{Course, Event, Does, Runs, present_of}
-use Rattle.heap_model.specs.Spent.{cycle_limit}
-use Rattle.heap_model.specs.Phases.{awaits_sweep_end}
+-- What a pacer goes by, and what is done on a heap that it paces.
+use Rattle.std.specs.Prelude.{◌≡◌, ◌≢◌, ℕ, ◌+◌, ◌-◌, ◌*◌, ◌^◌, ◌<◌, ◌≤◌, true, nat_le, min, max, if◌then◌else◌, Result, Ok, Err, List, [], ◌∷◌}
+use Rattle.graph_heap.specs.Graph.{Graph}
+use Rattle.graph_heap.specs.declared.command.Command.{Command}
+use Rattle.graph_heap.specs.declared.command.Reply.{Reply}
+use Rattle.heap_model.specs.declared.phase.Phase.TheVariants as phases
+use Rattle.heap_model.specs.State.{HeapState}
+use Rattle.heap_model.specs.Action.{begun}
+use Rattle.heap_model.specs.QuantumSpending.{QuantumSpends}
+use Rattle.heap_model.specs.Agreement.{Agrees}
+use Rattle.heap_model.specs.Event.{Event, Command_done, Cycle_begun, Begin_refused, Quantum_done, Quantum_refused, IsBudget, quanta_in}
+use Rattle.heap_model.specs.ReachedFrom.{cycles_in}
 use Rattle.space.specs.Pace.{in_cycle}
-use Rattle.space.specs.Room.{AllHaveRoom}
-use Rattle.fragmentation.specs.Flow.{Flow, FlowMeter, opening_meter, next_meter, Paces, LivesIn, AllMetered}
-use Rattle.machine.specs.Recorded.{RecordedHeap}
-use Rattle.machine.specs.Space.{IsJustMade}
+use Rattle.space.specs.Room.{asks}
+use Rattle.fragmentation.specs.Flow.{words_of}
+use Rattle.machine.specs.Plan.{Steps}
+use Rattle.paced.specs.declared.figures.Figures.{Figures}
+use Rattle.paced.specs.declared.pacer.AbovePlan.{AbovePlan}
 use Rattle.paced.specs.declared.plan.Plan.{Plan}
 
--- The heap with its history; the words of its plan and the budget of its quanta; and what it counts: words that were asked
--- for, and quanta that were done, since the last cycle began.
-pub record PacedView : Type 0 where
-  pub heap : RecordedHeap
+-- What a pacer goes by: its plan; the budget of its own quanta, which is the least of one that it counts; and the words of
+-- blocks that were asked for, and the quanta that were done, since the last cycle began.
+pub record Counts : Type 0 where
   pub plan : Plan
   pub budget : ℕ
   pub words : ℕ
   pub quanta : ℕ
 
--- the flow of a plan, for what is live at most: blocks of every class, and nothing besides what each quantum allows
-abbrev pub planned_flow : ℕ → Plan → Flow
-planned_flow live plan = record {
-  makes = λ class. true;
-  live_words = live;
-  quantum_words = plan.quantum_words;
-  burst = 0;
-  cycle_words = plan.cycle_words;
+-- a pacer: what it goes by, and its figures
+pub record PacerView : Type 0 where
+  pub counts : Counts
+  pub figures : Figures
+
+-- a heap, and what its pacer goes by
+pub record PacedState : Type 0 where
+  pub heap : HeapState
+  pub counts : Counts
+
+-- a heap with its pacer
+pub record PacedView : Type 0 where
+  pub heap : HeapState
+  pub pacer : PacerView
+
+-- a heap that a pacer paces
+abbrev pub paced_by : PacerView → HeapState → PacedView
+paced_by p h = record { heap = h; pacer = p }
+
+-- the heap, and what its pacer goes by, without the figures
+abbrev pub state_of : PacedView → PacedState
+state_of v = record { heap = v.heap; counts = v.pacer.counts }
+
+-- the number, or the most that 64 bits hold
+abbrev pub saturated : ℕ → ℕ
+saturated n = min n (2 ^ 64 - 1)
+
+-- What a pacer goes by after one more event: a beginning zeroes its counts, and a quantum counts if its budget is no
+-- smaller than the pacer's.
+abbrev pub counted : Counts → Event → Counts
+counted t (Command_done m c reply) = record t { words = t.words + words_of (asks c) }
+counted t Cycle_begun = record t { words = 0; quanta = 0 }
+counted t Begin_refused = t
+counted t (Quantum_done budget units phase) =
+    record t { quanta = if nat_le t.budget budget then saturated (t.quanta + 1) else t.quanta }
+counted t (Quantum_refused budget) = t
+
+-- an event is done on a heap, whatever its history
+abbrev pub DoesOn : HeapState → Event → HeapState → Type 0
+DoesOn h (Command_done m c reply) after = Steps h m c reply after
+DoesOn h Cycle_begun after = (h.phase ≡ phases.Idle) × (after ≡ begun h)
+DoesOn h Begin_refused after = (h.phase ≢ phases.Idle) × (after ≡ h)
+DoesOn h (Quantum_done budget units phase) after = IsBudget budget × QuantumSpends h budget after units
+    × (phase ≡ after.phase)
+DoesOn h (Quantum_refused budget) after = (IsBudget budget → ⊥) × (after ≡ h)
+
+-- Events are done on a heap, one after the other, each where it passes, and its pacer counts them.
+abbrev pub Path : (PacedState → Event → Type 0) → PacedState → List Event → PacedState → Type 0
+Path Passes old [] new = new ≡ old
+Path Passes old (e ∷ es) new = (mid : PacedState) × Passes old e × DoesOn old.heap e mid.heap
+    × (mid.counts ≡ counted old.counts e) × Path Passes mid es new
+
+-- Words may be asked for if as many are left until a cycle has to begin and, while one runs, for the quanta that were
+-- done. To ask for none is always allowed.
+pub record MayAsk (v : PacedState) (words : ℕ) : Type 0 where
+  pub cycle : 0 < words → v.counts.words + words ≤ v.counts.plan.cycle_words
+  pub quanta : 0 < words → in_cycle v.heap.phase ≡ true
+      → v.counts.words + words ≤ (v.counts.quanta + 1) * v.counts.plan.quantum_words
+
+-- a command asks for no more words than may be asked for
+abbrev pub KeepsPlan : PacedState → Event → Type 0
+KeepsPlan v (Command_done m c reply) = MayAsk v (words_of (asks c))
+KeepsPlan v e = Unit {0}
+
+-- some events lead from one state to another, and keep the plan
+abbrev pub Paced : PacedState → PacedState → Type 0
+Paced old new = (es : List Event) × Path KeepsPlan old es new
+
+-- The collector works because so many words mayn't be asked for yet: it begins a cycle, or spends a quantum of the
+-- pacer's budget on the one that runs.
+abbrev pub WorksFor : ℕ → PacedState → Event → Type 0
+WorksFor words v Cycle_begun = MayAsk v words → ⊥
+WorksFor words v (Quantum_done budget units phase) = (MayAsk v words → ⊥) × (budget ≡ v.counts.budget)
+    × (v.heap.phase ≢ phases.Idle)
+WorksFor words v e = ⊥
+
+-- the figures, with the work before one more command
+abbrev pub worked : Figures → List Event → Figures
+worked f es = record {
+  quanta = saturated (f.quanta + quanta_in es);
+  cycles = saturated (f.cycles + cycles_in es);
+  most_quanta = max f.most_quanta (saturated (quanta_in es));
 }
 
--- it counts as strictly as a meter: no fewer words, and no more quanta
-pub record IsAsStrict (t : FlowMeter) (v : PacedView) : Type 0 where
-  pub graph : t.graph ≡ present_of v.heap.course
-  pub awaiting_sweep_end : t.awaiting_sweep_end ≡ awaits_sweep_end v.heap.course.heap.phase
-  pub words : t.words ≤ v.words
-  pub quanta : v.quanta ≤ t.quanta
+-- Words are paid for: the collector works until they may be asked for, and no longer; its work is entered in the figures,
+-- and the words are counted. Each graph heap with which the heap agreed is one with which it agrees.
+pub record Pays (old : PacedView) (words : ℕ) (new : PacedView) : Type 0 where
+  pub work : List Event
+  pub before : Counts
+  pub works : Path (WorksFor words) (state_of old) work (record { heap = new.heap; counts = before })
+  pub may : MayAsk (record { heap = new.heap; counts = before }) words
+  pub counts : new.pacer.counts ≡ record before { words = before.words + words }
+  pub figures : new.pacer.figures ≡ worked old.pacer.figures work
+  pub agrees : (g : Graph) → Agrees old.heap g → Agrees new.heap g
 
--- the plan and the budget stay
-pub record SamePlan (old new : PacedView) : Type 0 where
-  pub plan : new.plan ≡ old.plan
-  pub budget : new.budget ≡ old.budget
+-- A command that asks for more words than the plan has for a whole cycle is told so, and nothing is done. Any other is
+-- done once its words were paid for, and gets its reply.
+abbrev pub Calls : PacedView → ℕ → Command → Result Reply AbovePlan → PacedView → Type 0
+Calls old m c (Err above) new = (old.pacer.counts.plan.cycle_words < words_of (asks c)) × (new ≡ old)
+Calls old m c (Ok reply) new = (words_of (asks c) ≤ old.pacer.counts.plan.cycle_words) × (mid : PacedView)
+    × Pays old (words_of (asks c)) mid × Steps mid.heap m c reply new.heap × (new.pacer ≡ mid.pacer)
 
--- the meter after events
-abbrev pub meter_after : FlowMeter → List Event → FlowMeter
-meter_after t [] = t
-meter_after t (e ∷ es) = meter_after (next_meter t e) es
-
--- Events lead from one state to another and pace themselves by the flow, whatever is live, with quanta of its budget;
--- and it goes on counting as strictly as the meter.
-pub record Advances (t : FlowMeter) (old new : PacedView) (es : List Event) : Type 0 where
-  pub runs : Runs old.heap.course es new.heap.course
-  pub paces : (live : ℕ) → AllMetered (Paces (planned_flow live old.plan) old.budget) t es
-  pub strict : IsAsStrict (meter_after t es) new
-
--- some events do, by whatever meter it counted as strictly as
-abbrev pub Paced : PacedView → PacedView → Type 0
-Paced old new = (t : FlowMeter) → IsAsStrict t old → (es : List Event) × Advances t old new es
-
--- only the collector worked, and kept the flow: no command was done
-pub record Collected (old new : PacedView) : Type 0 where
-  pub paced : Paced old new
-  pub same : SamePlan old new
-  pub history : new.heap.course.history ≡ old.heap.course.history
-
--- How much is left to be done at most before words may be asked for: all of a cycle, where one may have to begin, and
--- the rest of the one that is running.
-abbrev pub work_left : PacedView → ℕ
-work_left v =
-    (if v.words == 0 then 0 else cycle_limit v.heap.course.heap + 2)
-    + (if in_cycle v.heap.course.heap.phase then cycle_limit v.heap.course.heap - v.heap.course.heap.units + 1 else 0)
-
--- words may be asked for: there are as many left until a cycle has to begin, and for the quanta that were done
-pub record MayAsk (v : PacedView) (words : ℕ) : Type 0 where
-  pub cycle : v.words + words ≤ v.plan.cycle_words
-  pub quanta : in_cycle v.heap.course.heap.phase ≡ true → v.words + words ≤ (v.quanta + 1) * v.plan.quantum_words
-
--- a command was done last, and before it the collector's work alone
-abbrev pub EndsWith : PacedView → PacedView → Event → Type 0
-EndsWith old new e = (mid : PacedView) × Collected old mid × Does mid.heap.course e new.heap.course
-
--- a heap of a configuration that was just made, with a plan; nothing is counted yet
-pub record IsJustPaced (config : Config) (p : Plan) (v : PacedView) : Type 0 where
-  pub made : IsJustMade config v.heap.course
-  pub plan : v.plan ≡ p
-  pub budget : v.budget ≡ config.collector_ticks * config.rate
-  pub words : v.words ≡ 0
-  pub quanta : v.quanta ≡ 0
-
--- Events lead from one state to another, and if what is live is within the flow wherever one of them begins a cycle, no
--- reply among them is the refusal for lack of space.
-pub record FindsRoom (config : Config) (live : ℕ) (old new : PacedView) (es : List Event) : Type 0 where
-  pub runs : Runs old.heap.course es new.heap.course
-  pub room : AllMetered (LivesIn (planned_flow live old.plan)) (opening_meter (limits_of config)) es → AllHaveRoom es
+-- the pacer has counted an event, and entered nothing in its figures
+abbrev pub Counted : PacerView → Event → PacerView → Type 0
+Counted old e new = new ≡ record old { counts = counted old.counts e }

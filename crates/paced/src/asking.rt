@@ -9,7 +9,7 @@ use graph_heap::{Command, Shape};
 use size_classes::{CLASSES, Class, Need, parts_of};
 
 /// The words of the blocks that an object of a shape needs; none where the shape is too large.
-fn words_of_shape(shape: &Shape) -> u64
+pub(crate) fn words_of_shape(shape: &Shape) -> u64
     ensures { result ≡ words_of (λ class. if fits shape.now then needed shape.now class else 0) }
 {
     let Some(parts) = parts_of(shape) else {

@@ -1,23 +1,36 @@
-//! The laws of a heap that keeps a flow. Each function does nothing: its contract is the law.
-ghost use Rattle.std.specs.Prelude.{ℕ, List};
+//! The laws of a heap that is paced. Each function does nothing: its contract is the law.
+ghost use Rattle.std.specs.Prelude.{◌≡◌, ◌↔◌, ℕ, List};
 ghost use Rattle.settings.specs.declared.config.Config.{Config};
-ghost use Rattle.heap_model.specs.Event.{Event};
+ghost use Rattle.heap_model.specs.Event.{Course, Event, IsCourse, Runs};
 ghost use Rattle.fragmentation.specs.Configured.{MovesAll, FlowFitsIn};
 ghost use Rattle.paced.specs.declared.plan.Plan.{Plan};
-ghost use Rattle.paced.specs.Pacing.{PacedView, planned_flow, Paced, SamePlan, IsJustPaced, FindsRoom};
+ghost use Rattle.paced.specs.Pacing.{PacedState, Path, KeepsPlan, Paced};
+ghost use Rattle.paced.specs.Rooms.{planned_flow, IsJustPaced, FindsRoom};
+ghost use Rattle.paced.specs.Planning.{HasPlanOn, IsResized, HasPlan};
 
-/// Whatever was called on a heap that keeps a flow, since it was made of a configuration that moves all and in which
-/// the flow fits: events led there among which no reply is the refusal for lack of space, if what was live was within
-/// the flow wherever one of them began a cycle.
+/// Whatever was called on a paced heap, since it was made of a configuration that moves all and in which the flow of the
+/// plan fits: no reply is the refusal for lack of space, if what was live was within the flow wherever a cycle began.
 pub fn paced_heaps_find_room()
-    ensures { (config : Config) (plan : Plan) (live : ℕ) (old new : PacedView) → IsJustPaced config plan old
-        → MovesAll config → FlowFitsIn config (planned_flow live plan) → Paced old new
-        → (es : List Event) × FindsRoom config live old new es }
+    ensures { (config : Config) (plan : Plan) (live : ℕ) (old new : PacedState) (es : List Event)
+        → IsJustPaced config plan old → MovesAll config → FlowFitsIn config (planned_flow live plan)
+        → Path KeepsPlan old es new → FindsRoom config (planned_flow live plan) old.heap new.heap es }
 {}
 
-/// What one call after the other does keeps the plan and is paced by it, as each call does; so does what no call did.
+/// What one call after the other does is paced, as each call is; so is what no call did.
 pub fn paced_calls_add_up()
-    ensures none { (v : PacedView) → SamePlan v v × Paced v v }
-    ensures both { (old mid new : PacedView) → SamePlan old mid → SamePlan mid new → Paced old mid → Paced mid new
-        → SamePlan old new × Paced old new }
+    ensures none { (v : PacedState) → Paced v v }
+    ensures both { (old mid new : PacedState) → Paced old mid → Paced mid new → Paced old new }
+{}
+
+/// What is done on a paced heap are events of a heap with its history, whatever history led to the heap.
+pub fn paced_events_run()
+    ensures { (r : Course) (old new : PacedState) (es : List Event) → IsCourse r → r.heap ≡ old.heap
+        → Path KeepsPlan old es new → (k : Course) × (k.heap ≡ new.heap) × Runs r es k }
+{}
+
+/// There is a plan on a number of pages exactly where one fits in a configuration that has that many, and may empty
+/// them all.
+pub fn plans_need_pages()
+    ensures { (c resized : Config) (live : ℕ) → IsResized c resized
+        → HasPlanOn c live resized.pages ↔ HasPlan resized live }
 {}

@@ -3,13 +3,17 @@
 #![tactic(auto)]
 
 pub mod asking;
+pub mod figures;
 mod laws;
 pub mod paced;
+pub mod pacer;
 pub mod plan;
 
-pub use laws::{paced_calls_add_up, paced_heaps_find_room};
-pub use paced::{CallFault, PacedHeap};
-pub use plan::{Plan, flow_fits, planned};
+pub use figures::Figures;
+pub use laws::{paced_calls_add_up, paced_events_run, paced_heaps_find_room, plans_need_pages};
+pub use paced::PacedHeap;
+pub use pacer::{AbovePlan, Pacer};
+pub use plan::{Plan, flow_fits, least_pages, moves_all, planned};
 
 #[cfg(test)]
 mod tests {
@@ -35,19 +39,63 @@ mod tests {
             panic!(rt; "a flow fits");
         };
         assert!(rt; plan.quantum_words == 163 && plan.cycle_words == 66830);
+        assert!(rt; moves_all(&config));
+        // A word for each quantum adds less than a page to the 100 that are live and three of each class.
+        assert!(rt; least_pages(&config, 183200) == Some(214));
         let Ok(heap) = PacedHeap::new(rt.alloc(), &config, plan) else {
             panic!(rt; "there is memory");
         };
         let mut heap = heap;
         for n in 0..100u32 {
             let shape = Shape::WordArray(20000);
-            let Ok(receipt) = heap.call(0, Command::New { dst: 0, shape }) else {
-                panic!(rt; "there is memory");
-            };
-            assert!(rt; receipt.entry().reply == Reply::Made(u64::from(n) + 1));
+            let reply = heap.call(0, Command::New { dst: 0, shape });
+            assert!(rt; reply == Ok(Reply::Made(u64::from(n) + 1)));
         }
+        let figures = heap.pacer().figures();
+        assert!(rt; figures.cycles > 0 && figures.quanta >= figures.most_quanta);
         let shape = Shape::WordArray(70000);
         let above = heap.call(0, Command::New { dst: 0, shape });
-        assert!(rt; above == Err(CallFault::AboveCycleWords));
+        assert!(rt; above == Err(AbovePlan));
+        assert!(rt; heap.pacer().figures() == figures);
+    }
+
+    /// A program begins a cycle and spends quanta of its own: they aren't in the figures.
+    #[test]
+    fn a_program_works_besides(rt: HostRuntime) {
+        let settings = Settings {
+            pages: 300,
+            slots: 8,
+            defrag_below: 301,
+            defrag_pages: 300,
+            ..Settings::DEFAULTS
+        };
+        let Ok(config) = Config::check(Ranges::Library, &settings) else {
+            panic!(rt; "the settings are good");
+        };
+        let plan = Plan {
+            quantum_words: 10,
+            cycle_words: 70000,
+        };
+        let Ok(heap) = PacedHeap::new(rt.alloc(), &config, plan) else {
+            panic!(rt; "there is memory");
+        };
+        let mut heap = heap;
+        assert!(rt;
+            Pacer::with_budget(plan, 255).is_err() && Pacer::with_budget(plan, 256).is_ok()
+        );
+        assert!(rt; heap.begin().is_ok());
+        assert!(rt; heap.begin().is_err());
+        assert!(rt; heap.quantum(300).is_ok());
+        assert!(rt; heap.quantum(1000).is_ok());
+        assert!(rt; heap.quantum(255).is_err());
+        assert!(rt;
+            heap.pacer().figures()
+                == Figures {
+                    quanta: 0,
+                    cycles: 0,
+                    most_quanta: 0
+                }
+        );
+        assert!(rt; !heap.heap().phase().is_idle());
     }
 }

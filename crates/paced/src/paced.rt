@@ -1,63 +1,32 @@
 //! The heap that keeps a flow.
-ghost use Rattle.std.specs.Prelude.{◌≡◌, ◌⊎◌, ◌<◌, ◌≤◌, true, false, IfOk, OnErr, Err};
-ghost use Rattle.heap_model.specs.Event.{Command_done};
-ghost use Rattle.space.specs.Pace.{in_cycle};
-ghost use Rattle.space.specs.Room.{asks};
-ghost use Rattle.fragmentation.specs.Flow.{words_of};
-ghost use Rattle.paced.specs.declared.paced.CallFault.TheVariants as faults;
-ghost use Rattle.paced.specs.Pacing.{Paced, Collected, SamePlan, work_left, MayAsk, EndsWith, IsJustPaced};
+ghost use Rattle.std.specs.Prelude.{◌≡◌, ◌⊎◌, ◌+◌, ◌<◌, IfOk};
+ghost use Rattle.heap_model.specs.declared.phase.Phase.TheVariants as phases;
+ghost use Rattle.machine.specs.Collecting.{Begins, Spends};
+ghost use Rattle.machine.specs.Recorded.{begin_done, quantum_done};
+ghost use Rattle.paced.specs.Pacing.{state_of, Paced, Calls, Counted};
+ghost use Rattle.paced.specs.Rooms.{IsJustPaced, no_figures};
 
-use crate::asking::words_asked;
+use crate::pacer::{AbovePlan, Pacer};
 use crate::plan::Plan;
-use graph_heap::{Command, NoMemory};
-use heap_model::phase::Phase;
-use machine::{Receipt, Recorded};
+use graph_heap::{Command, NoMemory, Reply};
+use machine::{BudgetOutOfRange, Busy, Heap, Spent};
 use settings::Config;
 use std::alloc::Global;
 use std::marker::Model;
-use thiserror::Error;
 
-/// Why a command wasn't done. The collector may have worked all the same.
-#[derive(Clone, Copy, Debug, PartialEq, Eq, Error)]
-pub enum CallFault {
-    /// The blocks of the new object have more words than the plan has for a whole cycle.
-    #[error("object above the words of a cycle")]
-    AboveCycleWords,
-    /// Memory for the history was refused.
-    #[error("no memory")]
-    NoMemory,
-}
-
-/// A heap with the plan that it keeps. Contracts see the heap with its history, the plan, the budget of a quantum and
-/// what is counted.
+/// A heap with the pacer that paces it. No call but `new` asks for memory. Contracts see both.
 #[derive(Drop)]
 pub struct PacedHeap {
-    heap: Recorded,
-    plan: Plan,
-    /// The budget of a quantum, in units.
-    budget: u32,
-    /// Words of blocks that were asked for since the last cycle began.
-    words: u64,
-    /// Quanta that were done since then.
-    quanta: u64,
+    heap: Heap,
+    pacer: Pacer,
 }
 
 impl Model for PacedHeap {
-    ghost use Rattle.std.specs.Prelude.{◌≤◌};
-    ghost use Rattle.heap_model.specs.Event.{IsCourse, IsBudget};
     ghost use Rattle.paced.specs.Pacing.{PacedView};
 
     ghost Value = { PacedView };
 
-    ghost view = { λ a. record {
-      heap = a.heap;
-      plan = a.plan;
-      budget = a.budget;
-      words = a.words;
-      quanta = a.quanta;
-    } };
-
-    ghost invariant = { λ a. IsCourse a.heap.course × IsBudget a.budget × (a.words ≤ a.plan.cycle_words) };
+    ghost view = { λ a. record { heap = a.heap; pacer = a.pacer } };
 }
 
 impl PacedHeap {
@@ -65,79 +34,58 @@ impl PacedHeap {
     /// lack of memory. That the plan fits is for the caller to see (`flow_fits`): with one that doesn't, objects may be
     /// refused for lack of space.
     pub fn new(alloc: Global, config: &Config, plan: Plan) -> Result<PacedHeap, NoMemory>
-        ensures { IfOk result (IsJustPaced config.now plan) }
+        ensures made { IfOk result (λ v. IsJustPaced config.now plan (state_of v)) }
+        ensures figures { IfOk result (λ v. v.pacer.figures ≡ no_figures) }
     {
-        let heap = Recorded::new(alloc, config)?;
+        let heap = Heap::new(alloc, config)?;
         Ok(PacedHeap {
             heap,
-            plan,
-            budget: config.budget(),
-            words: 0,
-            quanta: 0,
+            pacer: Pacer::new(config, plan),
         })
     }
 
-    /// Whether this many words may be asked for now.
-    fn allows(&self, words: u64) -> bool
-        requires { words ≤ self.now.plan.cycle_words }
-        ensures yes { result ≡ true → MayAsk self.now words }
-        ensures no { result ≡ false → (in_cycle self.now.heap.course.heap.phase ≡ true) ⊎ (0 < self.now.words) }
+    /// Does a command of a mutator, and replies. Before it the collector works as much as the plan wants for what the
+    /// command asks, and no more: cycles begin, and quanta are spent. Where the command asks for more words than a whole
+    /// cycle has, nothing is done.
+    pub fn call(&mut self, mutator: u32, command: Command) -> Result<Reply, AbovePlan>
+        ensures calls { Calls self.old mutator command result self.new }
+        ensures paced { Paced (state_of self.old) (state_of self.new) }
     {
-        let Some(after) = self.words.checked_add(words) else {
-            return false;
-        };
-        if after > self.plan.cycle_words {
-            return false;
-        }
-        let due = self
-            .quanta
-            .saturating_add(1)
-            .saturating_mul(self.plan.quantum_words);
-        matches!(self.heap.heap().phase(), Phase::Idle) || after <= due
+        self.pacer.call(&mut self.heap, mutator, command)
     }
 
-    /// Begins a cycle, or spends a quantum on the one that is running.
-    fn work(&mut self)
-        ensures collected { Collected self.old self.new }
-        ensures less { (in_cycle self.old.heap.course.heap.phase ≡ true) ⊎ (0 < self.old.words)
-            → work_left self.new < work_left self.old }
+    /// Begins a cycle, sooner than the plan wants it: what is live is then to be within the flow. Refused while one is
+    /// running, and then nothing changes.
+    pub fn begin(&mut self) -> Result<(), Busy>
+        ensures begins { Begins self.old.heap self.new.heap result }
+        ensures counted { Counted self.old.pacer (begin_done result) self.new.pacer }
+        ensures paced { Paced (state_of self.old) (state_of self.new) }
     {
-        match self.heap.begin() {
-            Ok(()) => {
-                self.words = 0;
-                self.quanta = 0;
-            }
-            Err(_busy) => {
-                let _spent = self.heap.quantum(self.budget);
-                self.quanta = self.quanta.saturating_add(1);
-            }
-        }
+        self.pacer.begin(&mut self.heap)
     }
 
-    /// Does a command of a mutator, and enters it with its reply. Before it the collector works as much as the plan
-    /// wants for what the command asks: cycles begin, and quanta are spent. Where the command asks for more words than
-    /// a whole cycle has, nothing is done; where memory for the entry is refused, only the collector has worked.
-    pub fn call(&mut self, mutator: u32, command: Command) -> Result<Receipt, CallFault>
-        ensures paced { Paced self.old self.new }
-        ensures same { SamePlan self.old self.new }
-        ensures command { IfOk result (λ r. (r.entry.mutator ≡ mutator) × (r.entry.command ≡ command)) }
-        ensures done { IfOk result (λ r. EndsWith self.old self.new (Command_done mutator command r.entry.reply)) }
-        ensures above { self.old.plan.cycle_words < words_of (asks command)
-            → (result ≡ Err faults.AboveCycleWords) × (self.new ≡ self.old) }
-        ensures within { result ≡ Err faults.AboveCycleWords → self.old.plan.cycle_words < words_of (asks command) }
-        ensures err { OnErr result (Collected self.old self.new) }
+    /// Spends units of a budget on the cycle that is running, besides what the plan wants. Words may be asked for it if
+    /// the budget is the plan's or greater. Refused outside `LEAST_BUDGET` to `MOST_BUDGET`, and then nothing changes.
+    pub fn quantum(&mut self, budget: u32) -> Result<Spent, BudgetOutOfRange>
+        ensures spends { Spends self.old.heap budget self.new.heap result }
+        ensures ends { IfOk result (λ s. (s.phase ≡ phases.Idle) ⊎ (budget < s.units + 256)) }
+        ensures counted { Counted self.old.pacer (quantum_done budget result) self.new.pacer }
+        ensures paced { Paced (state_of self.old) (state_of self.new) }
     {
-        let words = words_asked(&command);
-        if words > self.plan.cycle_words {
-            return Err(CallFault::AboveCycleWords);
-        }
-        while !self.allows(words) {
-            self.work();
-        }
-        let Ok(receipt) = self.heap.call(mutator, command) else {
-            return Err(CallFault::NoMemory);
-        };
-        self.words += words;
-        Ok(receipt)
+        self.pacer.quantum(&mut self.heap, budget)
+    }
+
+    /// The heap, to be read.
+    pub fn heap(&self) -> &Heap
+        ensures { result.now ≡ self.now.heap }
+    {
+        &self.heap
+    }
+
+    /// The pacer, to be read: its plan and its figures.
+    pub fn pacer(&self) -> &Pacer
+        ensures { result.now ≡ self.now.pacer }
+    {
+        &self.pacer
     }
 }

@@ -1,12 +1,13 @@
 //! Plans, and whether the flow of one fits in a configuration.
-ghost use Rattle.std.specs.Prelude.{◌≡◌, ◌+◌, ◌-◌, ◌*◌, ◌/◌, ◌≤◌, ◌↔◌, IsTrue};
+ghost use Rattle.std.specs.Prelude.{◌≡◌, ◌+◌, ◌-◌, ◌*◌, ◌/◌, ◌^◌, ◌<◌, ◌≤◌, ◌↔◌, IsTrue};
+ghost use Rattle.settings.specs.declared.config.TheConstants.{MOST_HEAP_PAGES};
 ghost use Rattle.space.specs.Fitting.{unmoved_quanta_at};
-ghost use Rattle.fragmentation.specs.Configured.{FlowFitsIn};
-ghost use Rattle.paced.specs.Pacing.{planned_flow};
-ghost use Rattle.paced.specs.Planning.{cycle_quanta, IsFastest};
+ghost use Rattle.fragmentation.specs.Configured.{MovesAll, FlowFitsIn};
+ghost use Rattle.paced.specs.Rooms.{planned_flow};
+ghost use Rattle.paced.specs.Planning.{cycle_quanta, cycle_quanta_at, IsFastest, HasPlanOn, IsLeastPages};
 
 use fragmentation::{LEAST_PAGE_FILL, PARTLY_FILLED_PAGES};
-use settings::{Config, LEAST_BUDGET};
+use settings::{Config, LEAST_BUDGET, MOST_HEAP_PAGES};
 use size_classes::{CLASSES, Class, PAGE_WORDS};
 
 /// How many words of blocks a heap lets be asked for while its collector works.
@@ -18,16 +19,33 @@ pub struct Plan {
     pub cycle_words: u64,
 }
 
-/// The quanta of the configuration's budget that a cycle takes at most up to its sweep's end.
-fn traced_quanta(config: &Config) -> u64
-    ensures quanta { result ≡ unmoved_quanta_at config.now config.now.pages }
+/// The quanta of the configuration's budget that a cycle takes at most up to its sweep's end, on this many pages.
+fn traced_quanta(config: &Config, pages: u32) -> u64
+    requires { pages ≤ MOST_HEAP_PAGES }
+    ensures quanta { result ≡ unmoved_quanta_at config.now pages }
     ensures within { result ≤ 10500000 }
 {
-    let count = u64::from(config.pages);
+    let count = u64::from(pages);
     let roots = u64::from(config.root_cells());
     let arena = u64::from(PAGE_WORDS) * count;
     let most = u64::from(Class::new(0).blocks_per_page());
     (roots + arena + (most + 1) * count + (most + 4)) / u64::from(config.budget()) + 1
+}
+
+/// The pages that suffice for blocks of this many words, with those of each class that may be filled in part.
+fn pages_for_words(words: u128) -> u128
+    requires { words < 2 ^ 127 }
+    ensures { result ≡ words / LEAST_PAGE_FILL + PARTLY_FILLED_PAGES * CLASSES }
+{
+    let partly = PARTLY_FILLED_PAGES as u128 * CLASSES as u128;
+    words / u128::from(LEAST_PAGE_FILL) + partly
+}
+
+/// Whether moving follows each sweep in a heap of a configuration, and may empty all pages: as a plan wants it.
+pub fn moves_all(config: &Config) -> bool
+    ensures { IsTrue result ↔ MovesAll config.now }
+{
+    config.pages < config.defrag_below && config.pages <= config.defrag_pages
 }
 
 /// Whether the flow of a plan fits in a configuration, where the blocks of live objects have at most so many words
@@ -35,11 +53,9 @@ fn traced_quanta(config: &Config) -> u64
 pub fn flow_fits(config: &Config, live_words: u64, plan: &Plan) -> bool
     ensures { IsTrue result ↔ FlowFitsIn config.now (planned_flow live_words plan.now) }
 {
-    let traced = u128::from(traced_quanta(config)) * u128::from(plan.quantum_words);
+    let traced = u128::from(traced_quanta(config, config.pages)) * u128::from(plan.quantum_words);
     let words = u128::from(live_words) + (2 * u128::from(plan.cycle_words) + traced);
-    let partly = PARTLY_FILLED_PAGES as u128 * CLASSES as u128;
-    traced <= u128::from(plan.cycle_words)
-        && words / u128::from(LEAST_PAGE_FILL) + partly <= u128::from(config.pages)
+    traced <= u128::from(plan.cycle_words) && pages_for_words(words) <= u128::from(config.pages)
 }
 
 /// The quanta of the configuration's budget that a whole cycle takes at most.
@@ -61,7 +77,7 @@ pub fn planned(config: &Config, live_words: u64) -> Option<Plan>
     let room = (pages.saturating_sub(PARTLY_FILLED_PAGES * CLASSES as u64) * LEAST_PAGE_FILL)
         .saturating_sub(live_words)
         .saturating_sub(1);
-    let quantum_words = room / (2 * whole + traced_quanta(config));
+    let quantum_words = room / (2 * whole + traced_quanta(config, config.pages));
     if quantum_words == 0 {
         return None;
     }
@@ -69,4 +85,42 @@ pub fn planned(config: &Config, live_words: u64) -> Option<Plan>
         quantum_words,
         cycle_words: quantum_words * whole,
     })
+}
+
+/// The quanta of the configuration's budget that a whole cycle takes at most, on this many pages, all of which it may
+/// empty.
+fn whole_quanta_on(config: &Config, pages: u32) -> u64
+    requires { pages ≤ MOST_HEAP_PAGES }
+    ensures quanta { result ≡ cycle_quanta_at config.now pages }
+    ensures within { (1 ≤ result) × (result ≤ 1106000000000) }
+{
+    let count = u64::from(pages);
+    let roots = u64::from(config.root_cells());
+    let words = u64::from(PAGE_WORDS) * count;
+    let looks = (count + CLASSES as u64) * count;
+    (roots + 3 * words + looks + 4) / u64::from(config.budget() - (LEAST_BUDGET - 1)) + 1
+}
+
+/// Whether there is a plan on this many pages.
+fn has_plan_on(config: &Config, live_words: u64, pages: u32) -> bool
+    requires { pages ≤ MOST_HEAP_PAGES }
+    ensures { IsTrue result ↔ HasPlanOn config.now live_words pages }
+{
+    let quanta = 2 * whole_quanta_on(config, pages) + traced_quanta(config, pages);
+    let words = u128::from(live_words) + u128::from(quanta);
+    pages_for_words(words) <= u128::from(pages)
+}
+
+/// The least number of pages, of those that a heap may have, on which there is a plan (`planned`), where every cycle moves
+/// and may empty all pages, with all else as the configuration has it; None where there is a plan on no number of them: a
+/// cycle on more pages takes more quanta. `live_words` is as of `flow_fits`.
+pub fn least_pages(config: &Config, live_words: u64) -> Option<u32>
+    ensures { IsLeastPages config.now live_words result }
+{
+    for pages in 1..MOST_HEAP_PAGES + 1 {
+        if has_plan_on(config, live_words, pages) {
+            return Some(pages);
+        }
+    }
+    None
 }

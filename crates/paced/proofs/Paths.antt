@@ -1,0 +1,65 @@
+-- Events that are done on a heap that is paced.
+use Rattle.std.proofs.Common.{◌≡◌, ℕ, ◌<◌, ◌≤◌, Result, Ok, Err, List, [], ◌∷◌, ◌++◌, ap, ◌∙◌, subst, refl}
+use Rattle.graph_heap.specs.declared.command.Command.{Command}
+use Rattle.graph_heap.specs.declared.command.Reply.{Reply}
+use Rattle.heap_model.specs.State.{HeapState}
+use Rattle.space.specs.Room.{asks}
+use Rattle.fragmentation.specs.Flow.{words_of}
+use Rattle.machine.specs.Plan.{Steps}
+use Rattle.heap_model.specs.Event.{Event, Command_done, Cycle_begun, Begin_refused, Quantum_done, Quantum_refused}
+use Rattle.machine.specs.declared.collector.BudgetOutOfRange.{BudgetOutOfRange}
+use Rattle.machine.specs.declared.collector.Busy.{Busy}
+use Rattle.machine.specs.declared.collector.Spent.{Spent}
+use Rattle.machine.specs.Collecting.{Begins, Spends}
+use Rattle.machine.specs.Recorded.{begin_done, quantum_done}
+use Rattle.paced.specs.declared.pacer.AbovePlan.{AbovePlan}
+use Rattle.paced.specs.Pacing.{PacerView, PacedState, PacedView, paced_by, state_of, counted, Path, KeepsPlan, Paced, WorksFor, Pays, Calls, Counted}
+use Rattle.paced.specs.Working.{PaysUnless}
+
+-- events, and then others
+pub path_then : (Passes : PacedState → Event → Type 0) (es fs : List Event) (old mid new : PacedState) → Path Passes old es mid → Path Passes mid fs new → Path Passes old (es ++ fs) new
+path_then Passes [] fs old mid new p q = subst (λ v. Path Passes v fs new) p q
+path_then Passes (e ∷ es) fs old mid new p q = (p.0, p.1, p.2, p.3, path_then Passes es fs p.0 mid new p.4 q)
+
+-- the collector's work keeps the plan
+work_keeps : (words : ℕ) (v : PacedState) (e : Event) → WorksFor words v e → KeepsPlan v e
+work_keeps words v (Command_done m c reply) w = absurd w
+work_keeps words v Cycle_begun w = tt
+work_keeps words v Begin_refused w = tt
+work_keeps words v (Quantum_done budget units phase) w = tt
+work_keeps words v (Quantum_refused budget) w = tt
+
+pub work_paces : (words : ℕ) (es : List Event) (old new : PacedState) → Path (WorksFor words) old es new → Path KeepsPlan old es new
+work_paces words [] old new p = p
+work_paces words (e ∷ es) old new p = (p.0, work_keeps words old e p.1, p.2, p.3, work_paces words es p.0 new p.4)
+
+pub paced_none : (v : PacedState) → Paced v v
+paced_none v = ([], refl)
+
+pub paced_then : (old mid new : PacedState) → Paced old mid → Paced mid new → Paced old new
+paced_then old mid new p q = (p.0 ++ q.0, path_then KeepsPlan p.0 q.0 old mid new p.1 q.1)
+
+-- what a call does is paced
+pub calls_paced : (old new : PacedView) (m : ℕ) (c : Command) (result : Result Reply AbovePlan) → Calls old m c result new → Paced (state_of old) (state_of new)
+calls_paced old new m c (Err above) w = ([], ap state_of w.1)
+calls_paced old new m c (Ok reply) w =
+    let before : PacedState = record { heap = w.1.heap; counts = w.2.before } in
+    let counts : new.pacer.counts ≡ counted w.2.before (Command_done m c reply) = ap (λ (p : PacerView). p.counts) w.4 ∙ w.2.counts in (
+      w.2.work ++ Command_done m c reply ∷ [],
+      path_then KeepsPlan w.2.work (Command_done m c reply ∷ []) (state_of old) before (state_of new) (work_paces _ w.2.work (state_of old) before w.2.works) (state_of new, w.2.may, w.3, counts, refl),
+    )
+
+pub begin_paced : (p q : PacerView) (old new : HeapState) (result : Result (Unit {0}) Busy) → Begins old new result → Counted p (begin_done result) q → Paced (state_of (paced_by p old)) (state_of (paced_by q new))
+begin_paced p q old new (Ok done) b k = (Cycle_begun ∷ [], (state_of (paced_by q new), tt, b, ap (λ (x : PacerView). x.counts) k, refl))
+begin_paced p q old new (Err busy) b k = (Begin_refused ∷ [], (state_of (paced_by q new), tt, b, ap (λ (x : PacerView). x.counts) k, refl))
+
+pub quantum_paced : (p q : PacerView) (old new : HeapState) (budget : ℕ) (result : Result Spent BudgetOutOfRange) → Spends old budget new result → Counted p (quantum_done budget result) q → Paced (state_of (paced_by p old)) (state_of (paced_by q new))
+quantum_paced p q old new budget (Ok spent) s k = (Quantum_done budget spent.units spent.phase ∷ [], (state_of (paced_by q new), tt, s, ap (λ (x : PacerView). x.counts) k, refl))
+quantum_paced p q old new budget (Err refused) s k = (Quantum_refused budget ∷ [], (state_of (paced_by q new), tt, s, ap (λ (x : PacerView). x.counts) k, refl))
+
+-- a command that asks for too much is told so, and any other is done once its words were paid for
+pub call_told : (old new : PacedView) (words m : ℕ) (c : Command) (above : AbovePlan) → words ≡ words_of (asks c) → PaysUnless old words (Err above) new → Calls old m c (Err above) new
+call_told old new words m c above is w = (subst (λ n. old.pacer.counts.plan.cycle_words < n) is w.0, w.1)
+
+pub call_done : (old mid new : PacedView) (words m : ℕ) (c : Command) (reply : Reply) (paid : Unit {0}) → words ≡ words_of (asks c) → PaysUnless old words (Ok paid) mid → Steps mid.heap m c reply new.heap → new.pacer ≡ mid.pacer → Calls old m c (Ok reply) new
+call_done old mid new words m c reply paid is w steps same = (subst (λ n. n ≤ old.pacer.counts.plan.cycle_words) is w.0, mid, subst (λ n. Pays old n mid) is w.1, steps, same)

@@ -1,0 +1,168 @@
+-- Pieces of the collector's work: what each does, and that less is left after it.
+use Rattle.std.proofs.Common.{◌≡◌, ◌≢◌, ℕ, ◌+◌, ◌-◌, ◌^◌, ◌<◌, ◌≤◌, ◌⊎◌, inl, inr, Bool, true, false, ◌==◌, if◌then◌else◌, min, Result, Ok, Err, IfOk, List, [], ◌∷◌, ◌++◌, ap, ◌∙◌, sym, subst, arith, refl}
+use Rattle.heap_model.specs.declared.phase.Phase.{Phase}
+use Rattle.heap_model.specs.declared.phase.Phase.TheVariants as phases
+use Rattle.heap_model.specs.State.{HeapState}
+use Rattle.heap_model.specs.Spent.{cycle_limit}
+use Rattle.heap_model.specs.QuantumSpending.{QuantumSpends}
+use Rattle.heap_model.specs.Event.{Event, Command_done, Cycle_begun, Begin_refused, Quantum_done, Quantum_refused, IsBudget, quanta_in}
+use Rattle.heap_model.specs.ReachedFrom.{cycles_in}
+use Rattle.heap_model.proofs.Bound.{chain_limit}
+use Rattle.heap_model.proofs.QuantumSpending.Quanta.{chain_units}
+use Rattle.space.specs.Pace.{in_cycle}
+use Rattle.machine.specs.declared.collector.BudgetOutOfRange.{BudgetOutOfRange}
+use Rattle.machine.specs.declared.collector.Spent.{Spent}
+use Rattle.machine.specs.Collecting.{Begins, Spends}
+use Rattle.paced.specs.Pacing.{Counts, PacedState, counted, MayAsk, DoesOn, WorksFor}
+use Rattle.paced.specs.Working.{IsPiece, DoesPiece, work_left, HasWorked}
+use Rattle.paced.proofs.Paths.{path_then}
+
+-- a cycle begins
+pub begin_piece : (old new : PacedState) → Begins old.heap new.heap (Ok tt) → new.counts ≡ counted old.counts Cycle_begun → DoesPiece old true new
+begin_piece old new b counts = record { event = Cycle_begun; is_piece = tt; does = b; counts = counts }
+
+-- a quantum of the pacer's budget is spent
+pub quantum_piece : (old new : PacedState) (mid : HeapState) (result : Result Spent BudgetOutOfRange) → IsBudget old.counts.budget → (old.heap.phase ≢ phases.Idle) × (mid ≡ old.heap) → Spends mid old.counts.budget new.heap result
+    → ((units : ℕ) (phase : Phase) → new.counts ≡ counted old.counts (Quantum_done old.counts.budget units phase)) → DoesPiece old false new
+quantum_piece old new mid (Ok spent) good busy s counts = record {
+  event = Quantum_done old.counts.budget spent.units spent.phase;
+  is_piece = (refl, busy.0);
+  does = subst (λ h. DoesOn h (Quantum_done old.counts.budget spent.units spent.phase) new.heap) busy.1 s;
+  counts = counts spent.units spent.phase;
+}
+quantum_piece old new mid (Err refused) good busy s counts = absurd (s.0 good)
+
+runs_on : (p : Phase) → p ≢ phases.Idle → in_cycle p ≡ true
+runs_on phases.Idle n = absurd (n refl)
+runs_on (phases.Roots next) n = refl
+runs_on (phases.Marking part cell) n = refl
+runs_on (phases.Sweeping page block) n = refl
+runs_on (phases.Moving m) n = refl
+
+is_none : (n : ℕ) → n ≡ 0 → (n == 0) ≡ true
+is_none n e = ap (λ z. z == 0) e
+
+not_none : (n : ℕ) → 0 < n → (n == 0) ≡ false
+not_none n l = grind arith
+
+-- what is left of the cycle that runs
+abbrev rest_of : HeapState → Bool → ℕ
+rest_of h on = if on then cycle_limit h + 1 - h.units else 0
+
+rest_low : (h : HeapState) (on : Bool) → rest_of h on ≤ cycle_limit h + 1
+rest_low h true = omega arith
+rest_low h false = omega arith
+
+left_low : (v : PacedState) → v.counts.words ≡ 0 → work_left v ≤ cycle_limit v.heap + 1
+left_low v e =
+    let x : work_left v ≡ 0 + rest_of v.heap (in_cycle v.heap.phase) = ap (λ b. (if b then 0 else cycle_limit v.heap + 2) + rest_of v.heap (in_cycle v.heap.phase)) (is_none v.counts.words e) in
+    let y = rest_low v.heap (in_cycle v.heap.phase) in
+    omega (arith, x, y)
+
+left_high : (v : PacedState) → 0 < v.counts.words → cycle_limit v.heap + 2 ≤ work_left v
+left_high v l =
+    let x : work_left v ≡ cycle_limit v.heap + 2 + rest_of v.heap (in_cycle v.heap.phase) = ap (λ b. (if b then 0 else cycle_limit v.heap + 2) + rest_of v.heap (in_cycle v.heap.phase)) (not_none v.counts.words l) in
+    omega (arith, x)
+
+pub begin_less : (old new : PacedState) → Begins old.heap new.heap (Ok tt) → new.counts.words ≡ 0 → (in_cycle old.heap.phase ≡ true) ⊎ (0 < old.counts.words) → work_left new < work_left old
+begin_less old new b words (inl on) = absurd (let z : false ≡ true = sym (ap in_cycle b.0) ∙ on in cc)
+begin_less old new b words (inr some) =
+    let l = left_low new words in
+    let g = left_high old some in
+    let e : cycle_limit new.heap ≡ cycle_limit old.heap = ap cycle_limit b.1 in
+    omega (arith, l, g, e)
+
+-- a quantum spends a unit, or ends the cycle
+spending_less : (h after : HeapState) (budget units : ℕ) (phase : Phase) → QuantumSpends h budget after units → phase ≡ after.phase → 256 ≤ budget → (phase ≡ phases.Idle) ⊎ (budget < units + 256) → h.units ≤ cycle_limit h
+    → rest_of after (in_cycle after.phase) < cycle_limit h + 1 - h.units
+spending_less h after budget units phase q ends some (inl e) low = let o : rest_of after (in_cycle after.phase) ≡ 0 = ap (λ p. rest_of after (in_cycle p)) (sym ends ∙ e) in omega (arith, o, low)
+spending_less h after budget units phase q ends some (inr l) low = by_on (in_cycle after.phase)
+  where
+    by_on : (b : Bool) → rest_of after b < cycle_limit h + 1 - h.units
+    by_on true = let t = chain_units h after units q.chain in let e = chain_limit h after units q.chain in omega (arith, t, e, low, l, some)
+    by_on false = omega (arith, low)
+
+quantum_less : (old new : PacedState) (units : ℕ) (phase : Phase) → 256 ≤ old.counts.budget → old.heap.phase ≢ phases.Idle → QuantumSpends old.heap old.counts.budget new.heap units → phase ≡ new.heap.phase → (phase ≡ phases.Idle) ⊎ (old.counts.budget < units + 256)
+    → new.counts.words ≡ old.counts.words → old.heap.units ≤ cycle_limit old.heap → work_left new < work_left old
+quantum_less old new units phase some busy q ends spends words low =
+    let limit = chain_limit old.heap new.heap units q.chain in
+    let first : (if new.counts.words == 0 then 0 else cycle_limit new.heap + 2) ≡ (if old.counts.words == 0 then 0 else cycle_limit old.heap + 2) = ap (λ n. if n == 0 then 0 else cycle_limit new.heap + 2) words ∙ ap (λ n. if old.counts.words == 0 then 0 else n + 2) limit in
+    let now : rest_of old.heap (in_cycle old.heap.phase) ≡ cycle_limit old.heap + 1 - old.heap.units = ap (rest_of old.heap) (runs_on old.heap.phase busy) in
+    let later = spending_less old.heap new.heap old.counts.budget units phase q ends some spends low in
+    omega (arith, first, now, later)
+
+pub spent_less : (old new : PacedState) (mid : HeapState) (result : Result Spent BudgetOutOfRange) → IsBudget old.counts.budget → (old.heap.phase ≢ phases.Idle) × (mid ≡ old.heap) → Spends mid old.counts.budget new.heap result
+    → IfOk result (λ s. (s.phase ≡ phases.Idle) ⊎ (old.counts.budget < s.units + 256)) → new.counts.words ≡ old.counts.words → old.heap.units ≤ cycle_limit old.heap → work_left new < work_left old
+spent_less old new mid (Ok spent) good busy s spends words low =
+    quantum_less old new spent.units spent.phase good.0 busy.0 (subst (λ h. QuantumSpends h old.counts.budget new.heap spent.units) busy.1 s.1) s.2 spends words low
+spent_less old new mid (Err refused) good busy s spends words low = absurd (s.0 good)
+
+-- a piece of work is done because the words may not be asked for yet
+works_for : (words : ℕ) (v : PacedState) (began : Bool) (e : Event) → IsPiece v began e → (MayAsk v words → ⊥) → WorksFor words v e
+works_for words v true (Command_done m c reply) i none = absurd i
+works_for words v true Cycle_begun i none = none
+works_for words v true Begin_refused i none = absurd i
+works_for words v true (Quantum_done budget units phase) i none = absurd i
+works_for words v true (Quantum_refused budget) i none = absurd i
+works_for words v false (Command_done m c reply) i none = absurd i
+works_for words v false Cycle_begun i none = absurd i
+works_for words v false Begin_refused i none = absurd i
+works_for words v false (Quantum_done budget units phase) i none = (none, i.0, i.1)
+works_for words v false (Quantum_refused budget) i none = absurd i
+
+-- how many quanta and beginnings it is
+abbrev quanta_by : Bool → ℕ
+quanta_by began = if began then 0 else 1
+
+abbrev cycles_by : Bool → ℕ
+cycles_by began = if began then 1 else 0
+
+piece_counts : (v : PacedState) (began : Bool) (e : Event) → IsPiece v began e → (quanta_in (e ∷ []) ≡ quanta_by began) × (cycles_in (e ∷ []) ≡ cycles_by began)
+piece_counts v true (Command_done m c reply) i = absurd i
+piece_counts v true Cycle_begun i = (refl, refl)
+piece_counts v true Begin_refused i = absurd i
+piece_counts v true (Quantum_done budget units phase) i = absurd i
+piece_counts v true (Quantum_refused budget) i = absurd i
+piece_counts v false (Command_done m c reply) i = absurd i
+piece_counts v false Cycle_begun i = absurd i
+piece_counts v false Begin_refused i = absurd i
+piece_counts v false (Quantum_done budget units phase) i = (refl, refl)
+piece_counts v false (Quantum_refused budget) i = absurd i
+
+-- an event leaves the plan as it is
+same_plan : (t : Counts) (e : Event) → (counted t e).plan ≡ t.plan
+same_plan t (Command_done m c reply) = refl
+same_plan t Cycle_begun = refl
+same_plan t Begin_refused = refl
+same_plan t (Quantum_done budget units phase) = refl
+same_plan t (Quantum_refused budget) = refl
+
+-- an event more adds to each count what it counts alone
+counts_more : (es : List Event) (e : Event) → (quanta_in (es ++ e ∷ []) ≡ quanta_in es + quanta_in (e ∷ [])) × (cycles_in (es ++ e ∷ []) ≡ cycles_in es + cycles_in (e ∷ []))
+counts_more [] e = (omega arith, omega arith)
+counts_more (Command_done m c reply ∷ es) e = counts_more es e
+counts_more (Cycle_begun ∷ es) e = let i = counts_more es e in (i.0, omega (arith, i.1))
+counts_more (Begin_refused ∷ es) e = counts_more es e
+counts_more (Quantum_done budget units phase ∷ es) e = let i = counts_more es e in (omega (arith, i.0), i.1)
+counts_more (Quantum_refused budget ∷ es) e = counts_more es e
+
+-- no work was done
+pub worked_none : (words : ℕ) (v : PacedState) → HasWorked words v v 0 0
+worked_none words v = record { work = []; path = refl; quanta_done = refl; cycles_begun = refl; plan = refl }
+
+-- a piece more was done
+worked_more : (words : ℕ) (old now new : PacedState) (quanta cycles more begun : ℕ) (began : Bool) → HasWorked words old now quanta cycles → (MayAsk now words → ⊥) → DoesPiece now began new
+    → more ≡ min (quanta + quanta_by began) (2 ^ 64 - 1) → begun ≡ min (cycles + cycles_by began) (2 ^ 64 - 1) → HasWorked words old new more begun
+worked_more words old now new quanta cycles more begun began w none p q b = record {
+  work = w.work ++ p.event ∷ [];
+  path = path_then (WorksFor words) w.work (p.event ∷ []) old now new w.path (new, works_for words now began p.event p.is_piece none, p.does, p.counts, refl);
+  quanta_done = (let c = counts_more w.work p.event in let n = c.0 in let x = piece_counts now began p.event p.is_piece in let y = x.0 in let v = w.quanta_done in omega (arith, n, y, v, q));
+  cycles_begun = (let c = counts_more w.work p.event in let n = c.1 in let x = piece_counts now began p.event p.is_piece in let y = x.1 in let v = w.cycles_begun in omega (arith, n, y, v, b));
+  plan = ap (λ (t : Counts). t.plan) p.counts ∙ same_plan now.counts p.event ∙ w.plan;
+}
+
+pub worked_cycle : (words : ℕ) (old now new : PacedState) (quanta cycles begun : ℕ) → HasWorked words old now quanta cycles → (MayAsk now words → ⊥) → DoesPiece now true new → begun ≡ min (cycles + 1) (2 ^ 64 - 1) → HasWorked words old new quanta begun
+worked_cycle words old now new quanta cycles begun w none p b = worked_more words old now new quanta cycles quanta begun true w none p (let v = w.quanta_done in omega (arith, v)) b
+
+pub worked_quantum : (words : ℕ) (old now new : PacedState) (quanta cycles more : ℕ) → HasWorked words old now quanta cycles → (MayAsk now words → ⊥) → DoesPiece now false new → more ≡ min (quanta + 1) (2 ^ 64 - 1) → HasWorked words old new more cycles
+worked_quantum words old now new quanta cycles more w none p q = worked_more words old now new quanta cycles more cycles false w none p q (let v = w.cycles_begun in omega (arith, v))

@@ -1,0 +1,53 @@
+-- What is promised of a heap that was paced since it was made.
+use Rattle.std.specs.Prelude.{◌≡◌, ℕ, ◌*◌, true, List}
+use Rattle.settings.specs.declared.config.Config.{Config}
+use Rattle.settings.specs.Config.{limits_of}
+use Rattle.heap_model.specs.State.{HeapState}
+use Rattle.heap_model.specs.Event.{Course, Event, Runs, HaveBudgets}
+use Rattle.heap_model.specs.Opening.{IsOpening}
+use Rattle.heap_model.specs.ReachedFrom.{opened}
+use Rattle.heap_model.specs.Settings.{settings_of, settings_by}
+use Rattle.space.specs.Room.{AllHaveRoom}
+use Rattle.fragmentation.specs.Flow.{Flow, opening_meter, Paces, LivesIn, AllMetered}
+use Rattle.paced.specs.declared.figures.Figures.{Figures}
+use Rattle.paced.specs.declared.plan.Plan.{Plan}
+use Rattle.paced.specs.Pacing.{Counts, PacerView, PacedState}
+
+-- the flow of a plan, for what is live at most: blocks of every class, and nothing besides what each quantum allows
+abbrev pub planned_flow : ℕ → Plan → Flow
+planned_flow live plan = record {
+  makes = λ class. true;
+  live_words = live;
+  quantum_words = plan.quantum_words;
+  burst = 0;
+  cycle_words = plan.cycle_words;
+}
+
+-- with a plan, and quanta of a budget, nothing is counted yet
+abbrev pub first_counts : ℕ → Plan → Counts
+first_counts budget plan = record { plan = plan; budget = budget; words = 0; quanta = 0 }
+
+-- no work was done yet
+abbrev pub no_figures : Figures
+no_figures = record { quanta = 0; cycles = 0; most_quanta = 0 }
+
+-- a pacer that was just made
+abbrev pub first_pacer : ℕ → Plan → PacerView
+first_pacer budget plan = record { counts = first_counts budget plan; figures = no_figures }
+
+-- a heap of a configuration that was just made, and a pacer of its budget that has counted nothing yet
+pub record IsJustPaced (config : Config) (plan : Plan) (v : PacedState) : Type 0 where
+  pub heap : IsOpening v.heap
+  pub settings : settings_of v.heap ≡ settings_by config
+  pub counts : v.counts ≡ first_counts (config.collector_ticks * config.rate) plan
+
+-- Events lead from one heap to another with a history, which is empty at first; they keep to the flow, where each quantum
+-- among them has the configuration's budget; and whatever budgets the quanta have: if what is live is within the flow
+-- wherever one of the events begins a cycle, no reply among them is the refusal for lack of space.
+pub record FindsRoom (config : Config) (flow : Flow) (first now : HeapState) (es : List Event) : Type 0 where
+  pub course : Course
+  pub heap : course.heap ≡ now
+  pub runs : Runs (opened first) es course
+  pub paces : HaveBudgets (config.collector_ticks * config.rate) es
+      → AllMetered (Paces flow (config.collector_ticks * config.rate)) (opening_meter (limits_of config)) es
+  pub room : AllMetered (LivesIn flow) (opening_meter (limits_of config)) es → AllHaveRoom es

@@ -1,0 +1,259 @@
+//! What paces a heap that its caller lends.
+ghost use Rattle.std.specs.Prelude.{◌≡◌, ◌⊎◌, ℕ, ◌+◌, ◌<◌, ◌*◌, ◌≤◌, true, false, IfOk, OnOk, OnErr};
+ghost use Rattle.heap_model.specs.declared.phase.Phase.{Phase};
+ghost use Rattle.heap_model.specs.declared.phase.Phase.TheVariants as phases;
+ghost use Rattle.heap_model.specs.Event.{Cycle_begun, Quantum_done, IsBudget};
+ghost use Rattle.heap_model.specs.Spent.{cycle_limit};
+ghost use Rattle.space.specs.Pace.{in_cycle};
+ghost use Rattle.machine.specs.Collecting.{Begins, Spends};
+ghost use Rattle.machine.specs.Recorded.{begin_done, quantum_done};
+ghost use Rattle.paced.specs.Pacing.{paced_by, state_of, MayAsk, Paced, Calls, Counted};
+ghost use Rattle.paced.specs.Rooms.{first_pacer};
+ghost use Rattle.paced.specs.Working.{KeepsAgreeing, DoesPiece, PaysUnless, work_left};
+
+use crate::asking::{words_asked, words_of_shape};
+use crate::figures::Figures;
+use crate::plan::Plan;
+use graph_heap::{Command, Reply, Shape};
+use machine::{BudgetOutOfRange, Busy, Heap, Spent};
+use settings::{Config, LEAST_BUDGET, MOST_BUDGET};
+use std::marker::Model;
+use thiserror::Error;
+
+/// The blocks of the new object have more words than the plan has for a whole cycle.
+#[derive(Clone, Copy, Debug, PartialEq, Eq, Error)]
+#[error("object above the words of a cycle")]
+pub struct AbovePlan;
+
+/// A plan, and what is counted for it. It paces one heap, which its caller lends to each call: all that makes objects,
+/// begins cycles and spends quanta on that heap goes through the pacer. It takes no memory. Contracts see the plan, the
+/// budget of a quantum, what is counted, and the figures.
+#[derive(Drop)]
+pub struct Pacer {
+    plan: Plan,
+    /// The budget of a quantum, in units.
+    budget: u32,
+    /// Words of blocks that were asked for since the last cycle began.
+    words: u64,
+    /// Quanta of that budget or a greater one that were done since then.
+    quanta: u64,
+    figures: Figures,
+}
+
+impl Model for Pacer {
+    ghost use Rattle.heap_model.specs.Event.{IsBudget};
+    ghost use Rattle.paced.specs.Pacing.{PacerView};
+
+    ghost Value = { PacerView };
+
+    ghost view = { λ a. record {
+      counts = record { plan = a.plan; budget = a.budget; words = a.words; quanta = a.quanta };
+      figures = a.figures;
+    } };
+
+    ghost invariant = { λ a. IsBudget a.budget };
+}
+
+impl Pacer {
+    /// A pacer for a heap of a configuration that was just made, with quanta of the configuration's budget. That the plan
+    /// fits is for the caller to see (`flow_fits`): with one that doesn't, objects may be refused for lack of space.
+    pub fn new(config: &Config, plan: Plan) -> Pacer
+        ensures { result ≡ first_pacer (config.now.collector_ticks * config.now.rate) plan }
+    {
+        Pacer::fresh(plan, config.budget())
+    }
+
+    /// The same, with quanta of this budget. Refused outside `LEAST_BUDGET` to `MOST_BUDGET`.
+    pub fn with_budget(plan: Plan, budget: u32) -> Result<Pacer, BudgetOutOfRange>
+        ensures made { IfOk result (λ p. p ≡ first_pacer budget plan) }
+        ensures within { OnOk result (IsBudget budget) }
+        ensures refused { OnErr result (IsBudget budget → ⊥) }
+    {
+        if budget < LEAST_BUDGET || MOST_BUDGET < budget {
+            return Err(BudgetOutOfRange);
+        }
+        Ok(Pacer::fresh(plan, budget))
+    }
+
+    /// One that has counted nothing.
+    fn fresh(plan: Plan, budget: u32) -> Pacer
+        requires { IsBudget budget }
+        ensures { result ≡ first_pacer budget plan }
+    {
+        Pacer {
+            plan,
+            budget,
+            words: 0,
+            quanta: 0,
+            figures: Figures::NONE,
+        }
+    }
+
+    /// The plan.
+    pub fn plan(&self) -> Plan
+        ensures { result ≡ self.now.counts.plan }
+    {
+        self.plan
+    }
+
+    /// The units of a quantum that it spends, which is the least budget of one that it counts.
+    pub fn budget(&self) -> u32
+        ensures { result ≡ self.now.counts.budget }
+    {
+        self.budget
+    }
+
+    /// What the collector did because the pacer wanted it.
+    pub fn figures(&self) -> Figures
+        ensures { result ≡ self.now.figures }
+    {
+        self.figures
+    }
+
+    /// Whether this many words may be asked for now.
+    fn allows(&self, heap: &Heap, words: u64) -> bool
+        ensures yes { result ≡ true → MayAsk (state_of (paced_by self.now heap.now)) words }
+        ensures no { result ≡ false → MayAsk (state_of (paced_by self.now heap.now)) words → ⊥ }
+        ensures behind { result ≡ false → words ≤ self.now.counts.plan.cycle_words
+            → (in_cycle heap.now.phase ≡ true) ⊎ (0 < self.now.counts.words) }
+        ensures within { heap.now.units ≤ cycle_limit heap.now }
+    {
+        let idle = heap.phase().is_idle();
+        if words == 0 {
+            return true;
+        }
+        let after = u128::from(self.words) + u128::from(words);
+        if after > u128::from(self.plan.cycle_words) {
+            return false;
+        }
+        if idle {
+            return true;
+        }
+        let due = (u128::from(self.quanta) + 1) * u128::from(self.plan.quantum_words);
+        after <= due
+    }
+
+    /// A cycle has begun.
+    fn count_begin(&mut self)
+        ensures { Counted self.old Cycle_begun self.new }
+    {
+        self.words = 0;
+        self.quanta = 0;
+    }
+
+    /// A quantum of this budget was done.
+    fn count_quantum(&mut self, budget: u32)
+        ensures { (units : ℕ) (phase : Phase) → Counted self.old (Quantum_done budget units phase) self.new }
+    {
+        if budget >= self.budget {
+            self.quanta = self.quanta.saturating_add(1);
+        }
+    }
+
+    /// Begins a cycle, or spends a quantum on the one that is running; and whether it began one.
+    fn work(&mut self, heap: &mut Heap) -> bool
+        requires { heap.old.units ≤ cycle_limit heap.old }
+        ensures piece { DoesPiece (state_of (paced_by self.old heap.old)) result
+            (state_of (paced_by self.new heap.new)) }
+        ensures figures { self.new.figures ≡ self.old.figures }
+        ensures agrees { KeepsAgreeing heap.old heap.new }
+        ensures less { (in_cycle heap.old.phase ≡ true) ⊎ (0 < self.old.counts.words)
+            → work_left (state_of (paced_by self.new heap.new)) < work_left (state_of (paced_by self.old heap.old)) }
+    {
+        let budget = self.budget;
+        match heap.begin() {
+            Ok(()) => {
+                self.count_begin();
+                true
+            }
+            Err(_busy) => {
+                let _spent = heap.quantum(budget);
+                self.count_quantum(budget);
+                false
+            }
+        }
+    }
+
+    /// Has the collector work until this many words may be asked for, and counts them. Where they are more than a whole
+    /// cycle has, nothing is done.
+    fn pay(&mut self, heap: &mut Heap, words: u64) -> Result<(), AbovePlan>
+        ensures { PaysUnless (paced_by self.old heap.old) words result (paced_by self.new heap.new) }
+    {
+        if words > self.plan.cycle_words {
+            return Err(AbovePlan);
+        }
+        let mut quanta = 0u64;
+        let mut cycles = 0u64;
+        while !self.allows(heap, words) {
+            if self.work(heap) {
+                cycles = cycles.saturating_add(1);
+            } else {
+                quanta = quanta.saturating_add(1);
+            }
+        }
+        self.figures = self.figures.with_work(quanta, cycles);
+        self.words += words;
+        Ok(())
+    }
+
+    /// Does a command of a mutator, and replies. Before it the collector works as much as the plan wants for what the
+    /// command asks, and no more: cycles begin, and quanta are spent. A command but `New` asks for no words, and may be
+    /// done on the heap without the pacer just as well. Where the command asks for more words than a whole cycle has,
+    /// nothing is done.
+    pub fn call(
+        &mut self,
+        heap: &mut Heap,
+        mutator: u32,
+        command: Command,
+    ) -> Result<Reply, AbovePlan>
+        ensures calls { Calls (paced_by self.old heap.old) mutator command result (paced_by self.new heap.new) }
+        ensures paced { Paced (state_of (paced_by self.old heap.old)) (state_of (paced_by self.new heap.new)) }
+    {
+        self.pay(heap, words_asked(&command))?;
+        Ok(heap.step(mutator, command))
+    }
+
+    /// A new object, with null references and zero words, into slot dst. Before it the collector works as much as the
+    /// plan wants for the object, and no more. Where it has more words than a whole cycle has, nothing is done.
+    pub fn make(
+        &mut self,
+        heap: &mut Heap,
+        mutator: u32,
+        dst: u32,
+        shape: Shape,
+    ) -> Result<Reply, AbovePlan>
+        ensures calls { Calls (paced_by self.old heap.old) mutator (Command.New dst shape) result
+            (paced_by self.new heap.new) }
+        ensures paced { Paced (state_of (paced_by self.old heap.old)) (state_of (paced_by self.new heap.new)) }
+    {
+        self.pay(heap, words_of_shape(&shape))?;
+        Ok(heap.make(mutator, dst, shape))
+    }
+
+    /// Begins a cycle, sooner than the plan wants it: what is live is then to be within the flow. Refused while one is
+    /// running, and then nothing changes.
+    pub fn begin(&mut self, heap: &mut Heap) -> Result<(), Busy>
+        ensures begins { Begins heap.old heap.new result }
+        ensures agrees { KeepsAgreeing heap.old heap.new }
+        ensures counted { Counted self.old (begin_done result) self.new }
+        ensures paced { Paced (state_of (paced_by self.old heap.old)) (state_of (paced_by self.new heap.new)) }
+    {
+        heap.begin()?;
+        self.count_begin();
+        Ok(())
+    }
+
+    /// Spends units of a budget on the cycle that is running, besides what the plan wants. Words may be asked for it if
+    /// the budget is the plan's or greater. Refused outside `LEAST_BUDGET` to `MOST_BUDGET`, and then nothing changes.
+    pub fn quantum(&mut self, heap: &mut Heap, budget: u32) -> Result<Spent, BudgetOutOfRange>
+        ensures spends { Spends heap.old budget heap.new result }
+        ensures ends { IfOk result (λ s. (s.phase ≡ phases.Idle) ⊎ (budget < s.units + 256)) }
+        ensures agrees { KeepsAgreeing heap.old heap.new }
+        ensures counted { Counted self.old (quantum_done budget result) self.new }
+        ensures paced { Paced (state_of (paced_by self.old heap.old)) (state_of (paced_by self.new heap.new)) }
+    {
+        let spent = heap.quantum(budget)?;
+        self.count_quantum(budget);
+        Ok(spent)
+    }
+}

@@ -84,14 +84,14 @@ typedef struct metronome_settings {
 
 /* How a call ends, and what a program does then. Nothing has changed by a call that is refused. Of several reasons a
  * command tells the first in the order: 1 of the mutator, 15, 14, 1 of the slots as they are named, 8, 2, 4, 3; of a new object
- * 1, 5, 6, 7. What is a mistake of the program comes again as long as the call is the same. */
+ * 1, 5, 6, 7. Where it says "a mistake" the same call is refused again. */
 enum metronome_status {
     METRONOME_OK = 0,
     METRONOME_BAD_SLOT = 1,         /* no such mutator, or no such slot: a mistake, or of frames that the row has none left */
     METRONOME_NULL_SLOT = 2,        /* the slot that names the object holds null: the end of a list, say; else a mistake */
     METRONOME_BAD_INDEX = 3,        /* the object has no cell of that number: a mistake, or the end of an array */
     METRONOME_WRONG_KIND = 4,       /* the object has no cells of that kind: a mistake */
-    METRONOME_TOO_LARGE = 5,        /* more than 252 cells, or than 4000000 of an array: take an array, or several */
+    METRONOME_TOO_LARGE = 5,        /* more than 252 cells, or than 4000000 of an array: take an array, or several calls */
     METRONOME_IDENTITIES_SPENT = 6, /* the next identity is above the setting: no object can be made in this heap any more */
     METRONOME_NO_SPACE = 7,         /* no room for the object: metronome_whole_cycle, and the call again. If it is refused then
                                      * too, what can be reached leaves no room: let go of some, or make a heap of more pages */
@@ -276,6 +276,67 @@ metronome_answer metronome_join(metronome *heap, uint32_t mutator) METRONOME_NON
 
 /* Null into each slot of a mutator, which is live no more. DONE; refused: BAD_SLOT, NOT_LIVE, NO_HEAP. */
 metronome_answer metronome_leave(metronome *heap, uint32_t mutator) METRONOME_NONNULL;
+
+/* ---- Lists of commands. Each of these calls does commands of a mutator one after the other, as if they were called, and stops at
+ * the first that is refused. Of cells at most 252 are named in a call: for more it is TOO_LARGE, and nothing is done ---- */
+
+/* How far a list was done. */
+typedef struct metronome_progress {
+    uint32_t done;   /* how many commands were done */
+    uint32_t status; /* OK where all were; else why the next one was refused */
+} metronome_progress;
+
+/* metronome_clear of `count` slots, from number `first` on. */
+metronome_progress metronome_clear_slots(metronome *heap, uint32_t mutator, uint32_t first, uint32_t count) METRONOME_NONNULL;
+
+/* metronome_copy of slot src into slot dst, and then metronome_clear of src, unless both are one. */
+metronome_progress metronome_move(metronome *heap, uint32_t mutator, uint32_t dst, uint32_t src) METRONOME_NONNULL;
+
+/* metronome_get of `count` word cells of slot obj's object, from cell `first` on, into words[0], words[1] and so on. What wasn't
+ * read stays. Programs call metronome_get_words. */
+metronome_progress metronome_get_words_into(metronome *heap, uint32_t mutator, uint32_t obj, uint32_t first, uint64_t *words,
+                                            size_t count) METRONOME_NONNULL;
+
+/* The same. Where count is 0 words may be NULL. */
+static inline metronome_progress metronome_get_words(metronome *heap, uint32_t mutator, uint32_t obj, uint32_t first,
+                                                     uint64_t *words, size_t count) {
+    uint64_t none;
+    return metronome_get_words_into(heap, mutator, obj, first, count == 0 ? &none : words, count);
+}
+
+/* metronome_put of words[0], words[1] and so on into `count` word cells of slot obj's object, from cell `first` on. Programs call
+ * metronome_put_words. */
+metronome_progress metronome_put_words_from(metronome *heap, uint32_t mutator, uint32_t obj, uint32_t first, const uint64_t *words,
+                                            size_t count) METRONOME_NONNULL;
+
+/* The same. Where count is 0 words may be NULL. */
+static inline metronome_progress metronome_put_words(metronome *heap, uint32_t mutator, uint32_t obj, uint32_t first,
+                                                     const uint64_t *words, size_t count) {
+    const uint64_t none = 0;
+    return metronome_put_words_from(heap, mutator, obj, first, count == 0 ? &none : words, count);
+}
+
+/* For each of `count` reference cells two commands: metronome_load of slot from's object into slot `through`, and metronome_store
+ * from there into slot to's object; from cells from_first and to_first on, in rising order. Slot `through` holds what was loaded last. */
+metronome_progress metronome_copy_refs(metronome *heap, uint32_t mutator, uint32_t through, uint32_t from, uint32_t from_first,
+                                       uint32_t to, uint32_t to_first, uint32_t count) METRONOME_NONNULL;
+
+/* metronome_new_plain into slot dst; then metronome_store of what slots[0], slots[1] and so on hold into its reference cells, and
+ * metronome_put of contents[0] and so on into its word cells, from cell 0 on. The other cells stay null and 0. Programs call
+ * metronome_new_with. */
+metronome_progress metronome_new_from(metronome *heap, uint32_t mutator, uint32_t dst, uint32_t refs, uint32_t words,
+                                      const uint32_t *slots, size_t slot_count, const uint64_t *contents,
+                                      size_t word_count) METRONOME_NONNULL;
+
+/* The same. Where a count is 0 its pointer may be NULL. */
+static inline metronome_progress metronome_new_with(metronome *heap, uint32_t mutator, uint32_t dst, uint32_t refs, uint32_t words,
+                                                    const uint32_t *slots, size_t slot_count, const uint64_t *contents,
+                                                    size_t word_count) {
+    const uint32_t no_slot = 0;
+    const uint64_t no_word = 0;
+    return metronome_new_from(heap, mutator, dst, refs, words, slot_count == 0 ? &no_slot : slots, slot_count,
+                              word_count == 0 ? &no_word : contents, word_count);
+}
 
 /* ---- The collector. It needs no live mutator ---- */
 

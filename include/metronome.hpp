@@ -74,6 +74,20 @@ public:
         return detail::tell_kind(metronome_compare_put(owner->handle(), owner->number, slot, i, old, replacement),
                                  METRONOME_STORED, stored);
     }
+    // Reads as many word cells from the first on, and tells how many were read.
+    std::uint32_t try_get_words(std::uint32_t first, std::uint64_t *words, std::size_t count, std::uint32_t &done) const noexcept {
+        if (owner == nullptr) return METRONOME_BAD_SLOT;
+        const metronome_progress progress = metronome_get_words(owner->handle(), owner->number, slot, first, words, count);
+        done = progress.done;
+        return progress.status;
+    }
+    // Writes as many words from the first cell on, and tells how many were written.
+    std::uint32_t try_put_words(std::uint32_t first, const std::uint64_t *words, std::size_t count, std::uint32_t &done) noexcept {
+        if (owner == nullptr) return METRONOME_BAD_SLOT;
+        const metronome_progress progress = metronome_put_words(owner->handle(), owner->number, slot, first, words, count);
+        done = progress.done;
+        return progress.status;
+    }
     // What the other root holds, into this one.
     std::uint32_t try_assign(const Root &from) noexcept {
         if (!is_beside(from)) return METRONOME_BAD_SLOT;
@@ -120,6 +134,15 @@ public:
         return word;
     }
     void put(std::uint32_t i, std::uint64_t word) { detail::need(try_put(i, word)); }
+    // At most 252 words at once.
+    void get_words(std::uint32_t first, std::uint64_t *words, std::size_t count) const {
+        std::uint32_t done = 0;
+        detail::need(try_get_words(first, words, count, done));
+    }
+    void put_words(std::uint32_t first, const std::uint64_t *words, std::size_t count) {
+        std::uint32_t done = 0;
+        detail::need(try_put_words(first, words, count, done));
+    }
     // Whether it was stored: the cell was `old`.
     bool compare_put(std::uint32_t i, std::uint64_t old, std::uint64_t replacement) {
         bool stored = false;

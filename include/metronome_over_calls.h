@@ -37,14 +37,12 @@ METRONOME_NONNULL static inline uint32_t metronome_take_slot(metronome_row *row,
 
 /* Closes a frame, and those that were opened after it: null into each of their slots, which are free again. What is to be
  * kept is copied into a slot of an outer frame before. Needs a live mutator. OK; NOT_LIVE, NO_HEAP, or BAD_SLOT where the row
- * isn't one of the heap's, and the slots that weren't reached stay taken. */
+ * isn't one of the heap's, and all slots stay taken then. */
 METRONOME_NONNULL static inline uint32_t metronome_close_frame(metronome *heap, metronome_row *row, metronome_frame frame) {
-    while (row->next > frame) {
-        metronome_answer answer = metronome_clear(heap, row->mutator, row->next - 1);
-        if (answer.kind == METRONOME_REFUSED) return (uint32_t)answer.number;
-        row->next--;
-    }
-    return METRONOME_OK;
+    if (row->next <= frame) return METRONOME_OK;
+    metronome_progress progress = metronome_clear_slots(heap, row->mutator, frame, row->next - frame);
+    if (progress.status == METRONOME_OK) row->next = frame;
+    return progress.status;
 }
 
 /* ---- The collector, paced by what is made ---- */

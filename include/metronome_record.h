@@ -281,6 +281,8 @@ static inline metronome_answer metronome_recorded_leave(metronome *heap, uint32_
     return answer;
 }
 
+#include "metronome_record_lists.h"
+
 #undef METRONOME_4
 #undef METRONOME_3
 #undef METRONOME_2
@@ -309,6 +311,12 @@ static inline metronome_answer metronome_recorded_leave(metronome *heap, uint32_
 #define metronome_describe metronome_recorded_describe
 #define metronome_join metronome_recorded_join
 #define metronome_leave metronome_recorded_leave
+#define metronome_clear_slots metronome_recorded_clear_slots
+#define metronome_move metronome_recorded_move
+#define metronome_get_words metronome_recorded_get_words
+#define metronome_put_words metronome_recorded_put_words
+#define metronome_copy_refs metronome_recorded_copy_refs
+#define metronome_new_with metronome_recorded_new_with
 #define metronome_begin metronome_recorded_begin
 #define metronome_quantum metronome_recorded_quantum
 

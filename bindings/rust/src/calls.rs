@@ -147,6 +147,21 @@ impl Answer {
     }
 }
 
+/// How far a list of commands was done.
+#[repr(C)]
+pub(crate) struct ProgressTold {
+    done: u32,
+    status: u32,
+}
+
+impl ProgressTold {
+    /// How many commands were done, unless one was refused.
+    pub(crate) fn all(&self) -> Result<u32> {
+        done(self.status)?;
+        Ok(self.done)
+    }
+}
+
 /// A status as a result.
 pub(crate) fn done(status: u32) -> Result<()> {
     match status {
@@ -251,6 +266,46 @@ extern "C" {
     pub(crate) fn metronome_describe(heap: *mut Handle, mutator: u32, a: u32, shape: *mut ShapeTold) -> Answer;
     pub(crate) fn metronome_join(heap: *mut Handle, mutator: u32) -> Answer;
     pub(crate) fn metronome_leave(heap: *mut Handle, mutator: u32) -> Answer;
+    #[allow(dead_code)] // a root clears its own slot
+    pub(crate) fn metronome_clear_slots(heap: *mut Handle, mutator: u32, first: u32, count: u32) -> ProgressTold;
+    pub(crate) fn metronome_move(heap: *mut Handle, mutator: u32, dst: u32, src: u32) -> ProgressTold;
+    pub(crate) fn metronome_get_words_into(
+        heap: *mut Handle,
+        mutator: u32,
+        obj: u32,
+        first: u32,
+        words: *mut u64,
+        count: usize,
+    ) -> ProgressTold;
+    pub(crate) fn metronome_put_words_from(
+        heap: *mut Handle,
+        mutator: u32,
+        obj: u32,
+        first: u32,
+        words: *const u64,
+        count: usize,
+    ) -> ProgressTold;
+    pub(crate) fn metronome_copy_refs(
+        heap: *mut Handle,
+        mutator: u32,
+        through: u32,
+        from: u32,
+        from_first: u32,
+        to: u32,
+        to_first: u32,
+        count: u32,
+    ) -> ProgressTold;
+    pub(crate) fn metronome_new_from(
+        heap: *mut Handle,
+        mutator: u32,
+        dst: u32,
+        refs: u32,
+        words: u32,
+        slots: *const u32,
+        slot_count: usize,
+        contents: *const u64,
+        word_count: usize,
+    ) -> ProgressTold;
     pub(crate) fn metronome_begin(heap: *mut Handle) -> u32;
     pub(crate) fn metronome_quantum(heap: *mut Handle, budget: u32, spent: *mut SpentTold) -> u32;
     pub(crate) fn metronome_phase(heap: *mut Handle, phase: *mut u32) -> u32;

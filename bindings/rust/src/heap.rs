@@ -96,6 +96,11 @@ impl Heap {
         self.recording.take().map_or(Ok(()), Recording::end)
     }
 
+    /// Whether the heap is recorded.
+    pub(crate) fn is_recorded(&self) -> bool {
+        self.recording.borrow().is_some()
+    }
+
     /// Writes down a command of a mutator, where the heap is recorded.
     pub(crate) fn note(&self, mutator: u32, line: fmt::Arguments<'_>, answer: &Answer, shape: &ShapeTold) {
         if let Some(recording) = self.recording.borrow_mut().as_mut() {

@@ -2,7 +2,7 @@
 use std::cell::RefCell;
 use std::fmt;
 
-use crate::calls::{self, Answer, Handle, ShapeTold};
+use crate::calls::{self, Answer, Handle, ProgressTold, ShapeTold};
 use crate::heap::Heap;
 use crate::refusal::{Refusal, Result};
 use crate::root::{Compared, Root};
@@ -45,6 +45,16 @@ impl<'h> Mutator<'h> {
         self.tell(line, |heap, m, _| call(heap, m)).0
     }
 
+    /// A list of commands of this mutator, where the heap isn't recorded.
+    pub(crate) fn list(&self, call: impl FnOnce(*mut Handle, u32) -> ProgressTold) -> ProgressTold {
+        call(self.heap.handle(), self.number)
+    }
+
+    /// Whether its commands are written down, each with a line of its own.
+    pub(crate) fn is_recorded(&self) -> bool {
+        self.heap.is_recorded()
+    }
+
     /// Lets a slot, which holds null, be a root again.
     pub(crate) fn give_back(&self, slot: u32) {
         self.free.borrow_mut().push(slot);
@@ -70,6 +80,26 @@ impl<'h> Mutator<'h> {
         // SAFETY: the heap is open, and lives through the call.
         let call = |heap, m| unsafe { calls::metronome_new_plain(heap, m, dst, refs, words) };
         self.command(format_args!("new {dst} plain {refs} {words}"), call).number().map(drop)
+    }
+
+    /// A new object of `refs` reference cells and `words` word cells, of which the first hold what these roots do, and these
+    /// words: at most 252 together. Refused as [`Mutator::new_plain`], and as `BadIndex` where there are fewer cells.
+    pub fn new_with(&self, refs: u32, words: u32, held: &[&Root<'_>], contents: &[u64]) -> Result<Root<'_>> {
+        let root = self.null()?;
+        let slots = held.iter().map(|it| it.slot_of(self)).collect::<Result<Vec<_>>>()?;
+        if self.heap.is_recorded() && slots.len() + contents.len() <= 252 {
+            self.new_plain_into(refs, words, &root)?;
+            (0..).zip(held).try_for_each(|(i, it)| root.store(i, it))?;
+            (0..).zip(contents).try_for_each(|(i, word)| root.put(i, *word))?;
+            return Ok(root);
+        }
+        let dst = root.slot_of(self)?;
+        let (row, row_length, cells, cell_count) = (slots.as_ptr(), slots.len(), contents.as_ptr(), contents.len());
+        // SAFETY: the heap is open, and it, the slots and the words live through the call.
+        let call =
+            |heap, m| unsafe { calls::metronome_new_from(heap, m, dst, refs, words, row, row_length, cells, cell_count) };
+        self.list(call).all()?;
+        Ok(root)
     }
 
     /// A new array of this many reference cells, all null: at most 4000000. Refused as [`Mutator::new_plain`].

@@ -14,6 +14,9 @@ pub struct Root<'m> {
     slot: u32,
 }
 
+/// The most words that are read or written at once.
+const MOST_WORDS: usize = 252;
+
 /// The outcome of a comparison.
 #[derive(Clone, Copy, Debug, PartialEq, Eq)]
 pub enum Compared {
@@ -133,6 +136,60 @@ impl<'m> Root<'m> {
         // SAFETY: the heap is open, and lives through the call.
         let call = |heap, m| unsafe { calls::metronome_compare_put(heap, m, obj, i, old, new) };
         self.mutator.command(format_args!("casput {obj} {i} {old} {new}"), call).compared().map(Compared::of)
+    }
+
+    /// Reads as many word cells as there is room for, at most 252, from cell `first` on. What isn't read stays. Refused as
+    /// [`Root::get`], and as `TooLarge` where there is room for more.
+    pub fn get_words(&self, first: u32, words: &mut [u64]) -> Result<()> {
+        if self.mutator.is_recorded() && words.len() <= MOST_WORDS {
+            return words.iter_mut().zip(first..).try_for_each(|(word, i)| self.get(i).map(|told| *word = told));
+        }
+        // SAFETY: the heap is open, and it and the words live through the call.
+        let call =
+            |heap, m| unsafe { calls::metronome_get_words_into(heap, m, self.slot, first, words.as_mut_ptr(), words.len()) };
+        self.mutator.list(call).all().map(drop)
+    }
+
+    /// Writes at most 252 words into as many word cells, from cell `first` on. Those before one that is refused are written.
+    /// Refused as [`Root::get_words`].
+    pub fn put_words(&self, first: u32, words: &[u64]) -> Result<()> {
+        if self.mutator.is_recorded() && words.len() <= MOST_WORDS {
+            return words.iter().zip(first..).try_for_each(|(word, i)| self.put(i, *word));
+        }
+        // SAFETY: the heap is open, and it and the words live through the call.
+        let call =
+            |heap, m| unsafe { calls::metronome_put_words_from(heap, m, self.slot, first, words.as_ptr(), words.len()) };
+        self.mutator.list(call).all().map(drop)
+    }
+
+    /// What `count` reference cells of this root's object hold, at most 252, from cell `first` on, into as many of another
+    /// root's, from cell `to_first` on, one after the other: each by way of the root `through`, which holds the last one then.
+    /// Refused as [`Root::load`], and as `TooLarge`.
+    pub fn copy_refs(&self, first: u32, to: &Root<'_>, to_first: u32, count: u32, through: &Root<'_>) -> Result<()> {
+        if self.mutator.is_recorded() && count as usize <= MOST_WORDS {
+            return (0..count).try_for_each(|i| {
+                self.load_into(first.saturating_add(i), through)?;
+                to.store(to_first.saturating_add(i), through)
+            });
+        }
+        let (through, to) = (through.slot_of(self.mutator)?, to.slot_of(self.mutator)?);
+        // SAFETY: the heap is open, and lives through the call.
+        let call = |heap, m| unsafe { calls::metronome_copy_refs(heap, m, through, self.slot, first, to, to_first, count) };
+        self.mutator.list(call).all().map(drop)
+    }
+
+    /// What another root holds, into this one, and null into that one. Refused: `BadSlot`.
+    pub fn take(&self, from: &Root<'_>) -> Result<()> {
+        if self.mutator.is_recorded() {
+            self.assign(from)?;
+            if self.slot != from.slot {
+                from.clear();
+            }
+            return Ok(());
+        }
+        let (dst, src) = (self.slot, from.slot_of(self.mutator)?);
+        // SAFETY: the heap is open, and lives through the call.
+        self.mutator.list(|heap, m| unsafe { calls::metronome_move(heap, m, dst, src) }).all().map(drop)
     }
 
     /// What another root holds, into this one. Refused: `BadSlot`.

@@ -200,3 +200,29 @@ fn nothing_is_refused_at_a_pace() -> Result<()> {
     assert_eq!(heap.phase(), Phase::Idle);
     Ok(())
 }
+
+#[test]
+fn lists_of_commands_end_at_the_first_that_is_refused() -> Result<()> {
+    let heap = Heap::new(&Settings { slots: 8, pages: 16, ..SMALL })?;
+    let mutator = heap.mutator(0)?;
+    let inner = mutator.new_plain(0, 1)?;
+    let made = mutator.new_with(2, 3, &[&inner], &[7, 8])?;
+    assert!(made.load(0)?.is_same(&inner)? && made.load(1)?.is_null());
+    let mut words = [9; 4];
+    made.get_words(0, &mut words[..3])?;
+    assert_eq!(words, [7, 8, 0, 9]);
+    assert_eq!(made.get_words(1, &mut words).err(), Some(Refusal::BadIndex));
+    assert_eq!(words, [8, 0, 0, 9]);
+    assert_eq!(made.put_words(2, &[5, 6]).err(), Some(Refusal::BadIndex));
+    assert_eq!(made.get(2)?, 5);
+    assert_eq!(made.put_words(0, &[0; 253]).err(), Some(Refusal::TooLarge));
+    let (array, through) = (mutator.new_refs(3)?, mutator.null()?);
+    made.copy_refs(0, &array, 1, 2, &through)?;
+    assert!(array.load(1)?.is_same(&inner)? && array.load(2)?.is_null());
+    assert_eq!(made.copy_refs(0, &array, 2, 2, &through).err(), Some(Refusal::BadIndex));
+    through.take(&inner)?;
+    assert!(inner.is_null() && !through.is_null());
+    through.take(&through)?;
+    assert!(!through.is_null());
+    Ok(())
+}

@@ -79,7 +79,7 @@ pub extern "C" fn metronome_move(
 
 /// Writes at most 252 words into as many word cells of an object, from the first on. Of more none is written.
 #[unsafe(no_mangle)]
-pub extern "C" fn metronome_put_words(
+pub extern "C" fn metronome_put_words_from(
     heap: &mut Metronome,
     mutator: u32,
     obj: u32,
@@ -101,7 +101,7 @@ pub extern "C" fn metronome_put_words(
 /// Reads as many word cells of an object as there is room for, at most 252, from the first on. Where there is room for more
 /// none is read.
 #[unsafe(no_mangle)]
-pub extern "C" fn metronome_get_words(
+pub extern "C" fn metronome_get_words_into(
     heap: &mut Metronome,
     mutator: u32,
     obj: u32,
@@ -149,7 +149,7 @@ pub extern "C" fn metronome_copy_refs(
 /// A new object of reference cells and word cells, into slot dst; then what slots hold into its first reference cells, and
 /// words into its first word cells, at most 252 together. Of more nothing is done.
 #[unsafe(no_mangle)]
-pub extern "C" fn metronome_new_with(
+pub extern "C" fn metronome_new_from(
     heap: &mut Metronome,
     mutator: u32,
     dst: u32,

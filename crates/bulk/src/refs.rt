@@ -48,6 +48,7 @@ pub fn copy_refs(
 }
 
 /// What slots hold, at most 252, into the first reference cells of the object in slot obj.
+#[inline(always)]
 pub(crate) fn store_slots(heap: &mut Heap, mutator: u32, obj: u32, slots: &[u32]) -> Progress
     requires { length slots.now ≤ PLAIN_CELLS }
     ensures { DoesFront heap.old mutator (stores obj slots.now) result heap.new }

@@ -41,6 +41,7 @@ pub fn get_words(heap: &mut Heap, mutator: u32, obj: u32, first: u32, words: &mu
 /// Writes at most 252 words into as many word cells of the object in slot obj, from the first on. Done are the words that
 /// were written. The first cell that the object doesn't have is refused as BadIndex; a number above 32 bits counts as the
 /// greatest that these hold, which no cell has.
+#[inline(always)]
 pub fn put_words(heap: &mut Heap, mutator: u32, obj: u32, first: u32, words: &[u64]) -> Progress
     requires { length words.now ≤ PLAIN_CELLS }
     ensures { DoesFront heap.old mutator (puts obj first words.now) result heap.new }

@@ -3,8 +3,6 @@ use Prim.Native.Nat.{zero}
 use Rattle.std.proofs.Common.{◌≡◌, ℕ, suc, ◌+◌, ◌*◌, ◌<◌, ◌≤◌, Bool, true, false, if◌then◌else◌, nat_le, List, [], ◌∷◌, ap, ◌∙◌, sym, subst, arith, refl}
 use Rattle.std.proofs.Math.Nat.{mul-le-mul_right}
 use Rattle.graph_heap.specs.declared.command.Command.{Command}
-use Rattle.graph_heap.specs.declared.command.Reply.{Reply}
-use Rattle.heap_model.specs.declared.phase.Phase.{Phase}
 use Rattle.heap_model.specs.State.{HeapState}
 use Rattle.heap_model.specs.Phases.{awaits_sweep_end}
 use Rattle.heap_model.specs.Event.{Course, Event, Command_done, Cycle_begun, Begin_refused, Quantum_done, Quantum_refused, HaveBudgets}
@@ -18,7 +16,7 @@ use Rattle.fragmentation.proofs.Flows.Words.{words_more}
 use Rattle.paced.specs.declared.plan.Plan.{Plan}
 use Rattle.paced.specs.Pacing.{Counts, PacedState, saturated, Path, MayAsk, KeepsPlan}
 use Rattle.paced.specs.Rooms.{planned_flow}
-use Rattle.paced.proofs.Running.{IsKept, Goes, goes, awaits_runs}
+use Rattle.paced.proofs.Running.{IsKept, goes, awaits_runs}
 
 module _ (h : HeapState) (plan : Plan) (live k : ℕ) (great : 0 < k) where
   -- the pacer counts no more quanta than the meter, whose quanta allow the words that it counts

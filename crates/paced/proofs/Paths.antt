@@ -1,10 +1,12 @@
 -- Events that are done on a heap that is paced.
-use Rattle.std.proofs.Common.{◌≡◌, ℕ, ◌<◌, ◌≤◌, Result, Ok, Err, List, [], ◌∷◌, ◌++◌, ap, ◌∙◌, subst, refl}
+use Rattle.std.proofs.Common.{◌≡◌, ℕ, ◌+◌, ◌<◌, ◌≤◌, Result, Ok, Err, List, [], ◌∷◌, ◌++◌, ap, ◌∙◌, subst, arith, refl}
 use Rattle.graph_heap.specs.declared.command.Command.{Command}
+use Rattle.graph_heap.specs.declared.command.Command.TheVariants as commands
 use Rattle.graph_heap.specs.declared.command.Reply.{Reply}
 use Rattle.heap_model.specs.State.{HeapState}
 use Rattle.space.specs.Room.{asks}
 use Rattle.fragmentation.specs.Flow.{words_of}
+use Rattle.fragmentation.proofs.Flows.Words.{words_none}
 use Rattle.machine.specs.Plan.{Steps}
 use Rattle.heap_model.specs.Event.{Event, Command_done, Cycle_begun, Begin_refused, Quantum_done, Quantum_refused}
 use Rattle.machine.specs.declared.collector.BudgetOutOfRange.{BudgetOutOfRange}
@@ -13,7 +15,7 @@ use Rattle.machine.specs.declared.collector.Spent.{Spent}
 use Rattle.machine.specs.Collecting.{Begins, Spends}
 use Rattle.machine.specs.Recorded.{begin_done, quantum_done}
 use Rattle.paced.specs.declared.pacer.AbovePlan.{AbovePlan}
-use Rattle.paced.specs.Pacing.{PacerView, PacedState, PacedView, paced_by, state_of, counted, Path, KeepsPlan, Paced, WorksFor, Pays, Calls, Counted}
+use Rattle.paced.specs.Pacing.{PacerView, PacedState, PacedView, paced_by, state_of, counted, Path, KeepsPlan, MakesNothing, MayAsk, Paced, WorksFor, Pays, Calls, Counted}
 use Rattle.paced.specs.Working.{PaysUnless}
 
 -- events, and then others
@@ -63,3 +65,15 @@ call_told old new words m c above is w = (subst (λ n. old.pacer.counts.plan.cyc
 
 pub call_done : (old mid new : PacedView) (words m : ℕ) (c : Command) (reply : Reply) (paid : Unit {0}) → words ≡ words_of (asks c) → PaysUnless old words (Ok paid) mid → Steps mid.heap m c reply new.heap → new.pacer ≡ mid.pacer → Calls old m c (Ok reply) new
 call_done old mid new words m c reply paid is w steps same = (subst (λ n. n ≤ old.pacer.counts.plan.cycle_words) is w.0, mid, subst (λ n. Pays old n mid) is w.1, steps, same)
+
+-- a command that makes no object asks for no words
+no_words : (c : Command) → MakesNothing c → words_of (asks c) ≡ 0
+no_words (commands.New dst shape) none = absurd none
+no_words c none = words_none (asks c) (λ k l. refl)
+
+pub other_paced : (v : PacedState) (m : ℕ) (c : Command) (reply : Reply) (after : HeapState) → MakesNothing c → Steps v.heap m c reply after → Paced v (record v { heap = after })
+other_paced v m c reply after none steps =
+    let n = no_words c none in
+    let same : v.counts.words ≡ v.counts.words + words_of (asks c) = omega (arith, n) in
+    let may : MayAsk v (words_of (asks c)) = record { cycle = λ some. absurd (omega (arith, n, some)); quanta = λ some on. absurd (omega (arith, n, some)) } in
+    (Command_done m c reply ∷ [], (record v { heap = after }, may, steps, ap (λ w. record v.counts { words = w }) same, refl))

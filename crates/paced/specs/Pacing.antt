@@ -2,6 +2,7 @@
 use Rattle.std.specs.Prelude.{◌≡◌, ◌≢◌, ℕ, ◌+◌, ◌-◌, ◌*◌, ◌^◌, ◌<◌, ◌≤◌, true, nat_le, min, max, if◌then◌else◌, Result, Ok, Err, List, [], ◌∷◌}
 use Rattle.graph_heap.specs.Graph.{Graph}
 use Rattle.graph_heap.specs.declared.command.Command.{Command}
+use Rattle.graph_heap.specs.declared.command.Command.TheVariants as commands
 use Rattle.graph_heap.specs.declared.command.Reply.{Reply}
 use Rattle.heap_model.specs.declared.phase.Phase.TheVariants as phases
 use Rattle.heap_model.specs.State.{HeapState}
@@ -89,6 +90,11 @@ pub record MayAsk (v : PacedState) (words : ℕ) : Type 0 where
 abbrev pub KeepsPlan : PacedState → Event → Type 0
 KeepsPlan v (Command_done m c reply) = MayAsk v (words_of (asks c))
 KeepsPlan v e = Unit {0}
+
+-- a command makes no object
+abbrev pub MakesNothing : Command → Type 0
+MakesNothing (commands.New dst shape) = ⊥
+MakesNothing c = Unit {0}
 
 -- some events lead from one state to another, and keep the plan
 abbrev pub Paced : PacedState → PacedState → Type 0

@@ -25,7 +25,7 @@ IsFastest c live None = (words : ℕ) → FitsEvenly c live words → words ≡ 
 IsFastest c live (Some plan) = (1 ≤ plan.quantum_words) × (plan.cycle_words ≡ plan.quantum_words * cycle_quanta c)
     × FitsEvenly c live plan.quantum_words × ((words : ℕ) → FitsEvenly c live words → words ≤ plan.quantum_words)
 
--- the same, on this many pages, all of which a cycle may empty
+-- the quanta of its schedule that a whole cycle takes at most on this many pages, all of which it may empty
 abbrev pub cycle_quanta_at : Config → ℕ → ℕ
 cycle_quanta_at c pages =
     (c.mutators * c.slots + c.statics + 3 * (PAGE_WORDS * pages) + (pages + CLASSES) * pages + 4)

@@ -1,10 +1,14 @@
 //! The laws of a heap that is paced. Each function does nothing: its contract is the law.
 ghost use Rattle.std.specs.Prelude.{◌≡◌, ◌↔◌, ℕ, List};
+ghost use Rattle.graph_heap.specs.declared.command.Command.{Command};
+ghost use Rattle.graph_heap.specs.declared.command.Reply.{Reply};
 ghost use Rattle.settings.specs.declared.config.Config.{Config};
 ghost use Rattle.heap_model.specs.Event.{Course, Event, IsCourse, Runs};
+ghost use Rattle.heap_model.specs.State.{HeapState};
 ghost use Rattle.fragmentation.specs.Configured.{MovesAll, FlowFitsIn};
+ghost use Rattle.machine.specs.Plan.{Steps};
 ghost use Rattle.paced.specs.declared.plan.Plan.{Plan};
-ghost use Rattle.paced.specs.Pacing.{PacedState, Path, KeepsPlan, Paced};
+ghost use Rattle.paced.specs.Pacing.{PacedState, Path, KeepsPlan, MakesNothing, Paced};
 ghost use Rattle.paced.specs.Rooms.{planned_flow, IsJustPaced, FindsRoom};
 ghost use Rattle.paced.specs.Planning.{HasPlanOn, IsResized, HasPlan};
 
@@ -20,6 +24,12 @@ pub fn paced_heaps_find_room()
 pub fn paced_calls_add_up()
     ensures none { (v : PacedState) → Paced v v }
     ensures both { (old mid new : PacedState) → Paced old mid → Paced mid new → Paced old new }
+{}
+
+/// A command that makes no object keeps every plan, and its pacer has nothing to count: it may be done on the heap itself.
+pub fn other_commands_need_no_pacer()
+    ensures { (v : PacedState) (m : ℕ) (c : Command) (answer : Reply) (after : HeapState) → MakesNothing c
+        → Steps v.heap m c answer after → Paced v (record v { heap = after }) }
 {}
 
 /// What is done on a paced heap are events of a heap with its history, whatever history led to the heap.

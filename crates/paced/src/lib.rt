@@ -10,7 +10,10 @@ pub mod pacer;
 pub mod plan;
 
 pub use figures::Figures;
-pub use laws::{paced_calls_add_up, paced_events_run, paced_heaps_find_room, plans_need_pages};
+pub use laws::{
+    other_commands_need_no_pacer, paced_calls_add_up, paced_events_run, paced_heaps_find_room,
+    plans_need_pages,
+};
 pub use paced::PacedHeap;
 pub use pacer::{AbovePlan, Pacer};
 pub use plan::{Plan, flow_fits, least_pages, moves_all, planned};

@@ -1,8 +1,9 @@
 /*
- * What the library asks of malloc: all at metronome_create, nothing later. Each request refused in turn: the handle stays
- * closed, and nothing is lost. Linked with --wrap=malloc, --wrap=realloc and --wrap=free.
+ * What the library asks of malloc: all at metronome_create, nothing later; of a heap that threads share, all where a seat is made.
+ * Each request refused in turn: the handle stays closed, and nothing is lost. Linked with --wrap=malloc, --wrap=realloc and
+ * --wrap=free.
  */
-#include "metronome.h"
+#include "metronome_shared.h"
 #include <stdio.h>
 #include <stdlib.h>
 #include <string.h>
@@ -76,6 +77,11 @@ static void check_texts(void) {
         { METRONOME_BAD_SETTING + 10, "live is out of range" },
         { METRONOME_BAD_SETTING + 11, "no such status" },
         { METRONOME_OTHER_VERSION, "the program was built for another version" },
+        { METRONOME_TAKEN, "another seat has the turn" },
+        { METRONOME_INSIDE, "the seat has the turn" },
+        { METRONOME_OUTSIDE, "the seat hasn't the turn" },
+        { METRONOME_NOT_YOURS, "the mutator isn't the seat's" },
+        { METRONOME_NOT_YOURS + 1, "no such status" },
     };
     for (size_t i = 0; i < sizeof texts / sizeof *texts; i++) {
         char text[64];
@@ -112,6 +118,43 @@ static void check_large(void) {
     check(held == stood, "all of a large heap is given back");
 }
 
+/* A turn of a seat, with quanta, asks for nothing. */
+static void check_turn(metronome_seat *seat, uint32_t mutator) {
+    long before = requests;
+    metronome_spent spent;
+    check(metronome_seat_enter(seat) == METRONOME_OK, "a turn");
+    check(metronome_seat_new_words(seat, mutator, 7, 1).kind == METRONOME_MADE, "a mutator of the seat's");
+    for (uint32_t i = 0; i < 1000; i++) {
+        metronome_seat_new_plain(seat, mutator, i % 7, 1, i % 200);
+        metronome_seat_begin(seat);
+        metronome_seat_quantum(seat, 256, &spent);
+    }
+    check(metronome_seat_leave(seat) == METRONOME_OK && requests == before, "nothing is asked of malloc in a turn");
+}
+
+/* Two seats at a heap, with the request of this number refused, if there are as many. Answers whether there are. */
+static int is_met(long number, const metronome_settings *settings) {
+    metronome_seat seat = METRONOME_NO_SEAT, other = METRONOME_NO_SEAT;
+    long stood = held;
+    requests = 0;
+    refused_at = number;
+    uint32_t made = metronome_seat_create(&seat, settings);
+    uint32_t added = made == METRONOME_OK ? metronome_seat_another(&seat, &other, 1) : METRONOME_OK;
+    int met = requests >= number;
+    refused_at = 0;
+    check((made == METRONOME_NO_MEMORY) + (added == METRONOME_NO_MEMORY) == met, "a request that is refused is told");
+    check(made == METRONOME_OK || seat.check == 0, "a handle without a seat is closed");
+    if (made == METRONOME_OK) check_turn(&seat, 0);
+    if (made == METRONOME_OK && added != METRONOME_OK) check_turn(&seat, 1);
+    if (made == METRONOME_OK && added == METRONOME_OK) check_turn(&other, 1);
+    long before = requests;
+    if (!met) check(metronome_seat_learn(&seat, &other) == METRONOME_OK && requests == before, "nothing is asked to learn");
+    metronome_seat_destroy(&other);
+    metronome_seat_destroy(&seat);
+    check(held == stood, "all is given back with the last seat");
+    return met;
+}
+
 int main(void) {
     metronome heap = METRONOME_CLOSED;
     metronome_settings settings = METRONOME_SETTINGS(64, 2, 8);
@@ -140,6 +183,9 @@ int main(void) {
     }
     refused_at = 0;
     check(refused == needed, "each refused request is told, and nothing is lost");
+    long number = 1;
+    while (is_met(number, &settings)) number++;
+    check(number > needed, "a shared heap asks for no less");
     printf("%ld requests of %zu bytes in all for 64 pages\n", needed, asked);
     printf("%d passed, %d failed\n", passed, failed);
     return failed != 0;

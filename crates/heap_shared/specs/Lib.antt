@@ -3,3 +3,4 @@ pub mod Accounts
 pub mod Turns
 pub mod Members
 pub mod Merged
+pub mod Methods

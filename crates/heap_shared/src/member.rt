@@ -1,11 +1,12 @@
 //! Members of a shared heap.
 ghost use Rattle.std.specs.Prelude.{◌≡◌, ◌∷◌, ◌++◌, [], IfOk, IfSome, MatchResult, Ok, Err, None};
-ghost use Rattle.std.specs.Fn.{FnOnceReturnsAt};
+ghost use Rattle.std.specs.Fn.{FnOnceReturnsAt, FnOnceReturnsAtMut};
 ghost use Rattle.heap_model.specs.Settings.{settings_by};
 ghost use Rattle.machine.specs.Headline.{AlwaysHolds};
 ghost use Rattle.machine.specs.Space.{FindsSpace, FoundSpace};
 ghost use Rattle.machine.specs.Recorded.{begin_done, quantum_done};
 ghost use Rattle.heap_shared.specs.Members.{Enters, Leaves, Places, Calls, DoesInTurn, Finds, Adds, Learns, IsPromised};
+ghost use Rattle.heap_shared.specs.Methods.{IsMethodOf};
 ghost use mathlib.Core.List.{IsPrefix};
 
 use crate::fitting::fitting_first;
@@ -219,8 +220,23 @@ impl Member {
     }
 
     /// Does a command of one of its mutators, where it has the turn, and replies.
-    #[inline(always)]
     pub fn call(&mut self, mutator: u32, command: Command) -> Result<Reply, NotDone>
+        ensures { Calls self.old mutator command result self.new }
+    {
+        self.call_by(mutator, command, |heap| heap.step(mutator, command))
+    }
+
+    /// Does a command of one of its mutators by the heap's method for it, where it has the turn, and replies. It is in line
+    /// down to that method.
+    #[inline(always)]
+    pub fn call_by<F: FnOnce(&mut Heap) -> Reply + Drop>(
+        &mut self,
+        mutator: u32,
+        command: Command,
+        method: F,
+    ) -> Result<Reply, NotDone>
+        requires callable { F.IsAlwaysCallable method }
+        requires does { IsMethodOf mutator command (FnOnceReturnsAtMut F.FnOnce method) }
         ensures { Calls self.old mutator command result self.new }
     {
         if !self.inside {
@@ -233,7 +249,7 @@ impl Member {
         Ok(
             self.seat
                 .slot_mut(&self.table.shared, 0)
-                .call(mutator, command),
+                .call_by(mutator, command, method),
         )
     }
 

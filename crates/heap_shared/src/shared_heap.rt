@@ -1,6 +1,6 @@
 //! The heap that members share, with its history, which exists in proofs alone.
 ghost use Rattle.std.specs.Prelude.{◌≡◌, ◌⊎◌, ◌+◌, ◌<◌, [], IfOk};
-ghost use Rattle.std.specs.Fn.{FnOnceReturnsAt};
+ghost use Rattle.std.specs.Fn.{FnOnceReturnsAt, FnOnceReturnsAtMut};
 ghost use Rattle.heap_model.specs.Event.{Does};
 ghost use Rattle.heap_model.specs.Event as done;
 ghost use Rattle.heap_model.specs.Opening.{IsOpening};
@@ -8,10 +8,10 @@ ghost use Rattle.heap_model.specs.Settings.{settings_of, settings_by};
 ghost use Rattle.machine.specs.Headline.{AlwaysHolds};
 ghost use Rattle.machine.specs.Space.{FindsSpace, FoundSpace};
 ghost use Rattle.machine.specs.Recorded.{begin_done, quantum_done};
-ghost use Rattle.machine.specs.Plan.{Steps};
+ghost use Rattle.heap_shared.specs.Methods.{IsMethodOf};
 
 use crate::ghost_history::GhostHistory;
-use graph_heap::{Command, NoMemory, Reply, dispatch};
+use graph_heap::{Command, NoMemory, Reply};
 use machine::{BudgetOutOfRange, Busy, Heap, Spent};
 use settings::Config;
 use std::alloc::Global;
@@ -44,15 +44,6 @@ impl Model for SharedHeap {
     ghost invariant = { λ a. IsCourse (course_of a.heap a.history.past) };
 }
 
-/// Does a command of a mutator, and replies. It is `Heap::step` in line: where the caller knows the command, the method that
-/// does it is called at once.
-#[inline(always)]
-fn step(heap: &mut Heap, mutator: u32, command: Command) -> Reply
-    ensures { Steps heap.old mutator command result heap.new }
-{
-    dispatch!(Heap, heap, mutator, command)
-}
-
 impl SharedHeap {
     /// A new heap, without history. Refused only for lack of memory.
     pub fn new(alloc: Global, config: &Config) -> Result<SharedHeap, NoMemory>
@@ -67,12 +58,19 @@ impl SharedHeap {
         })
     }
 
-    /// Does a command of a mutator, and replies.
+    /// Does a command of a mutator by the heap's method for it, and replies.
     #[inline(always)]
-    pub fn call(&mut self, mutator: u32, command: Command) -> Reply
+    pub fn call_by<F: FnOnce(&mut Heap) -> Reply>(
+        &mut self,
+        mutator: u32,
+        command: Command,
+        method: F,
+    ) -> Reply
+        requires callable { F.IsAlwaysCallable method }
+        requires does { IsMethodOf mutator command (FnOnceReturnsAtMut F.FnOnce method) }
         ensures { Does self.old (done.Command_done mutator command result) self.new }
     {
-        let reply = step(&mut self.heap, mutator, command);
+        let reply = method(&mut self.heap);
         self.history.enter(mutator, command, reply);
         reply
     }

@@ -21,7 +21,8 @@ pub extern "C" fn metronome_seat_new_plain(
         (seat_in seat.new) result }
 {
     let shape = Shape::Plain { refs, words };
-    seat.answer(mutator, Command::New { dst, shape })
+    let command = Command::New { dst, shape };
+    seat.answer(mutator, command, |heap| heap.make(mutator, dst, shape))
 }
 
 /// A new array of reference cells, into slot dst.
@@ -36,7 +37,8 @@ pub extern "C" fn metronome_seat_new_refs(
         (seat_in seat.new) result }
 {
     let shape = Shape::RefArray(refs);
-    seat.answer(mutator, Command::New { dst, shape })
+    let command = Command::New { dst, shape };
+    seat.answer(mutator, command, |heap| heap.make(mutator, dst, shape))
 }
 
 /// A new array of word cells, into slot dst.
@@ -51,7 +53,8 @@ pub extern "C" fn metronome_seat_new_words(
         (seat_in seat.new) result }
 {
     let shape = Shape::WordArray(words);
-    seat.answer(mutator, Command::New { dst, shape })
+    let command = Command::New { dst, shape };
+    seat.answer(mutator, command, |heap| heap.make(mutator, dst, shape))
 }
 
 /// What a reference cell holds into slot dst.
@@ -65,7 +68,8 @@ pub extern "C" fn metronome_seat_load(
 ) -> Answer
     ensures { AnswersSeat (seat_in seat.old) mutator (commands.Load dst obj i) (seat_in seat.new) result }
 {
-    seat.answer(mutator, Command::Load { dst, obj, i })
+    let command = Command::Load { dst, obj, i };
+    seat.answer(mutator, command, |heap| heap.load(mutator, dst, obj, i))
 }
 
 /// What slot src holds into a reference cell.
@@ -79,7 +83,8 @@ pub extern "C" fn metronome_seat_store(
 ) -> Answer
     ensures { AnswersSeat (seat_in seat.old) mutator (commands.Store obj i src) (seat_in seat.new) result }
 {
-    seat.answer(mutator, Command::Store { obj, i, src })
+    let command = Command::Store { obj, i, src };
+    seat.answer(mutator, command, |heap| heap.store(mutator, obj, i, src))
 }
 
 /// What slot new holds into a reference cell, if that holds what slot expect does.
@@ -101,7 +106,11 @@ pub extern "C" fn metronome_seat_compare_store(
         expect,
         new,
     };
-    seat.answer(mutator, command)
+    seat.answer(
+        mutator,
+        command,
+        |heap| heap.compare_store(mutator, obj, i, expect, new),
+    )
 }
 
 /// Reads a word cell.
@@ -114,7 +123,8 @@ pub extern "C" fn metronome_seat_get(
 ) -> Answer
     ensures { AnswersSeat (seat_in seat.old) mutator (commands.Get obj i) (seat_in seat.new) result }
 {
-    seat.answer(mutator, Command::Get { obj, i })
+    let command = Command::Get { obj, i };
+    seat.answer(mutator, command, |heap| heap.get(mutator, obj, i))
 }
 
 /// Writes a word cell.
@@ -128,7 +138,8 @@ pub extern "C" fn metronome_seat_put(
 ) -> Answer
     ensures { AnswersSeat (seat_in seat.old) mutator (commands.Put obj i word) (seat_in seat.new) result }
 {
-    seat.answer(mutator, Command::Put { obj, i, word })
+    let command = Command::Put { obj, i, word };
+    seat.answer(mutator, command, |heap| heap.put(mutator, obj, i, word))
 }
 
 /// Writes a word cell, if that is old.
@@ -143,7 +154,12 @@ pub extern "C" fn metronome_seat_compare_put(
 ) -> Answer
     ensures { AnswersSeat (seat_in seat.old) mutator (commands.ComparePut obj i old new) (seat_in seat.new) result }
 {
-    seat.answer(mutator, Command::ComparePut { obj, i, old, new })
+    let command = Command::ComparePut { obj, i, old, new };
+    seat.answer(
+        mutator,
+        command,
+        |heap| heap.compare_put(mutator, obj, i, old, new),
+    )
 }
 
 /// What slot src holds into slot dst.
@@ -156,7 +172,8 @@ pub extern "C" fn metronome_seat_copy(
 ) -> Answer
     ensures { AnswersSeat (seat_in seat.old) mutator (commands.Copy dst src) (seat_in seat.new) result }
 {
-    seat.answer(mutator, Command::Copy { dst, src })
+    let command = Command::Copy { dst, src };
+    seat.answer(mutator, command, |heap| heap.copy(mutator, dst, src))
 }
 
 /// Null into slot dst.
@@ -164,7 +181,8 @@ pub extern "C" fn metronome_seat_copy(
 pub extern "C" fn metronome_seat_clear(seat: &mut MetronomeSeat, mutator: u32, dst: u32) -> Answer
     ensures { AnswersSeat (seat_in seat.old) mutator (commands.Clear dst) (seat_in seat.new) result }
 {
-    seat.answer(mutator, Command::Clear { dst })
+    let command = Command::Clear { dst };
+    seat.answer(mutator, command, |heap| heap.clear(mutator, dst))
 }
 
 /// What static k holds into slot dst.
@@ -177,7 +195,8 @@ pub extern "C" fn metronome_seat_load_static(
 ) -> Answer
     ensures { AnswersSeat (seat_in seat.old) mutator (commands.LoadStatic dst k) (seat_in seat.new) result }
 {
-    seat.answer(mutator, Command::LoadStatic { dst, k })
+    let command = Command::LoadStatic { dst, k };
+    seat.answer(mutator, command, |heap| heap.load_static(mutator, dst, k))
 }
 
 /// What slot src holds into static k.
@@ -190,7 +209,8 @@ pub extern "C" fn metronome_seat_store_static(
 ) -> Answer
     ensures { AnswersSeat (seat_in seat.old) mutator (commands.StoreStatic k src) (seat_in seat.new) result }
 {
-    seat.answer(mutator, Command::StoreStatic { k, src })
+    let command = Command::StoreStatic { k, src };
+    seat.answer(mutator, command, |heap| heap.store_static(mutator, k, src))
 }
 
 /// What slot new holds into static k, if that holds what slot expect does.
@@ -204,7 +224,12 @@ pub extern "C" fn metronome_seat_compare_static(
 ) -> Answer
     ensures { AnswersSeat (seat_in seat.old) mutator (commands.CompareStatic k expect new) (seat_in seat.new) result }
 {
-    seat.answer(mutator, Command::CompareStatic { k, expect, new })
+    let command = Command::CompareStatic { k, expect, new };
+    seat.answer(
+        mutator,
+        command,
+        |heap| heap.compare_static(mutator, k, expect, new),
+    )
 }
 
 /// Whether slots a and b hold the same object, or both null.
@@ -217,7 +242,8 @@ pub extern "C" fn metronome_seat_same(
 ) -> Answer
     ensures { AnswersSeat (seat_in seat.old) mutator (commands.Same a b) (seat_in seat.new) result }
 {
-    seat.answer(mutator, Command::Same { a, b })
+    let command = Command::Same { a, b };
+    seat.answer(mutator, command, |heap| heap.same(mutator, a, b))
 }
 
 /// The identity of slot a's object, and its shape.
@@ -231,7 +257,7 @@ pub extern "C" fn metronome_seat_describe(
     ensures { ShapesSeat (seat_in seat.old) mutator (commands.Describe a)
         (seat_in seat.new) shape.old (result, shape.new) }
 {
-    seat.answer_with_shape(mutator, Command::Describe { a }, shape)
+    seat.describe(mutator, a, shape)
 }
 
 /// The mutator becomes live.
@@ -239,7 +265,8 @@ pub extern "C" fn metronome_seat_describe(
 pub extern "C" fn metronome_seat_join(seat: &mut MetronomeSeat, mutator: u32) -> Answer
     ensures { AnswersSeat (seat_in seat.old) mutator commands.Join (seat_in seat.new) result }
 {
-    seat.answer(mutator, Command::Join)
+    let command = Command::Join;
+    seat.answer(mutator, command, |heap| heap.join(mutator))
 }
 
 /// Null into each slot of the mutator, which is live no more.
@@ -247,5 +274,6 @@ pub extern "C" fn metronome_seat_join(seat: &mut MetronomeSeat, mutator: u32) ->
 pub extern "C" fn metronome_seat_retire(seat: &mut MetronomeSeat, mutator: u32) -> Answer
     ensures { AnswersSeat (seat_in seat.old) mutator commands.Leave (seat_in seat.new) result }
 {
-    seat.answer(mutator, Command::Leave)
+    let command = Command::Leave;
+    seat.answer(mutator, command, |heap| heap.leave(mutator))
 }

@@ -3,6 +3,7 @@ ghost use Rattle.std.specs.Prelude.{◌≡◌, ◌==◌, Some, None, IsSome};
 ghost use Rattle.std.specs.Option.{is_some};
 ghost use Rattle.std.specs.Fn.{FnOnceReturnsAt, FnOnceReturnsAtMut};
 ghost use Rattle.heap_shared.specs.Members.{Finds};
+ghost use Rattle.heap_shared.specs.Methods.{IsMethodOf};
 ghost use Rattle.metronome_c.specs.Asking.{Asks};
 ghost use Rattle.metronome_c.specs.Seats.{AsksSeat, DoesSeat, AnswersSeat, ShapesSeat, told_or};
 ghost use Rattle.metronome_c.specs.declared.seats.seat.TheConstants.{SEAT_CHECK_WORD};
@@ -127,15 +128,22 @@ impl MetronomeSeat {
         }
     }
 
-    /// Does a command of a mutator, if there is a seat that may, and replies.
+    /// Does a command of a mutator by the heap's method for it, if there is a seat that may, and replies.
     #[inline(always)]
-    fn call(&mut self, mutator: u32, command: Command) -> Result<Reply, Status>
+    fn call<F: FnOnce(&mut Heap) -> Reply + Drop>(
+        &mut self,
+        mutator: u32,
+        command: Command,
+        method: F,
+    ) -> Result<Reply, Status>
+        requires callable { F.IsAlwaysCallable method }
+        requires does { IsMethodOf mutator command (FnOnceReturnsAtMut F.FnOnce method) }
         ensures { DoesSeat (seat_in self.old) mutator command (seat_in self.new) (λ told. result ≡ told) }
     {
         if !self.is_open() {
             return Err(self.why_empty());
         }
-        match self.handle.lend().call(mutator, command) {
+        match self.handle.lend().call_by(mutator, command, method) {
             Ok(reply) => Ok(reply),
             Err(why) => Err(Status::of_not_done(why)),
         }
@@ -143,23 +151,26 @@ impl MetronomeSeat {
 
     /// The same, and tells the reply.
     #[inline(always)]
-    pub(super) fn answer(&mut self, mutator: u32, command: Command) -> Answer
-        ensures { AnswersSeat (seat_in self.old) mutator command (seat_in self.new) result }
-    {
-        Answer::from_outcome(self.call(mutator, command))
-    }
-
-    /// The same, and tells the shape that the reply tells.
-    #[inline(always)]
-    pub(super) fn answer_with_shape(
+    pub(super) fn answer<F: FnOnce(&mut Heap) -> Reply + Drop>(
         &mut self,
         mutator: u32,
         command: Command,
-        shape: &mut MetronomeShape,
+        method: F,
     ) -> Answer
-        ensures { ShapesSeat (seat_in self.old) mutator command (seat_in self.new) shape.old (result, shape.new) }
+        requires callable { F.IsAlwaysCallable method }
+        requires does { IsMethodOf mutator command (FnOnceReturnsAtMut F.FnOnce method) }
+        ensures { AnswersSeat (seat_in self.old) mutator command (seat_in self.new) result }
     {
-        let reply = self.call(mutator, command);
+        Answer::from_outcome(self.call(mutator, command, method))
+    }
+
+    /// The same of a description, and tells the shape that the reply tells.
+    pub(super) fn describe(&mut self, mutator: u32, a: u32, shape: &mut MetronomeShape) -> Answer
+        ensures { ShapesSeat (seat_in self.old) mutator (Command.Describe a) (seat_in self.new) shape.old
+            (result, shape.new) }
+    {
+        let command = Command::Describe { a };
+        let reply = self.call(mutator, command, |heap| heap.describe(mutator, a));
         *shape = shape.told_by(reply);
         Answer::from_outcome(reply)
     }

@@ -1,23 +1,23 @@
 use Rattle.std.proofs.Common.{rules, ◌≡◌, ◌≤◌, ◌<◌, true, refl, arith}
 use Rattle.heap_shared.specs.Accounts.{IsWithin}
 use Rattle.heap_shared.proofs.Members.{with_last, commanded, called}
-use Rattle.heap_shared.proofs.member.Member.call.Goals as goal
+use Rattle.heap_shared.proofs.member.Member.call_by.Goals as goal
 
 pub invariant_of-self : goal.invariant_of-self
-invariant_of-self c =
+invariant_of-self g c =
     let has : c.self.inside.inside ≡ true = search rules in
     let i = c.self.invariant in
     let known = c.self.inside.seat.me.0 in
     let low : c.self.inside.from ≤ c.args.mutator = search rules in
     let high : c.args.mutator < c.self.inside.to = search rules in
     let within : IsWithin known.from known.to c.args.mutator = (omega (arith, i.3, low), omega (arith, i.4, high)) in
-    with_last i (commanded _ _ _ _ _ _ has i.5 c.slot_mut.ensures.value _ c.args.mutator c.args.command c.call.result within refl c.call.ensures)
+    with_last i (commanded _ _ _ _ _ _ has i.5 c.slot_mut.ensures.value _ c.args.mutator c.args.command c.call_by.result within refl c.call_by.ensures)
 
 pub returns : goal.returns
-returns c =
+returns g c =
     let has : c.self.inside.inside ≡ true = search rules in
     let known = c.self.inside.seat.me.0 in
     let low : c.self.inside.from ≤ c.args.mutator = search rules in
     let high : c.args.mutator < c.self.inside.to = search rules in
     let within : IsWithin known.from known.to c.args.mutator = (omega (arith, c.self.invariant.3, low), omega (arith, c.self.invariant.4, high)) in
-    called _ _ _ _ _ _ has c.self.invariant.5 c.slot_mut.ensures.value _ _ c.self.view_is c.args.mutator c.args.command c.call.result within c.call.ensures
+    called _ _ _ _ _ _ has c.self.invariant.5 c.slot_mut.ensures.value _ _ c.self.view_is c.args.mutator c.args.command c.call_by.result within c.call_by.ensures

@@ -46,10 +46,15 @@ figure name = record (word name) { parser = Some short_number }
 abbrev pub by_default : Text → Rule → Rule
 by_default value rule = record rule { defaults = value ∷ [] }
 
--- a subcommand with its configuration, whether its progress is reported, its file, and what it has besides
+-- a subcommand with its configuration, whether its progress is reported and its fault explained, and what it has besides
+abbrev pub on_config : Text → List Rule → Shape
+on_config name more = record (new_shape name) {
+  rules = place (codes "CONFIG") ∷ flag (codes "progress") ∷ flag (codes "explain") ∷ more;
+}
+
+-- one that has a file too
 abbrev pub on_file : Text → Rule → List Rule → Shape
-on_file name file more =
-    record (new_shape name) { rules = place (codes "CONFIG") ∷ flag (codes "progress") ∷ file ∷ more }
+on_file name file more = on_config name (file ∷ more)
 
 -- one that works on a trace
 abbrev pub on_trace : Text → List Rule → Shape

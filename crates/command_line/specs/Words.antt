@@ -68,12 +68,13 @@ file_argument Check = codes "HISTORY"
 file_argument (Threads turns budget) = codes "SCRIPTS"
 file_argument _ = codes "TRACE"
 
--- a subcommand and its arguments ask for a request: they name its files, and ask for its job
+-- a subcommand and its arguments ask for a request: they name its files, ask for its job, and set its two flags
 pub record AsksFor (name : Text) (rows : List Row) (request : Request) : Type 0 where
   pub config : first_of (codes "CONFIG") rows ≡ Some request.config.now
   pub file : first_of (file_argument request.job) rows ≡ Some request.file.now
   pub job : Asks name rows request.job
   pub progress : IsFlag (one_of (codes "progress") rows) request.progress
+  pub explain : IsFlag (one_of (codes "explain") rows) request.explain
 
 -- The words of a command line ask for a request: what they give of the program's subcommands and their arguments asks for
 -- it.

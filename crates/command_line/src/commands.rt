@@ -126,7 +126,7 @@ fn on_trace<'a>(alloc: Global, name: &'a str, about: &'a str) -> Result<Command<
     on_file(alloc, name, about, trace)
 }
 
-/// A subcommand with its configuration, whether its progress is reported, and its file.
+/// A subcommand with its configuration and its file.
 fn on_file<'a>(
     alloc: Global,
     name: &'a str,
@@ -136,15 +136,20 @@ fn on_file<'a>(
     requires { file.global ≡ false }
     ensures { IfOk result (IsSubcommand (words.on_file name.now (rule_of file.entry) [])) }
 {
+    on_config(alloc, name, about)?.arg(file)
+}
+
+/// A subcommand with its configuration, and whether its progress is reported and its fault explained.
+fn on_config<'a>(alloc: Global, name: &'a str, about: &'a str) -> Result<Command<'a>, AllocError>
+    ensures { IfOk result (IsSubcommand (words.on_config name.now [])) }
+{
+    let progress = "Tell on standard error how many lines were read";
+    let explain = "Tell on standard error more of what is wrong";
     Command::new(alloc, name)
         .about(about)
         .arg(place(alloc, "CONFIG", "The configuration, in TOML"))?
-        .arg(flag(
-            alloc,
-            "progress",
-            "Tell on standard error how many lines were read",
-        ))?
-        .arg(file)
+        .arg(flag(alloc, "progress", progress))?
+        .arg(flag(alloc, "explain", explain))
 }
 
 /// How many event lines are played, if not all.

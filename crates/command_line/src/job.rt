@@ -90,4 +90,6 @@ pub struct Request<'a> {
     pub job: Job<'a>,
     /// Whether standard error is told how many lines were read.
     pub progress: bool,
+    /// Whether standard error is told more of what is wrong.
+    pub explain: bool,
 }

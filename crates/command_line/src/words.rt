@@ -49,6 +49,7 @@ fn request_of<'a>(alloc: Global, name: &str, found: &ArgMatches<'a>) -> Result<R
         file: file(alloc, found, file_argument(&job))?,
         job,
         progress: flag(found, "progress"),
+        explain: flag(found, "explain"),
     })
 }
 

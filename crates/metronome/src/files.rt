@@ -11,7 +11,7 @@ use std::io::{self, ErrorKind, Read};
 use trace::PlayFault;
 
 /// The most bytes of a configuration or a load that are read: one more than it may have.
-const DOCUMENT_BYTES: u64 = 65537;
+pub const DOCUMENT_BYTES: u64 = 65537;
 
 /// What opens the files that the words name.
 pub trait Opener {
@@ -24,6 +24,10 @@ pub trait Opener {
     /// A reader of the file of this name, from its beginning.
     fn open(&self, name: &str) -> io::Result<Self::File>
         ensures { IfOk result (λ file. Stays (contents self.now name.now) (Self.File.remaining file)) };
+
+    /// Whether a file of this name may be read once more, so that it gives the same: it is no pipe and no device, or
+    /// opening it tells what is wrong.
+    fn is_lasting(&self, name: &str) -> bool;
 }
 
 /// The files of the machine.
@@ -40,6 +44,13 @@ impl<'a, R: Files> Opener for HostFiles<'a, R> {
 
     fn open(&self, name: &str) -> io::Result<R::File> {
         fs::open(self.files, name)
+    }
+
+    fn is_lasting(&self, name: &str) -> bool {
+        match fs::metadata(self.files, name) {
+            Ok(found) => found.is_file() || found.is_dir(),
+            Err(_) => true,
+        }
     }
 }
 

@@ -3,6 +3,7 @@
 
 mod after;
 mod answer_job;
+mod explain;
 mod fault;
 mod files;
 mod jobs;

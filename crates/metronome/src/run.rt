@@ -11,6 +11,7 @@ ghost use Rattle.metronome.specs.Status.{status_of};
 
 use crate::after::{Telling, after_play};
 use crate::answer_job::{Question, answer_job};
+use crate::explain::explain;
 use crate::fault::{Ending, RunFault};
 use crate::files::{Opener, open_file, read_document};
 use crate::jobs::{play_job, threads_job};
@@ -40,7 +41,7 @@ struct Host<'a, O: Opener, T: Threads + Wait + Sync> {
 
 /// Runs the program: does what the words ask for, after the first, which is the program's name, writes the fault
 /// to the error stream if there is one, and answers the exit status. A failed write to the error stream changes
-/// no status.
+/// no status, nor does what is told there beside the fault, where the words ask for that.
 pub fn run<S, O, R, K, E, T>(
     rt: &T,
     alloc: Global,
@@ -61,12 +62,14 @@ where
         × RunDone (O.contents opener.now) (R.remaining input) (map S.text words.now) (taken_by K.taken sink.old sink.new) how
         × (K.failures sink.new ≡ K.failures sink.old + failed_writes how) }
 {
-    match perform(rt, alloc, words, opener, input, sink, errors) {
+    let how = perform(rt, alloc, words, opener, input, sink, errors);
+    if let Err(fault) = &how {
+        tell(errors, fault);
+    }
+    explain(alloc, words, opener, errors, &how);
+    match how {
         Ok(ending) => ending.status(),
-        Err(fault) => {
-            tell(errors, &fault);
-            fault.status()
-        }
+        Err(fault) => fault.status(),
     }
 }
 

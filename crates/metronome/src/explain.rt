@@ -1,0 +1,95 @@
+//! What is told of a run beside the line of its fault, where its words ask for that. It is told as far as it can be: where
+//! memory, a file or the error stream is refused, no more is said.
+ghost use Rattle.std.specs.Prelude.{◌≡◌, false};
+
+mod again;
+mod config;
+mod document;
+mod example;
+mod fields;
+mod lines;
+mod load;
+mod odd_bytes;
+mod part;
+mod quoted;
+mod reply;
+mod silence;
+mod unread;
+
+use crate::fault::{Ending, RunFault};
+use crate::files::Opener;
+use command_line::{Job, Request, Sizing, read_words};
+use config::explain_config;
+use lines::explain_line;
+use load::explain_load;
+use reply::explain_reply;
+use silence::Silence;
+use std::alloc::Global;
+use std::convert::AsStr;
+use std::io::Write;
+use trace::PlayFault;
+use unread::explain_unread;
+
+/// Tells more of how a run ended, whose words may ask for that. They are read once more, since the run has ended.
+pub fn explain<S: AsStr, O: Opener, E: Write>(
+    alloc: Global,
+    words: &[S],
+    opener: &O,
+    errors: &mut E,
+    how: &Result<Ending, RunFault>,
+) {
+    if matches!(how, Ok(Ending::Done)) {
+        return;
+    }
+    if let Ok(request) = read_words(alloc, words) {
+        explain_request(alloc, &request, opener, errors, how);
+    }
+}
+
+/// Tells more of how the run of a request ended, where the request asks for that.
+fn explain_request<O: Opener, E: Write>(
+    alloc: Global,
+    request: &Request,
+    opener: &O,
+    errors: &mut E,
+    how: &Result<Ending, RunFault>,
+)
+    ensures { request.now.explain ≡ false → errors.new ≡ errors.old }
+{
+    if request.explain {
+        let _ = explain_ending(alloc, request, opener, errors, how);
+    }
+}
+
+/// Tells more of how a run ended.
+fn explain_ending<O: Opener, E: Write>(
+    alloc: Global,
+    request: &Request,
+    opener: &O,
+    errors: &mut E,
+    how: &Result<Ending, RunFault>,
+) -> Result<(), Silence> {
+    match how {
+        Ok(Ending::Done) => Ok(()),
+        Ok(Ending::WrongReply) => explain_reply(alloc, request, opener, errors),
+        Err(RunFault::Config(fault)) => {
+            explain_config(alloc, opener, request.config, errors, *fault)
+        }
+        Err(RunFault::Load(fault)) => match &request.job {
+            Job::Pages {
+                by: Sizing::Load(name),
+            } => explain_load(alloc, opener, name, errors, *fault),
+            _ => Ok(()),
+        },
+        Err(RunFault::Text(PlayFault::Line(number, fault))) => {
+            explain_line(alloc, request, opener, errors, *number, *fault)
+        }
+        Err(RunFault::Text(PlayFault::Read)) => explain_unread(request, opener, errors),
+        Err(RunFault::Text(PlayFault::Write)) => {
+            Ok(writeln!(errors, "metronome: a write to standard output failed")?)
+        }
+        Err(RunFault::Words(_) | RunFault::NotComplete | RunFault::Text(PlayFault::NoMemory)) => {
+            Ok(())
+        }
+    }
+}

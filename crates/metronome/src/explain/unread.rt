@@ -1,0 +1,56 @@
+//! Which file can't be read.
+use crate::explain::again::failure;
+use crate::explain::quoted::Quoted;
+use crate::explain::silence::Silence;
+use crate::files::Opener;
+use command_line::{Job, Request, Sizing};
+use std::io::Write;
+
+/// Tells of the first file of a request that can't be read, in the order in which they are read, and what the system says.
+pub(crate) fn explain_unread<O: Opener, E: Write>(
+    request: &Request,
+    opener: &O,
+    errors: &mut E,
+) -> Result<(), Silence> {
+    if tell_unread(opener, request.config, errors)? {
+        if request.config == "-" {
+            writeln!(
+                errors,
+                "metronome: a configuration is never read from standard input"
+            )?;
+        }
+        return Ok(());
+    }
+    if request.file != "-" && tell_unread(opener, request.file, errors)? {
+        return Ok(());
+    }
+    if let Job::Pages {
+        by: Sizing::Load(name),
+    } = &request.job
+    {
+        if tell_unread(opener, name, errors)? {
+            return Ok(());
+        }
+    }
+    if request.file == "-" {
+        writeln!(errors, "metronome: a read of standard input failed")?;
+    }
+    Ok(())
+}
+
+/// Tells why a file can't be read, if it can't. A pipe or a device isn't read once more.
+fn tell_unread<O: Opener, E: Write>(
+    opener: &O,
+    name: &str,
+    errors: &mut E,
+) -> Result<bool, Silence> {
+    if !opener.is_lasting(name) {
+        return Ok(false);
+    }
+    let Some(error) = failure(opener, name) else {
+        return Ok(false);
+    };
+    let quoted = Quoted(name.as_bytes());
+    writeln!(errors, "metronome: {quoted} can't be read: {error}")?;
+    Ok(true)
+}

@@ -32,7 +32,8 @@ abbrev pub DoesList : Result HeapState Status → ℕ → List Command → Resul
 DoesList old m cs new told = (p : Result Progress Status) × Asks (λ h p k. DoesFront h m cs p k) old p new
     × (told ≡ progress_told p)
 
--- The same of a list that reads: the words that were replied stand in front of those from before.
+-- A list of commands that read words is done so by the heap that is held, and the words that were replied stand in front of
+-- those that C gave, of which the others stay.
 abbrev pub ReadsList : Result HeapState Status → ℕ → List Command → Result HeapState Status → List ℕ × List ℕ
     → MetronomeProgress → Type 0
 ReadsList old m cs new words told = (p : Result Progress Status)

@@ -67,6 +67,13 @@ where
         tell(errors, fault);
     }
     explain(alloc, words, opener, errors, &how);
+    status_of(&how)
+}
+
+/// The exit status of a run.
+fn status_of(how: &Result<Ending, RunFault>) -> u8
+    ensures { result ≡ status_of how.now }
+{
     match how {
         Ok(ending) => ending.status(),
         Err(fault) => fault.status(),

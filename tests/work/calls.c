@@ -56,6 +56,18 @@ static void make_new(void) {
     CALL(clear, NEW);
 }
 
+/* Lists of two commands, and one of three. */
+static void do_lists(void) {
+    const uint32_t slots[] = { HOLDER };
+    uint64_t words[] = { 1, 2 };
+    CALL(put_words_from, WORDS, 0, words, 2);
+    CALL(get_words_into, WORDS, 0, words, 2);
+    CALL(copy_refs, READ, HOLDER, 0, REFS, 0, 1);
+    CALL(new_from, NEW, 1, 1, slots, 1, words, 1);
+    CALL(move, OTHER, NEW);
+    CALL(clear_slots, OTHER, 2);
+}
+
 static void ask(void) {
     uint32_t phase;
     uint64_t number;
@@ -91,6 +103,7 @@ static void in_each_phase(void) {
         }
         read_and_write(phase);
         make_new();
+        do_lists();
         ask();
     }
 }

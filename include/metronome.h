@@ -14,9 +14,9 @@
  *
  * THREADS. Any thread may call any function, and no thread owns a heap; but a heap takes one call at a time. Where
  * several threads call, the program holds a lock of its own around each call (or orders calls by starting and joining
- * threads), or each thread has a seat at the heap (metronome_shared.h). Calls on different heaps need no lock. metronome_text and metronome_version need none. The library starts no
- * thread, takes no lock and never waits. Don't call it from a signal handler, nor in a child that was forked by a process
- * with threads.
+ * threads), or each thread has a seat at the heap (metronome_shared.h). Calls on different heaps need no lock, nor do
+ * metronome_text and metronome_version. The library starts no thread, takes no lock and never waits. Don't call it from a signal
+ * handler, nor in a child that was forked by a process with threads.
  *
  * WHAT C MUST NOT DO, since nothing checks it: read or write the fields of a `metronome`; copy one and go on using both (one
  * may be moved between calls); drop one that is open without metronome_destroy (its memory is lost); pass NULL, of which the
@@ -25,7 +25,7 @@
  * than C asks. A `metronome` that was never set is answered with BAD_HANDLE, unless it has by chance the one value that the
  * library leaves in an open one. What a call writes through a pointer needs no value before.
  *
- * MEMORY comes from malloc by metronome_create and goes back by metronome_destroy; no other call asks for any. A page is cleared
+ * MEMORY comes from malloc by metronome_create and goes back by metronome_destroy; no other call here asks for any. A page is cleared
  * when an object is first made on it, or by metronome_touch.
  *
  * Slots can be managed by frames, and the collector by a pace: both are in metronome_over_calls.h, which this header includes
@@ -317,7 +317,8 @@ static inline metronome_progress metronome_put_words(metronome *heap, uint32_t m
 }
 
 /* For each of `count` reference cells two commands: metronome_load of slot from's object into slot `through`, and metronome_store
- * from there into slot to's object; from cells from_first and to_first on, in rising order. Slot `through` holds what was loaded last. */
+ * from there into slot to's object; from cells from_first and to_first on, in rising order. Slot `through` holds what was loaded
+ * last. */
 metronome_progress metronome_copy_refs(metronome *heap, uint32_t mutator, uint32_t through, uint32_t from, uint32_t from_first,
                                        uint32_t to, uint32_t to_first, uint32_t count) METRONOME_NONNULL;
 

@@ -15,8 +15,8 @@ from kit import rt
 # How many bodies are turned at once, at most: more would leave threads without work at a run's end.
 MOST = 16
 
-# Answers that hold a fault: where a function's don't, and it isn't proved, the prover runs once more to offer some.
-FAULTY = f"use Rattle.std.proofs.Common.{{ℕ}}\n\n{verdicts.FAULT} : ℕ\n{verdicts.FAULT} = ℕ\n"
+# What makes answers hold a fault: where a function's don't, and it isn't proved, the prover runs once more to offer some.
+FAULTY = f"{verdicts.FAULT} : Type 0\n{verdicts.FAULT} = Type 0\n"
 
 # What `rt` writes before why an edit came to what it did.
 LABEL = re.compile(r"^must-fail \S+: (?:refused, as it must be|NOT REFUSED|BAD EDIT|NOT TRIED)[: ]*")
@@ -28,12 +28,14 @@ REJECTED = re.compile(r"^(?:\./)?(src/\S+?):(\d+):\d+: error\[", re.M)
 @dataclass
 class Trial:
     """Some edits of a crate, each with the paths of the functions that it turns; one alone has those that it says refuse it, or
-    none. One that leads is made over nothing, and leaves the work that the others begin with."""
+    none. One that leads is made over nothing, and leaves the work that the others begin with: so it asks for what they ask for
+    besides."""
 
     crate: object
     edits: list
     paths: list
     leads: bool = False
+    besides: tuple = ()
 
     @property
     def is_whole(self):
@@ -85,6 +87,8 @@ def planned(crate, edits, begins=False):
         size = len(them) if leads else -(-len(them) // -(-len(them) // MOST))
         for at in range(0, len(them), size):
             trials.append(Trial(crate, *map(list, zip(*them[at : at + size])), leads))
+    if trials and trials[0].leads:
+        trials[0].besides = tuple(sorted({path for it in named for path in it.asked} - set(trials[0].asked)))
     return trials + named + alone
 
 
@@ -114,23 +118,29 @@ def over_nothing(crate, call):
     return call(folder)
 
 
-def unanswered(trial):
-    """The folders of proofs of the functions that a trial turns or says to refuse it, and for which nothing is written."""
-    folder = trial.crate.folder
-    found = {it for path in trial.asked if (it := functions.proofs_of(folder, path))}
-    return [it for it in found if not any(os.path.exists(f"{folder}/{it}/{name}.antt") for name in ("Answers", "Proof"))]
+def faulted(trial, texts):
+    """The answers of the functions that a trial turns or says to refuse it, as they are in these texts or else in the crate, and with a
+    fault; of those whose whole proof is written there are none."""
+    folder, found = trial.crate.folder, {}
+    for proofs in {it for path in trial.asked if (it := functions.proofs_of(trial.crate.folder, path))}:
+        file = f"{proofs}/Answers.antt"
+        if not os.path.exists(f"{folder}/{proofs}/Proof.antt"):
+            written = texts.get(file) or rt.rtlib.text_of(f"{folder}/{file}")
+            found[file] = f"{written}\n{FAULTY}" if written else FAULTY
+    return found
 
 
 def checked(trial, flags, kept):
-    """What the prover says of the crate with all of a trial's edits, and with faulty answers where none are written."""
-    crate, faulty = copy.copy(trial.crate), unanswered(trial)
+    """What the prover says of the crate with all of a trial's edits, and with answers that hold a fault."""
+    crate, texts = copy.copy(trial.crate), turned(trial)
+    texts |= faulted(trial, texts)
     with tempfile.TemporaryDirectory(prefix="wrong-bodies-") as crate.folder:
         for part in rt.rtlib.PARTS:
             if os.path.isdir(f"{trial.crate.folder}/{part}"):
                 shutil.copytree(f"{trial.crate.folder}/{part}", f"{crate.folder}/{part}")
-        for folder in faulty:
-            os.makedirs(f"{crate.folder}/{folder}", exist_ok=True)
-        return rt.checked(crate, turned(trial) | {f"{it}/Answers.antt": FAULTY for it in faulty}, flags, kept)
+        for file in texts:
+            os.makedirs(os.path.dirname(f"{crate.folder}/{file}"), exist_ok=True)
+        return rt.checked(crate, texts, flags, kept)
 
 
 def ask(trial, asked, threads):
@@ -205,9 +215,9 @@ def tried(trial, threads=1):
     """What a trial's edits came to, those that are to be tried again, and the unturned functions that aren't proved."""
     if trial.is_whole:
         return [whole(trial)], [], []
-    said = ask(trial, [*trial.asked, *functions.unturned(trial.crate, trial.asked)], threads)
     if trial.is_named:
-        return of_named(trial, said)
+        return of_named(trial, ask(trial, trial.asked, threads))
+    said = ask(trial, [*trial.asked, *functions.unturned(trial.crate, trial.asked), *trial.besides], threads)
     told = verdicts.told(said)
     others = {name: it for name, it in told.items() if not any(verdicts.is_within(name, path) for path in trial.asked)}
     wrong = [name for name, it in others.items() if it.fails_by_itself]

@@ -257,6 +257,16 @@ def leads(crate, jobs):
     return planned[0].leads and (refused, again) == tuple(wanted.values()) and not any(wrong for *_, wrong in found)
 
 
+def asks_besides(crate):
+    """Whether a trial that leads asks also for what other edits say refuses them, but for what it turns itself."""
+    names = ("adds_two", "has_another_limit", "says_what_refuses_it", "says_what_has_no_answers")
+    them = [edits.read(crate, f"{crate.folder}/{run.FOLDER}/{it}.edit") for it in names]
+    return [
+        trials.planned(crate, [them[0], *them[2:]], begins=True)[0].besides == ("limit", "seven"),
+        trials.planned(crate, them, begins=True)[0].besides == ("seven",),
+    ]
+
+
 def passed(jobs):
     """How many looks were good, and how many weren't."""
     with tempfile.TemporaryDirectory(prefix="wrong-bodies-") as room:
@@ -264,7 +274,7 @@ def passed(jobs):
         crate = crate_in(room)
         made = run.made([crate], jobs, anew=False)
         found = made.found
-        good = [*judged(made), *stops(crate), *keeps(crate), guards(crate)]
+        good = [*judged(made), *stops(crate), *keeps(crate), guards(crate), *asks_besides(crate)]
         with tempfile.TemporaryDirectory(prefix="wrong-bodies-") as other:
             good.append(leads(crate_in(other), jobs))
         left = {it.name for it in run.Run([crate], anew=False).left(crate)}

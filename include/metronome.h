@@ -28,8 +28,8 @@
  * MEMORY comes from malloc by metronome_create and goes back by metronome_destroy; no other call here asks for any. A page is cleared
  * when an object is first made on it, or by metronome_touch.
  *
- * Slots can be managed by frames, and the collector by a pace: both are in metronome_over_calls.h, which this header includes
- * unless METRONOME_CALLS_ALONE is defined.
+ * A heap may keep a plan, by which its collector paces itself: metronome_keep.h, which this header includes. It includes also, unless
+ * METRONOME_CALLS_ALONE is defined, metronome_over_calls.h, frames of slots and a pace, and metronome_blocks.h, a walk over objects.
  *
  * docs/EMBEDDING.md says what is proved of each function. Of what is `static inline` here nothing is: it is only tested.
  */
@@ -44,9 +44,8 @@
 extern "C" {
 #endif
 
-/* The version of this header. A library of another one (metronome_version) doesn't fit it, and metronome_create says so.
- * Version 2 has another second field in a handle than 1, the statuses BAD_HANDLE and OTHER_VERSION, and metronome_page and
- * metronome_cycle_limit. */
+/* The version of this header. A library of another one (metronome_version) doesn't fit it, and metronome_create says so. Version 2 has
+ * another second field in a handle than 1, BAD_HANDLE, OTHER_VERSION, metronome_page and metronome_cycle_limit. */
 #define METRONOME_VERSION 2
 
 /* Each pointer of a function leads to a value. */
@@ -110,7 +109,9 @@ enum metronome_status {
     METRONOME_TAKEN = 41,           /* another seat has the turn: metronome_gate_enter waits for it. 41 to 44 are of seats alone */
     METRONOME_INSIDE = 42,          /* the seat has the turn, and the call wants it not to: metronome_seat_leave first */
     METRONOME_OUTSIDE = 43,         /* the seat hasn't the turn: metronome_seat_enter first */
-    METRONOME_NOT_YOURS = 44        /* the mutator isn't one of the seat's: a mistake */
+    METRONOME_NOT_YOURS = 44,       /* the mutator isn't one of the seat's: a mistake */
+    METRONOME_NO_PLAN = 46,         /* no plan fits on so few pages, or the heap isn't one that can keep this one, or keeps none */
+    METRONOME_ABOVE_PLAN = 47       /* the object has more words than the plan's cycle_words: take more pages, or parts of it */
 };
 
 /* What kind an answer is, and what its number tells. */
@@ -214,7 +215,7 @@ void metronome_destroy(metronome *heap) METRONOME_NONNULL;
  * closed handle, here and below, BAD_HANDLE is the status for what is no handle ---- */
 
 /* A new object of `refs` reference cells, all null, and `words` word cells, all 0, into slot dst. At most 252 cells.
- * MADE; refused: BAD_SLOT, TOO_LARGE, IDENTITIES_SPENT, NO_SPACE, NOT_LIVE, NO_HEAP. */
+ * MADE; refused: BAD_SLOT, TOO_LARGE, IDENTITIES_SPENT, NO_SPACE, NOT_LIVE, NO_HEAP; ABOVE_PLAN where a plan is kept. */
 metronome_answer metronome_new_plain(metronome *heap, uint32_t mutator, uint32_t dst, uint32_t refs, uint32_t words) METRONOME_NONNULL;
 
 /* A new array of this many reference cells, all null, into slot dst. At most 4000000. It takes time by its length.
@@ -390,8 +391,10 @@ uint32_t metronome_version(void);
 }
 #endif
 
+#include "metronome_keep.h"
 #ifndef METRONOME_CALLS_ALONE
 #include "metronome_over_calls.h"
+#include "metronome_blocks.h"
 #endif
 
 #endif

@@ -138,12 +138,19 @@ public:
         return metronome_pace(handle(), &pacing, words);
     }
 
+    // NO_PLAN where the heap was used already, or the plan doesn't fit in it; or where it keeps none.
+    std::uint32_t try_keep(const metronome_flow &flow) noexcept { return metronome_keep(handle(), &flow); }
+    std::uint32_t try_kept(metronome_work &work) noexcept { return metronome_kept(handle(), &work); }
+
     std::uint32_t try_phase(std::uint32_t &phase) noexcept { return metronome_phase(handle(), &phase); }
     std::uint32_t try_units(std::uint64_t &units) noexcept { return metronome_units(handle(), &units); }
     std::uint32_t try_free_pages(std::uint64_t &pages) noexcept { return metronome_free_pages(handle(), &pages); }
     std::uint32_t try_count(metronome_counts &counts) noexcept { return metronome_count(handle(), &counts); }
     std::uint32_t try_page(std::size_t number, metronome_page_view &page) noexcept {
         return metronome_page(handle(), number, &page);
+    }
+    std::uint32_t try_block(std::size_t page, std::size_t number, metronome_block_view &block) noexcept {
+        return metronome_block(handle(), page, number, &block);
     }
 
     // The handle for calls of metronome.h. It is only read and written by these.
@@ -167,6 +174,14 @@ public:
     }
     void whole_cycle(std::uint32_t budget) { detail::need(try_whole_cycle(budget)); }
     void pace(metronome_pacing &pacing, std::uint64_t words) { detail::need(try_pace(pacing, words)); }
+
+    // From here on the collector works before each new object as much as the plan wants.
+    void keep(const metronome_flow &flow) { detail::need(try_keep(flow)); }
+    metronome_work kept() {
+        metronome_work work{};
+        detail::need(try_kept(work));
+        return work;
+    }
 
     std::uint32_t phase() {
         std::uint32_t phase = METRONOME_IDLE;
@@ -193,6 +208,11 @@ public:
         detail::need(try_page(number, page));
         return page;
     }
+    metronome_block_view block(std::size_t page, std::size_t number) {
+        metronome_block_view block{};
+        detail::need(try_block(page, number, block));
+        return block;
+    }
 #endif
 
 private:
@@ -207,7 +227,17 @@ inline std::uint32_t try_cycle_limit(const metronome_settings &settings, metrono
     return metronome_cycle_limit(&settings, &limit);
 }
 
+// The plan of the most words for each quantum that fits in a heap of these settings.
+inline std::uint32_t try_plan(const metronome_settings &settings, std::uint64_t live_words, metronome_flow &flow) noexcept {
+    return metronome_plan(&settings, live_words, &flow);
+}
+
 #ifdef __cpp_exceptions
+inline metronome_flow plan(const metronome_settings &settings, std::uint64_t live_words) {
+    metronome_flow flow{};
+    detail::need(try_plan(settings, live_words, flow));
+    return flow;
+}
 inline metronome_limit cycle_limit(const metronome_settings &settings) {
     metronome_limit limit{};
     detail::need(try_cycle_limit(settings, limit));

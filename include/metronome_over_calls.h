@@ -80,7 +80,8 @@ typedef struct metronome_pacing {
  * its cells, and its spines (docs/MANUAL.md). Each time that the pace's number of words is reached, it begins a cycle if none
  * is running and too few pages are free, and spends a quantum of the cycle that is running. A program calls it before each new
  * object. It takes no longer than a quantum, but where more words come at once than the pace has for one: an array of many
- * words owes many quanta.
+ * words owes many quanta. A heap that keeps a plan (metronome_keep) needs no pace, and what its plan promises is proved; this is for
+ * programs that choose for themselves when the collector works.
  *
  * HOW TO CHOOSE THE NUMBERS. The budget is the longest pause of the collector, in units; what mutators recorded since the last
  * quantum, at most 64 references each, comes before these. No time of a unit is promised. In the longest quantum of 256 units

@@ -321,5 +321,6 @@ static inline metronome_answer metronome_recorded_leave(metronome *heap, uint32_
 #define metronome_quantum metronome_recorded_quantum
 
 #include "metronome_over_calls.h"
+#include "metronome_blocks.h"
 
 #endif

@@ -1,7 +1,7 @@
 /*
  * Large heaps: the same drawn calls on 4096, 65536 and 1048576 pages get the same answers, in cycles that move and in such that
- * don't; a heap takes memory for the pages that it used alone, and for a record of each page; 256 MB of live objects are as they
- * were made after cycles; a page more than the most is refused.
+ * don't; a heap takes memory for the pages that it used alone, and for a record of each page, also where forty million objects are
+ * made; 256 MB of live objects are as they were made after cycles; a page more than the most is refused.
  */
 #define _GNU_SOURCE
 #include "metronome.h"
@@ -10,6 +10,9 @@
 #include <sys/resource.h>
 
 enum { SLOTS = 64, CALLS = 200000, BUDGET = 2000, MOST = 1048576, MOVED = 64, KILOBYTES = 64000, LIVE = 131072, LARGEST = 252 };
+
+/* Of forty million objects each thousandth is kept; a cycle begins at each two millionth, and a quantum is spent at each 64th. */
+enum { MADE = 40000000, KEPT = 1000, BETWEEN = 2000000, STEP = 64 };
 
 static const int64_t PAGES[] = { 4096, 65536, MOST };
 
@@ -93,6 +96,48 @@ static void memory_is_that_of_used_pages(void) {
     metronome_destroy(&heap);
 }
 
+/* What was kept of the many objects, by an array in slot 0: how many aren't as they were made. */
+static uint32_t wrong_of_kept(metronome *heap) {
+    uint32_t wrong = 0;
+    for (uint32_t i = 0; i < MADE / KEPT; i++) {
+        wrong += metronome_load(heap, 0, 1, 0, i).kind != METRONOME_REF;
+        wrong += metronome_get(heap, 0, 1, 1).number != i;
+    }
+    return wrong;
+}
+
+/* Forty million objects on 65536 pages, before any heap used more pages: none is refused, those that are kept stay as they are, and
+ * the process took no more memory than the most pages that were in use at once. */
+static void many_are_made(void) {
+    metronome heap = opened(PAGES[1], 0);
+    uint64_t free_pages = 0, least = PAGES[1];
+    uint32_t wrong = 0;
+    struct rusage usage;
+    metronome_counts counts;
+    metronome_spent spent;
+    CHECK(metronome_new_refs(&heap, 0, 0, MADE / KEPT).kind == METRONOME_MADE);
+    for (uint32_t i = 0; i < MADE; i++) {
+        wrong += metronome_new_plain(&heap, 0, 1, 1, 2).kind != METRONOME_MADE;
+        if (i % KEPT == 0) {
+            wrong += metronome_put(&heap, 0, 1, 1, i / KEPT).kind != METRONOME_DONE;
+            wrong += metronome_store(&heap, 0, 0, i / KEPT, 1).kind != METRONOME_DONE;
+        }
+        if (i % BETWEEN == 0) metronome_begin(&heap);
+        if (i % STEP == 0) {
+            metronome_quantum(&heap, BUDGET, &spent);
+            metronome_free_pages(&heap, &free_pages);
+            if (free_pages < least) least = free_pages;
+        }
+    }
+    CHECK(wrong == 0);
+    CHECK(getrusage(RUSAGE_SELF, &usage) == 0 && (uint64_t)usage.ru_maxrss < (PAGES[1] - least) * 16 + KILOBYTES);
+    CHECK(metronome_clear(&heap, 0, 1).kind == METRONOME_DONE);
+    CHECK(metronome_whole_cycle(&heap, BUDGET) == METRONOME_OK);
+    CHECK(wrong_of_kept(&heap) == 0);
+    CHECK(metronome_count(&heap, &counts) == METRONOME_OK && counts.objects == MADE / KEPT + 1);
+    metronome_destroy(&heap);
+}
+
 /* Objects of 2 KB, to each of which an array leads, through two cycles. */
 static void much_is_live(void) {
     metronome heap = opened(PAGES[1], 0);
@@ -122,6 +167,7 @@ static void one_more_is_refused(void) {
 
 int main(void) {
     memory_is_that_of_used_pages();
+    many_are_made();
     answers_are_the_same(0);
     answers_are_the_same(MOVED);
     much_is_live();

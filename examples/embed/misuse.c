@@ -26,6 +26,8 @@ struct told {
     metronome_spent spent;
     metronome_counts counts;
     metronome_page_view page;
+    metronome_block_view block;
+    metronome_work work;
     uint64_t number;
     uint32_t phase;
 };
@@ -50,14 +52,16 @@ static int refused_commands(metronome *h, uint32_t status, struct told *told) {
     return refused;
 }
 
-/* How many of the other calls tell a status: they are 9. */
+/* How many of the other calls tell a status: they are 12. */
 static int refused_calls(metronome *h, uint32_t status, struct told *told) {
     metronome_pacing pacing = METRONOME_PACING(1, 1, 256);
     metronome_row row = METRONOME_ROW(0, 1, 2);
+    const metronome_flow flow = { 1, 1, 1, 1, 256 };
     return (metronome_touch(h, 1) == status) + (metronome_begin(h) == status) + (metronome_quantum(h, 256, &told->spent) == status)
         + (metronome_phase(h, &told->phase) == status) + (metronome_units(h, &told->number) == status)
         + (metronome_free_pages(h, &told->number) == status) + (metronome_count(h, &told->counts) == status)
-        + (metronome_page(h, 0, &told->page) == status)
+        + (metronome_page(h, 0, &told->page) == status) + (metronome_block(h, 0, 0, &told->block) == status)
+        + (metronome_keep(h, &flow) == status) + (metronome_kept(h, &told->work) == status)
         + (metronome_pace(h, &pacing, 1) == status && metronome_whole_cycle(h, 256) == status
            && metronome_close_frame(h, &row, 0) == status);
 }
@@ -70,7 +74,7 @@ static void nothing_is_done(metronome *h, uint32_t status) {
     memset(&told, 7, sizeof told);
     memset(&stood, 7, sizeof stood);
     check(refused_commands(h, status, &told) == 18, __LINE__);
-    check(refused_calls(h, status, &told) == 9, __LINE__);
+    check(refused_calls(h, status, &told) == 12, __LINE__);
     check(memcmp(&told, &stood, sizeof told) == 0, __LINE__);
     metronome_destroy(h);
     check(memcmp(&before, h, sizeof before) == 0, __LINE__);
@@ -183,6 +187,80 @@ static void cycles_keep_to_their_limit(metronome_settings settings) {
     check(limit.units == 7 && limit.quanta == 7, __LINE__);
 }
 
+/* A plan is told where one fits, and on too few pages how many it takes. */
+static void plans_are_told(void) {
+    metronome_settings settings = METRONOME_SETTINGS_MOVING(200, 1, 8);
+    metronome_flow flow = { 7, 7, 7, 7, 7 };
+    settings.rate = 25;
+    IS(METRONOME_BAD_SCHEDULE, metronome_plan(&settings, 2000, &flow));
+    settings.slots = 257;
+    IS(METRONOME_BAD_SETTING + 2, metronome_plan(&settings, 2000, &flow));
+    check(flow.live_words == 7 && flow.quantum_words == 7 && flow.least_pages == 7 && flow.budget == 7, __LINE__);
+    settings.slots = 8;
+    settings.rate = 100;
+    IS(METRONOME_OK, metronome_plan(&settings, 2000, &flow));
+    check(flow.live_words == 2000 && flow.quantum_words > 0 && flow.budget == 1000 && flow.least_pages < 200, __LINE__);
+    const uint64_t least = flow.least_pages;
+    IS(METRONOME_NO_PLAN, metronome_plan(&settings, 1000000, &flow));
+    check(flow.live_words == 1000000 && flow.quantum_words == 0 && flow.cycle_words == 0 && flow.least_pages > 200, __LINE__);
+    settings.defrag_pages--;
+    IS(METRONOME_NO_PLAN, metronome_plan(&settings, 2000, &flow));
+    check(flow.quantum_words == 0 && flow.least_pages == least, __LINE__);
+    settings.collector_ticks = 256;
+    settings.rate = 1;
+    IS(METRONOME_NO_PLAN, metronome_plan(&settings, 2000, &flow));
+    check(flow.least_pages == 0 && flow.budget == 256, __LINE__);
+}
+
+/* Only an unused heap of the plan's settings keeps it: a new one, whose pages may be touched, and whose mutators may join. */
+static void plans_are_kept_by_new_heaps(void) {
+    metronome_settings settings = METRONOME_SETTINGS_MOVING(200, 2, 8);
+    metronome h = METRONOME_CLOSED;
+    metronome_flow flow, larger;
+    metronome_work work = { 7, 7, 7 };
+    metronome_spent spent;
+    settings.live = 1;
+    IS(METRONOME_OK, metronome_plan(&settings, 2000, &flow));
+    IS(METRONOME_OK, metronome_create(&h, &settings));
+    IS(METRONOME_NO_PLAN, metronome_kept(&h, &work));
+    check(work.quanta == 7 && work.cycles == 7 && work.most_quanta == 7, __LINE__);
+    larger = flow;
+    larger.budget++;
+    IS(METRONOME_NO_PLAN, metronome_keep(&h, &larger));
+    larger = flow;
+    larger.cycle_words *= 2;
+    IS(METRONOME_NO_PLAN, metronome_keep(&h, &larger));
+    IS(METRONOME_OK, metronome_touch(&h, SIZE_MAX));
+    check(metronome_join(&h, 1).kind == METRONOME_DONE, __LINE__);
+    IS(METRONOME_OK, metronome_keep(&h, &flow));
+    IS(METRONOME_OK, metronome_keep(&h, &flow));
+    check(is_refused(metronome_new_words(&h, 0, 0, (uint32_t)flow.cycle_words), METRONOME_ABOVE_PLAN), __LINE__);
+    metronome_progress progress = metronome_new_with(&h, 0, 0, 0, 1, NULL, 0, NULL, 0);
+    check(progress.done == 1 && progress.status == METRONOME_OK, __LINE__);
+    IS(METRONOME_OK, metronome_kept(&h, &work));
+    check(work.quanta == 0 && work.cycles == 0 && work.most_quanta == 0, __LINE__);
+    IS(METRONOME_NO_PLAN, metronome_keep(&h, &flow));
+    IS(METRONOME_OK, metronome_begin(&h));
+    IS(METRONOME_BUSY, metronome_begin(&h));
+    IS(METRONOME_BAD_BUDGET, metronome_quantum(&h, 255, &spent));
+    IS(METRONOME_OK, metronome_quantum(&h, 256, &spent));
+    IS(METRONOME_OK, metronome_quantum(&h, 1000000, &spent));
+    check(metronome_new_plain(&h, 1, 0, 1, 1).kind == METRONOME_MADE, __LINE__);
+    IS(METRONOME_OK, metronome_kept(&h, &work));
+    check(work.cycles == 0, __LINE__);
+    metronome_destroy(&h);
+    IS(METRONOME_OK, metronome_create(&h, &settings));
+    IS(METRONOME_OK, metronome_begin(&h));
+    IS(METRONOME_NO_PLAN, metronome_keep(&h, &flow));
+    metronome_whole_cycle(&h, 1000);
+    IS(METRONOME_NO_PLAN, metronome_keep(&h, &flow));
+    metronome_destroy(&h);
+    settings.defrag_below = 0;
+    IS(METRONOME_OK, metronome_create(&h, &settings));
+    IS(METRONOME_NO_PLAN, metronome_keep(&h, &flow));
+    metronome_destroy(&h);
+}
+
 int main(void) {
     metronome_settings settings = METRONOME_SETTINGS(2, 2, 4);
     settings.statics = 1;
@@ -194,6 +272,8 @@ int main(void) {
     texts_may_go_nowhere();
     pages_are_told(&settings);
     cycles_keep_to_their_limit(settings);
+    plans_are_told();
+    plans_are_kept_by_new_heaps();
     printf("%d passed, %d failed\n", passed, failed);
     return failed != 0;
 }

@@ -42,7 +42,14 @@ static void check_heaps() {
     IS(METRONOME_BAD_SETTING + 2, try_cycle_limit(faulty, limit));
     IS(METRONOME_OK, try_cycle_limit(SETTINGS, limit));
     CHECK(limit.units == 24739 && limit.quanta == 34);
+    metronome_flow flow{};
+    metronome_work work{};
+    IS(METRONOME_NO_HEAP, heap.try_keep(flow));
+    IS(METRONOME_NO_HEAP, heap.try_kept(work));
+    IS(METRONOME_NO_PLAN, try_plan(SETTINGS, 100, flow));
     IS(METRONOME_OK, heap.try_open(SETTINGS));
+    IS(METRONOME_NO_PLAN, heap.try_keep(flow));
+    IS(METRONOME_NO_PLAN, heap.try_kept(work));
     IS(METRONOME_OPEN, heap.try_open(SETTINGS));
     Heap moved = std::move(heap);
     IS(METRONOME_NO_HEAP, heap.try_free_pages(pages)); // NOLINT: what was moved away is closed
@@ -192,7 +199,14 @@ static void check_throwing() {
     heap.whole_cycle(1000);
     CHECK(heap.free_pages() == 3 && heap.count().objects == 3);
     CHECK(heap.page(0).size == 6 && heap.page(0).held == 3 && heap.page(1).size == 0);
+    CHECK(heap.block(0, 0).held == 1 && heap.block(1, 0).held == 0);
     CHECK(cycle_limit(SETTINGS).quanta == 34);
+    const metronome_settings moving = METRONOME_SETTINGS_MOVING(200, 1, 4);
+    Heap kept(moving);
+    kept.keep(plan(moving, 2000));
+    Mutator pushing(kept, 0);
+    for (int i = 0; i < 5000; i++) pushing.new_words(1000);
+    CHECK(kept.kept().cycles > 0 && kept.kept().quanta >= kept.kept().most_quanta);
 }
 
 #else

@@ -72,12 +72,15 @@ static void ask(void) {
     uint32_t phase;
     uint64_t number;
     metronome_page_view view;
+    metronome_block_view block;
     ASK(phase, &heap, &phase);
     ASK(units, &heap, &number);
     ASK(free_pages, &heap, &number);
     ASK(touch, &heap, (size_t)pages_of_heap);
     ASK(page, &heap, 0, &view);
     ASK(page, &heap, (size_t)pages_of_heap - 1, &view);
+    ASK(block, &heap, 0, 0, &block);
+    ASK(block, &heap, (size_t)pages_of_heap - 1, 511, &block);
 }
 
 /* Goes on with the cycle until it is in another phase than it was. */
@@ -130,6 +133,22 @@ static void of_no_heap(void) {
     ASK(destroy, &other);
 }
 
+/* Calls of a heap of 300 pages that keeps a plan; what the collector does for an object isn't counted, which is in quanta. */
+static void of_a_plan(void) {
+    metronome other = METRONOME_CLOSED;
+    metronome_flow flow;
+    metronome_work work;
+    metronome_settings settings = METRONOME_SETTINGS_MOVING(300, (int)mutator + 1, SLOTS);
+    ASK(plan, &settings, 2000, &flow);
+    need(metronome_create(&other, &settings) == METRONOME_OK, "no heap");
+    metronome_touch(&other, SIZE_MAX);
+    ASK(keep, &other, &flow);
+    need(metronome_new_plain(&other, mutator, NEW, 0, 0).kind == METRONOME_MADE, "no object");
+    COUNT("kept_new", where, metronome_new_plain(&other, mutator, NEW, 1, 2));
+    ASK(kept, &other, &work);
+    metronome_destroy(&other);
+}
+
 void count_calls(int pages, int mutators, int room, const char *told) {
     metronome_counts counts;
     mutator = (uint32_t)mutators - 1;
@@ -151,6 +170,7 @@ void count_calls(int pages, int mutators, int room, const char *told) {
     CALL(new_words, LONG, ARRAY);
     leave_and_join();
     of_no_heap();
+    of_a_plan();
     CALLGRIND_STOP_INSTRUMENTATION;
     metronome_destroy(&heap);
 }

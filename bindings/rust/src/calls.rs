@@ -1,7 +1,8 @@
-//! The calls of metronome.h and metronome_shared.h, and their types.
+//! The calls of metronome.h, metronome_keep.h and metronome_shared.h, and their types.
 use std::ffi::c_void;
 use std::os::raw::c_char;
 
+use crate::flow::{Flow, Work};
 use crate::refusal::{Refusal, Result};
 
 /// The version of metronome.h of which these declarations are.
@@ -219,6 +220,16 @@ pub struct Page {
     pub receiving: u32,
 }
 
+#[repr(C)]
+#[derive(Default)]
+pub(crate) struct BlockTold {
+    pub(crate) identity: u64,
+    pub(crate) shape: ShapeTold,
+    pub(crate) part: u32,
+    pub(crate) held: u32,
+    pub(crate) old: u32,
+}
+
 /// What a cycle takes at most.
 #[repr(C)]
 #[derive(Clone, Copy, Debug, Default, PartialEq, Eq)]
@@ -313,7 +324,12 @@ extern "C" {
     pub(crate) fn metronome_free_pages(heap: *mut Handle, free_pages: *mut u64) -> u32;
     pub(crate) fn metronome_count(heap: *mut Handle, counts: *mut Counts) -> u32;
     pub(crate) fn metronome_page(heap: *mut Handle, number: usize, page: *mut Page) -> u32;
+
+    pub(crate) fn metronome_block(heap: *mut Handle, page: usize, number: usize, block: *mut BlockTold) -> u32;
     pub(crate) fn metronome_cycle_limit(settings: *const Settings, limit: *mut CycleLimit) -> u32;
+    pub(crate) fn metronome_plan(settings: *const Settings, live_words: u64, flow: *mut Flow) -> u32;
+    pub(crate) fn metronome_keep(heap: *mut Handle, flow: *const Flow) -> u32;
+    pub(crate) fn metronome_kept(heap: *mut Handle, work: *mut Work) -> u32;
     pub(crate) fn metronome_text_into(status: u32, text: *mut c_char, length: usize) -> usize;
     pub(crate) fn metronome_version() -> u32;
     pub(crate) fn metronome_seat_create_for(seat: *mut SeatHandle, settings: *const Settings, version: u32) -> u32;

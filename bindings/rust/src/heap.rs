@@ -4,6 +4,7 @@ use std::fmt;
 use std::io;
 
 use crate::calls::{self, done, Answer, Counts, Handle, Page, Settings, ShapeTold, SpentTold};
+use crate::flow::{Flow, Work};
 use crate::mutator::Mutator;
 use crate::record::{Recording, Reply};
 use crate::refusal::{Refusal, Result};
@@ -142,6 +143,22 @@ impl Heap {
     /// The handle for a call. No call uses it while another one runs: a heap isn't `Sync`, and the library calls nothing back.
     pub(crate) fn handle(&self) -> *mut Handle {
         self.handle.get()
+    }
+
+    /// The heap keeps a plan from here on: before each new object the collector works as much as the plan wants for it. So as
+    /// long as what is live keeps to `live_words` no object is refused for lack of space. Refused: `NoPlan` where the heap was used
+    /// already, or the plan doesn't fit in it.
+    pub fn keep(&self, flow: &Flow) -> Result<()> {
+        // SAFETY: the heap is open, and both live through the call.
+        done(unsafe { calls::metronome_keep(self.handle(), flow) })
+    }
+
+    /// What the collector did because the plan wanted it, since [`Heap::keep`]. Refused: `NoPlan` where none is kept.
+    pub fn kept(&self) -> Result<Work> {
+        let mut work = Work::default();
+        // SAFETY: the heap is open, and both live through the call.
+        done(unsafe { calls::metronome_kept(self.handle(), &mut work) })?;
+        Ok(work)
     }
 
     /// Begins a cycle. Answers whether one began: none was running.

@@ -41,6 +41,7 @@
 #![warn(missing_docs)]
 
 mod calls;
+mod flow;
 mod heap;
 mod mutator;
 mod record;
@@ -48,8 +49,10 @@ mod refusal;
 mod root;
 mod seat;
 mod turn;
+mod walk;
 
 pub use calls::{version, Counts, CycleLimit, Page, Settings};
+pub use flow::{Flow, Work};
 pub use heap::{Heap, Pacing, Phase, Spent};
 pub use mutator::Mutator;
 pub use record::Recording;
@@ -57,3 +60,4 @@ pub use refusal::{Refusal, Result};
 pub use root::{Compared, Description, Root, Shape};
 pub use seat::{Seat, Shared};
 pub use turn::Turn;
+pub use walk::Objects;

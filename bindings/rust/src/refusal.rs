@@ -45,6 +45,10 @@ pub enum Refusal {
     Taken,
     /// The mutator isn't one of the seat's, or of those that no seat has.
     NotYours,
+    /// No plan fits, or the heap isn't one that can keep this one, or it keeps none.
+    NoPlan,
+    /// The object has more words than the plan has for a whole cycle.
+    AbovePlan,
     /// The seat isn't at this heap: the crate finds it, and metronome.h has no number for it.
     OtherHeap,
     /// A status of the library for which this crate has no other name.
@@ -52,7 +56,7 @@ pub enum Refusal {
 }
 
 /// The numbers that metronome.h has for them.
-const NUMBERED: [(u32, Refusal); 16] = [
+const NUMBERED: [(u32, Refusal); 18] = [
     (1, Refusal::BadSlot),
     (2, Refusal::NullSlot),
     (3, Refusal::BadIndex),
@@ -69,6 +73,8 @@ const NUMBERED: [(u32, Refusal); 16] = [
     (40, Refusal::OtherVersion),
     (41, Refusal::Taken),
     (44, Refusal::NotYours),
+    (46, Refusal::NoPlan),
+    (47, Refusal::AbovePlan),
 ];
 
 const FIRST_SETTING: u32 = 20;

@@ -150,6 +150,28 @@ fn a_cycle_has_a_limit() -> Result<()> {
     Ok(())
 }
 
+/// A plan is told and kept: no object is refused, and the collector works for them. On too few pages it is told how many it takes.
+#[test]
+fn a_plan_is_kept() -> Result<()> {
+    let settings = Settings::moving(200, 1, 4);
+    let flow = settings.plan(2000)?;
+    assert!(flow.quantum_words > 0 && flow.live_words == 2000 && flow.budget == 1000);
+    let none = Settings::moving(4, 1, 4).plan(2000)?;
+    assert!(none.quantum_words == 0 && none.least_pages == flow.least_pages);
+    assert_eq!(Settings { pages: 0, ..SMALL }.plan(1).err(), Some(Refusal::BadSetting(0)));
+    let heap = Heap::new(&settings)?;
+    assert_eq!(heap.kept().err(), Some(Refusal::NoPlan));
+    heap.keep(&flow)?;
+    let mutator = heap.mutator(0)?;
+    for _ in 0..5000 {
+        mutator.new_words(1000)?;
+    }
+    assert_eq!(mutator.new_words(4_000_000).err(), Some(Refusal::AbovePlan));
+    assert!(heap.kept()?.cycles > 0 && heap.kept()?.quanta >= heap.kept()?.most_quanta);
+    assert_eq!(heap.keep(&flow).err(), Some(Refusal::NoPlan));
+    Ok(())
+}
+
 /// Puts a cell of a word before those that a root holds.
 fn push<'m>(list: &Root<'m>, cell: Root<'m>, word: u64) -> Result<Root<'m>> {
     cell.put(0, word)?;
@@ -224,5 +246,20 @@ fn lists_of_commands_end_at_the_first_that_is_refused() -> Result<()> {
     assert!(inner.is_null() && !through.is_null());
     through.take(&through)?;
     assert!(!through.is_null());
+    Ok(())
+}
+
+#[test]
+fn a_walk_meets_each_object_once() -> Result<()> {
+    let heap = Heap::new(&SMALL)?;
+    let mutator = heap.mutator(0)?;
+    let small = mutator.new_plain(1, 2)?;
+    let large = mutator.new_words(1000)?;
+    let gone = mutator.new_plain(0, 0)?;
+    let met: Vec<Description> = heap.objects().collect();
+    assert_eq!(met, [small.describe(), large.describe(), gone.describe()].map(Option::unwrap));
+    drop(gone);
+    heap.whole_cycle(256)?;
+    assert_eq!(heap.objects().count(), 2);
     Ok(())
 }

@@ -1,7 +1,7 @@
 pub mod InOrder
 pub mod Lists
 pub mod Rows
+pub mod Runs
 pub mod Moving
 pub mod Filling
-pub mod Reading
 pub mod Events

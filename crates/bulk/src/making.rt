@@ -5,7 +5,7 @@ ghost use Rattle.bulk.specs.Lists.{makes};
 
 use crate::progress::{Progress, refusal_in};
 use crate::refs::store_slots;
-use crate::words::put_words;
+use crate::words::fill_words;
 use graph_heap::{PLAIN_CELLS, Shape};
 use machine::Heap;
 
@@ -34,5 +34,5 @@ pub fn new_with(
     if stored.refused.is_some() {
         return stored.behind(1);
     }
-    put_words(heap, mutator, dst, 0, words).behind(1 + stored.done)
+    fill_words(heap, mutator, dst, words).behind(1 + stored.done)
 }

@@ -11,12 +11,16 @@ use machine::Heap;
 pub fn clear_slots(heap: &mut Heap, mutator: u32, first: u32, count: u32) -> Progress
     ensures { DoesFront heap.old mutator (clears first count) result heap.new }
 {
-    for i in 0..count {
-        if let Some(refusal) = refusal_in(heap.clear(mutator, first.saturating_add(i))) {
-            return Progress {
-                done: i,
-                refused: Some(refusal),
-            };
+    let mut done = 0;
+    while done < count {
+        match heap.clear_run(mutator, first.saturating_add(done), count - done) {
+            Ok(more) => done += more,
+            Err(refusal) => {
+                return Progress {
+                    done,
+                    refused: Some(refusal),
+                };
+            }
         }
     }
     Progress {

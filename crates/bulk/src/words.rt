@@ -4,7 +4,7 @@ ghost use Rattle.bulk.specs.InOrder.{DoesFront, DoesWith, words_told};
 ghost use Rattle.bulk.specs.Lists.{gets, puts};
 
 use crate::progress::{Progress, refusal_in};
-use graph_heap::{PLAIN_CELLS, Reply};
+use graph_heap::PLAIN_CELLS;
 use machine::Heap;
 
 /// Reads as many word cells of the object in slot obj as the slice has room for, at most 252, from the first on. Done are
@@ -16,20 +16,18 @@ pub fn get_words(heap: &mut Heap, mutator: u32, obj: u32, first: u32, words: &mu
         (words_told (take result.done words.new)) result heap.new }
     ensures rest { drop result.done words.new ≡ drop result.done words.old }
 {
-    // What is read here is only that the heap represents some graph heap, by which a word is all that Get replies where it
-    // isn't refused.
-    let _phase = heap.phase();
     let room = words.len() as u32;
-    for i in 0..room {
-        match heap.get(mutator, obj, first.saturating_add(i)) {
-            Reply::Word(word) => words[i as usize] = word,
-            Reply::Refused(refusal) => {
+    let mut done = 0;
+    while done < room {
+        let rest = &mut words[done as usize..];
+        match heap.get_run(mutator, obj, first.saturating_add(done), rest) {
+            Ok(count) => done += count,
+            Err(refusal) => {
                 return Progress {
-                    done: i,
+                    done,
                     refused: Some(refusal),
                 };
             }
-            _ => unreachable!(),
         }
     }
     Progress {
@@ -47,6 +45,38 @@ pub fn put_words(heap: &mut Heap, mutator: u32, obj: u32, first: u32, words: &[u
     ensures { DoesFront heap.old mutator (puts obj first words.now) result heap.new }
 {
     let count = words.len() as u32;
+    let mut done = 0;
+    while done < count {
+        let rest = &words[done as usize..];
+        match heap.put_run(mutator, obj, first.saturating_add(done), rest) {
+            Ok(more) => done += more,
+            Err(why) => {
+                return Progress {
+                    done,
+                    refused: Some(why),
+                };
+            }
+        }
+    }
+    Progress {
+        done: count,
+        refused: None,
+    }
+}
+
+/// The same, by single commands: for a word or two, of which a run would look up more than it spares.
+#[inline(always)]
+pub(crate) fn put_each(
+    heap: &mut Heap,
+    mutator: u32,
+    obj: u32,
+    first: u32,
+    words: &[u64],
+) -> Progress
+    requires { length words.now ≤ PLAIN_CELLS }
+    ensures { DoesFront heap.old mutator (puts obj first words.now) result heap.new }
+{
+    let count = words.len() as u32;
     for i in 0..count {
         let word = words[i as usize];
         if let Some(refusal) = refusal_in(heap.put(mutator, obj, first.saturating_add(i), word)) {
@@ -60,4 +90,25 @@ pub fn put_words(heap: &mut Heap, mutator: u32, obj: u32, first: u32, words: &[u
         done: count,
         refused: None,
     }
+}
+
+/// The first words of a new object, whichever way takes less.
+#[inline(always)]
+pub(crate) fn fill_words(heap: &mut Heap, mutator: u32, obj: u32, words: &[u64]) -> Progress
+    requires { length words.now ≤ PLAIN_CELLS }
+    ensures { DoesFront heap.old mutator (puts obj 0 words.now) result heap.new }
+{
+    if words.len() < 3 {
+        return put_each(heap, mutator, obj, 0, words);
+    }
+    put_many(heap, mutator, obj, words)
+}
+
+/// Words of a new object by runs.
+#[inline(never)]
+fn put_many(heap: &mut Heap, mutator: u32, obj: u32, words: &[u64]) -> Progress
+    requires { length words.now ≤ PLAIN_CELLS }
+    ensures { DoesFront heap.old mutator (puts obj 0 words.now) result heap.new }
+{
+    put_words(heap, mutator, obj, 0, words)
 }

@@ -13,7 +13,7 @@ use Rattle.clap.specs.Matches.{ReadsOne}
 use Rattle.clap.specs.declared.parser.matches.Found.{Found}
 use Rattle.std.specs.Str.Parse.{ParsesUnsigned}
 use Rattle.command_line.specs.declared.job.Job.{Job}
-use Rattle.command_line.specs.declared.job.Job.TheVariants.{Play, Check, Threads, Inspect, Cycles, Path, Mmu, Draw, DrawGraph, DrawTime, Pages}
+use Rattle.command_line.specs.declared.job.Job.TheVariants.{Play, Check, Threads, Inspect, Cycles, Path, Mmu, Draw, DrawGraph, DrawTime, Pages, Plan}
 use Rattle.command_line.specs.Words.{Asks, IsDrawn, IsFlag, IsNumber}
 
 first_text : (vs : List (Bor (List ℕ))) → slice_get (map (λ s. s.now) vs) 0 ≡ option_map (λ s. s.now) (slice_get vs 0)
@@ -104,3 +104,4 @@ drawn_asks name rows (Cycles csv) e d = elim d.4 [ ]
 drawn_asks name rows (Path id after) e d = elim d.4 [ ]
 drawn_asks name rows (Mmu windows) e d = elim d.4 [ ]
 drawn_asks name rows (Pages by) e d = elim d.4 [ ]
+drawn_asks name rows (Plan live) e d = elim d.4 [ ]

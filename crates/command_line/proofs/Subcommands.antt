@@ -2,7 +2,7 @@
 use Rattle.std.proofs.Common.{◌≡◌, ◌⊎◌, inl, inr, Bool, true, false, List, Option, Some, None, option_map, refl, ap, ap₂, ◌∙◌, sym, subst}
 use Rattle.std.proofs.lemmas.Option.{same_Some}
 use Rattle.std.specs.Prelude.{◌&&◌, not}
-use Rattle.clap.specs.Words.{App, Shape, Text, Row, app_of, is_simple, is_simple_and_free, subcommand_of, fault_of, IsAmong, HasMatchesOf, subcommand_rows_of}
+use Rattle.clap.specs.Words.{App, Shape, Text, Row, app_of, is_simple, is_simple_and_free, subcommand_of, fault_of, IsAmong, HasMatchesOf, subcommand_rows_of, AddsSubcommand, with_subcommand}
 use Rattle.clap.specs.declared.error.kind.ErrorKind.{ErrorKind}
 use Rattle.clap.specs.declared.error.kind.ErrorKind.TheVariants.{DisplayHelp, DisplayVersion, OutOfMemory}
 use Rattle.clap.specs.declared.builder.command.Command.{Command}
@@ -21,6 +21,10 @@ third_off false b c rest e = absurd (let z : false ≡ true = e in cc)
 -- a subcommand is plain as its shape is
 pub plain_as : (shape : Shape) (command : Command) → IsSubcommand shape command → shape.is_plain ≡ true → (app_of command).top.is_plain ≡ true
 plain_as shape command is plain = ap (λ (a : App). a.top.is_plain) is ∙ plain
+
+-- a program with one more subcommand, which is plain
+pub with_one : (old sub new : Command) (before : App) (shape : Shape) → AddsSubcommand old sub new → app_of old ≡ before → IsSubcommand shape sub → shape.is_plain ≡ true → app_of new ≡ with_subcommand before shape
+with_one old sub new before shape adds told is plain = adds.shape (third_off _ _ _ _ (plain_as shape sub is plain)) ∙ ap₂ with_subcommand told (ap (λ (a : App). a.top) is)
 
 pub is_simple_program : is_simple metronome ≡ true
 unfolding clap_on_literals

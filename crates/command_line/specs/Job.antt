@@ -28,6 +28,7 @@ IsInRange _ = Unit {0}
 abbrev pub picture_name : Picture → List ℕ
 picture_name pictures.Pages = codes "pages"
 picture_name pictures.Utilisation = codes "utilisation"
+picture_name pictures.Events = codes "events"
 
 -- the name of a report of a heap
 abbrev pub report_name : Report → List ℕ

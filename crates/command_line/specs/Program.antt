@@ -98,11 +98,16 @@ draw = on_trace (codes "draw")
 abbrev pub pages : Shape
 pages = on_trace (codes "pages") (flag (codes "pace") ∷ word (codes "load") ∷ [])
 
+-- tells how a heap would pace itself
+abbrev pub plan : Shape
+plan = on_config (codes "plan")
+    (record (word (codes "live")) { parser = Some long_number; required = true } ∷ [])
+
 -- the program: it has a version, and wants a subcommand
 abbrev pub metronome : App
 metronome = record {
   top = record (new_shape (codes "metronome")) { is_leaf = false; has_version = true; subcommand_required = true };
-  subs = play ∷ check ∷ threads ∷ inspect ∷ cycles ∷ path ∷ mmu ∷ draw ∷ pages ∷ [];
+  subs = play ∷ check ∷ threads ∷ inspect ∷ cycles ∷ path ∷ mmu ∷ draw ∷ pages ∷ plan ∷ [];
 }
 
 -- an argument as this rule says, of its own command

@@ -1,12 +1,13 @@
 -- Which job a subcommand and the values of its arguments ask for. Which these are in the words of a command line, is what
 -- clap says of the program's rows.
 use Rattle.std.specs.Prelude.{◌≡◌, ◌⊎◌, ℕ, Bool, true, false, List, [], Option, Some, None, Ok, Err, unwrap_or, codes}
+use Rattle.std.specs.Borrow.{Bor}
 use Rattle.std.specs.List.{AllZip}
 use Rattle.std.specs.Str.Parse.{ParsesUnsigned}
 use Rattle.clap.specs.Words.{Text, Row, first_of, one_of, all_of, subcommand_of, fault_of, IsAmong}
 use Rattle.clap.specs.declared.error.kind.ErrorKind.TheVariants.{DisplayHelp, DisplayVersion}
 use Rattle.command_line.specs.declared.job.Job.{Job}
-use Rattle.command_line.specs.declared.job.Job.TheVariants.{Play, Check, Threads, Inspect, Cycles, Path, Mmu, Pages}
+use Rattle.command_line.specs.declared.job.Job.TheVariants.{Play, Check, Threads, Inspect, Cycles, Path, Mmu, Pages, Plan}
 use Rattle.command_line.specs.declared.job.Request.{Request}
 use Rattle.command_line.specs.declared.job.Sizing.{Sizing}
 use Rattle.command_line.specs.declared.job.Sizing.TheVariants.{Demand, Pace, Load}
@@ -60,18 +61,26 @@ Asks name rows (Mmu windows) = (name ≡ codes "mmu")
     windows.items
 Asks name rows (Pages by) = (name ≡ codes "pages")
     × (pace : Bool) × IsFlag (one_of (codes "pace") rows) pace × IsSizing pace (first_of (codes "load") rows) by
+Asks name rows (Plan live) = (name ≡ codes "plan") × IsNumberOrZero 64 (one_of (codes "live") rows) live
 Asks name rows drawing = (name ≡ codes "draw") × IsDrawn rows drawing
 
--- the argument that has the name of a job's file
-abbrev pub file_argument : Job → Text
-file_argument Check = codes "HISTORY"
-file_argument (Threads turns budget) = codes "SCRIPTS"
-file_argument _ = codes "TRACE"
+-- the argument that has the name of a job's file, if the job has one
+abbrev pub file_argument : Job → Option Text
+file_argument Check = Some (codes "HISTORY")
+file_argument (Threads turns budget) = Some (codes "SCRIPTS")
+file_argument (Plan live) = None
+file_argument _ = Some (codes "TRACE")
+
+-- the file that an argument names; none where there is no such argument
+abbrev pub NamesFile : Option Text → List Row → Option (Bor Text) → Type 0
+NamesFile None rows file = file ≡ None
+NamesFile (Some argument) rows None = ⊥
+NamesFile (Some argument) rows (Some file) = first_of argument rows ≡ Some file.now
 
 -- a subcommand and its arguments ask for a request: they name its files, ask for its job, and set its two flags
 pub record AsksFor (name : Text) (rows : List Row) (request : Request) : Type 0 where
   pub config : first_of (codes "CONFIG") rows ≡ Some request.config.now
-  pub file : first_of (file_argument request.job) rows ≡ Some request.file.now
+  pub file : NamesFile (file_argument request.job) rows request.file
   pub job : Asks name rows request.job
   pub progress : IsFlag (one_of (codes "progress") rows) request.progress
   pub explain : IsFlag (one_of (codes "explain") rows) request.explain

@@ -23,7 +23,8 @@ pub fn program<'a>(alloc: Global) -> Result<Command<'a>, AllocError>
         .subcommand(path(alloc)?)?
         .subcommand(mmu(alloc)?)?
         .subcommand(draw(alloc)?)?
-        .subcommand(pages(alloc)?)
+        .subcommand(pages(alloc)?)?
+        .subcommand(plan(alloc)?)
 }
 
 fn play<'a>(alloc: Global) -> Result<Command<'a>, AllocError>
@@ -98,7 +99,7 @@ fn mmu<'a>(alloc: Global) -> Result<Command<'a>, AllocError>
 fn draw<'a>(alloc: Global) -> Result<Command<'a>, AllocError>
     ensures { IfOk result (IsSubcommand words.draw) }
 {
-    let help = "The picture: graph, pages, time or utilisation";
+    let help = "The picture: events, graph, pages, time or utilisation";
     let picture = word(alloc, "as", "PICTURE", help).required(true);
     let most = "Draw at most N objects of a graph, 500 if not said";
     on_trace(alloc, "draw", "Play a trace and draw a picture")?
@@ -116,6 +117,14 @@ fn pages<'a>(alloc: Global) -> Result<Command<'a>, AllocError>
     on_trace(alloc, "pages", about)?
         .arg(flag(alloc, "pace", pace))?
         .arg(word(alloc, "load", "FILE", load))
+}
+
+fn plan<'a>(alloc: Global) -> Result<Command<'a>, AllocError>
+    ensures { IfOk result (IsSubcommand words.plan) }
+{
+    let help = "Words of the blocks of live objects, headers included";
+    let live = word(alloc, "live", "N", help).value_parser(value_parser!(u64));
+    on_config(alloc, "plan", "Tell how a heap would pace itself")?.arg(live.required(true))
 }
 
 /// A subcommand that works on a trace.

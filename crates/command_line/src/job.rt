@@ -7,6 +7,8 @@ pub enum Picture {
     Pages,
     /// The least utilisation of windows of some lengths.
     Utilisation,
+    /// The quanta that took ticks, as events.
+    Events,
 }
 
 /// How a heap is reported.
@@ -29,7 +31,7 @@ pub enum Sizing<'a> {
     Load(&'a str),
 }
 
-/// What is done with the other file than the configuration.
+/// What is done with the configuration, and with the other file if there is one.
 #[derive(Debug, PartialEq, Eq, Drop)]
 pub enum Job<'a> {
     /// Play a trace, and write its replies, or with `history` its entries.
@@ -77,6 +79,11 @@ pub enum Job<'a> {
     Pages {
         by: Sizing<'a>,
     },
+    /// Tell how a heap would pace itself with this many words of live blocks, on some numbers of pages. It has no other
+    /// file.
+    Plan {
+        live: u64,
+    },
 }
 
 /// What the words of a command line ask for, with the names of its files.
@@ -84,8 +91,8 @@ pub enum Job<'a> {
 pub struct Request<'a> {
     /// The file of the configuration.
     pub config: &'a str,
-    /// The other file; `-` is standard input.
-    pub file: &'a str,
+    /// The other file, if the job has one; `-` is standard input.
+    pub file: Option<&'a str>,
     /// What is to be done.
     pub job: Job<'a>,
     /// Whether standard error is told how many lines were read.

@@ -5,7 +5,7 @@ ghost use Rattle.std.specs.Prelude.{[], Some, codes, map, option_map, unwrap_or}
 ghost use Rattle.std.specs.List.{AllZip};
 ghost use Rattle.clap.specs.Words.{found_of, rows_of, first_of, one_of, all_of, kind_of};
 ghost use Rattle.command_line.specs.Job.{IsDrawing, IsInRange, IsWindow, picture_name, report_name};
-ghost use Rattle.command_line.specs.Words.{Asks, AsksFor, file_argument, IsFlag, IsNumber, IsSizing, IsAskedFor, IsAskedForBy, HelpIsAskedFor, IsHelp};
+ghost use Rattle.command_line.specs.Words.{Asks, AsksFor, file_argument, NamesFile, IsFlag, IsNumber, IsSizing, IsAskedFor, IsAskedForBy, HelpIsAskedFor, IsHelp};
 
 use crate::commands::program;
 use crate::fault::{Refusal, WordsFault};
@@ -46,21 +46,32 @@ fn request_of<'a>(alloc: Global, name: &str, found: &ArgMatches<'a>) -> Result<R
     let job = job_of(alloc, name, found)?;
     Ok(Request {
         config: file(alloc, found, "CONFIG")?,
-        file: file(alloc, found, file_argument(&job))?,
+        file: file_of(alloc, found, &job)?,
         job,
         progress: flag(found, "progress"),
         explain: flag(found, "explain"),
     })
 }
 
-/// The argument that has the name of a job's file.
-fn file_argument(job: &Job) -> &'static str
-    ensures { result.now ≡ file_argument job.now }
+/// The argument that has the name of a job's file, if the job has one.
+fn file_argument(job: &Job) -> Option<&'static str>
+    ensures { option_map (λ argument. argument.now) result ≡ file_argument job.now }
 {
     match job {
-        Job::Check => "HISTORY",
-        Job::Threads { .. } => "SCRIPTS",
-        _ => "TRACE",
+        Job::Check => Some("HISTORY"),
+        Job::Threads { .. } => Some("SCRIPTS"),
+        Job::Plan { .. } => None,
+        _ => Some("TRACE"),
+    }
+}
+
+/// The name of a job's file, if the job has one.
+fn file_of<'a>(alloc: Global, found: &ArgMatches<'a>, job: &Job) -> Result<Option<&'a str>, Refusal>
+    ensures { IfOk result (NamesFile (file_argument job.now) (rows_of (found_of found.now))) }
+{
+    match file_argument(job) {
+        Some(argument) => Ok(Some(file(alloc, found, argument)?)),
+        None => Ok(None),
     }
 }
 
@@ -71,6 +82,10 @@ fn job_of<'a>(alloc: Global, name: &str, found: &ArgMatches<'a>) -> Result<Job<'
 {
     match name {
         "check" => Ok(Job::Check),
+        // (clap has refused what is no such number)
+        "plan" => Ok(Job::Plan {
+            live: long_number(found, "live").unwrap_or(0),
+        }),
         "threads" => threads(alloc, found),
         "inspect" | "path" | "draw" => heap_job(alloc, name, found),
         _ => run_job(alloc, name, found),
@@ -251,8 +266,9 @@ fn picture(alloc: Global, name: &str) -> Result<Picture, Refusal>
     let pictures = [
         ("pages", Picture::Pages),
         ("utilisation", Picture::Utilisation),
+        ("events", Picture::Events),
     ];
-    let expected = "none of graph, pages, time and utilisation";
+    let expected = "none of events, graph, pages, time and utilisation";
     chosen(alloc, name, &pictures, "--as <PICTURE>", expected)
 }
 

@@ -30,6 +30,9 @@ impl Model for Arena {
 }
 
 impl Arena {
+    ghost use Rattle.std.specs.Borrow.{sem};
+    ghost use Rattle.headers.specs.Lending.{LendsWords};
+
     /// Memory for this many pages of 2048 words, none of which was touched. Refused only for lack of memory.
     pub fn new(alloc: Global, pages: u32) -> Result<Arena, NoMemory>
         ensures { IfOk result (λ a. a ≡ record { words = []; pages = pages }) }
@@ -57,6 +60,23 @@ impl Arena {
         ensures { result ≡ length self.now.words / 2048 }
     {
         self.words.len() / 2048
+    }
+
+    /// The words of the pages that were touched, for what reads many blocks.
+    #[inline(always)]
+    pub fn words(&self) -> &[u64]
+        ensures { result.now ≡ self.now.words }
+    {
+        self.words.as_slice()
+    }
+
+    /// The same for what writes many blocks: what is left there is in the arena when the loan ends.
+    #[inline(always)]
+    pub fn words_mut(&mut self) -> &mut [u64]
+        ensures* writes_back { sem 𝓛 (LendsWords self.entry result) }
+        ensures value { result.now ≡ self.old.words }
+    {
+        self.words.as_mut_slice()
     }
 
     /// The address to which a block forwards: its own, or that of the copy that was moved.

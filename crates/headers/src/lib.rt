@@ -2,6 +2,7 @@
 #![tactic(auto)]
 
 pub mod arena;
+pub mod block;
 mod header;
 mod laws;
 

@@ -65,7 +65,7 @@ sum_less a b c e l = omega arith
 few_cells : (refs words : ℕ) → fits (shapes.Plain refs words) ≡ true → refs + words ≤ 252
 few_cells refs words fit = grind arith
 
-word_within_part : (shape : Shape) (i : ℕ) → fits shape ≡ true → i < word_cells shape
+pub word_within_part : (shape : Shape) (i : ℕ) → fits shape ≡ true → i < word_cells shape
     → width_in (ref_cells shape) (word_cells shape) (part_in (cells_of shape) i) + column_in i < part_cells (cells_of shape) (part_in (cells_of shape) i)
 word_within_part (shapes.Plain refs words) i fit l = plain_within refs words i (few_cells refs words fit) l
 word_within_part (shapes.RefArray n) i fit l = absurd (omega arith)

@@ -15,3 +15,6 @@ pub mod Space
 pub mod Copies
 pub mod Events
 pub mod Touching
+pub mod Runs
+pub mod RunFinding
+pub mod RunClearing

@@ -41,6 +41,11 @@ steps_by : (h : HeapState) (m : ℕ) (c : Command) (told : Reply) (after : HeapS
 unfolding reply_of next_of
 steps_by h m c told after s = record { reply = λ g a. (s g a).reply; agrees = λ g a. (s g a).agrees; does = λ g a. (s g a).change }
 
+-- what each graph heap refuses is refused
+pub refused_each : (h : HeapState) (m : ℕ) (c : Command) (e : Refusal) → ((g : Graph) → Agrees h g → effect_of (room_for h c) g m c ≡ Err e) → Steps h m c (replies.Refused e) h
+refused_each h m c e refuses =
+    steps_by h m c (replies.Refused e) h (λ g a. subst (λ (d : Result (Reply × Change) Refusal). Commits h g d (replies.Refused e) h) (sym (refuses g a)) (commits_err h e g (Err e) a refl))
+
 -- a command is settled as the mutator is admitted; the test is of the fields f, which are seen as the value h
 module _ (f h : HeapState) (seen_as : f ≡ h) (m : ℕ) (c : Command) (joins : Bool) (join : joins ≡ is_join c) (r : Result Bool Refusal) (told : r ≡ admitted_to f.limits f.live m joins) where
   told_here : r ≡ admitted_to h.limits h.live m (is_join c)

@@ -1,5 +1,5 @@
 -- Pages are touched, and the heap represents and agrees with the same graph heaps.
-use Rattle.std.proofs.Common.{◌≡◌, ℕ, ◌+◌, ◌-◌, ◌*◌, ◌≤◌, ◌++◌, length, min, replicate, refl, ap, ◌∙◌, subst, sym, arith}
+use Rattle.std.proofs.Common.{◌≡◌, ℕ, ◌+◌, ◌-◌, ◌*◌, ◌≤◌, length, min, refl, ap, ◌∙◌, subst, sym, arith}
 use Rattle.graph_heap.specs.Graph.{Graph}
 use Rattle.heap_model.specs.Action.{KeepsBlocks, Relinks}
 use Rattle.heap_model.specs.Agreement.{Agrees}
@@ -13,7 +13,7 @@ use Rattle.nodes.specs.Links.{KeepsLinks}
 use Rattle.nodes.specs.Touching.{touched}
 use Rattle.nodes.specs.declared.heap_fields.HeapFields.{HeapFields}
 use Rattle.nodes.specs.HeapFields.{state_of, IsHeap, AreHeapFields}
-use Rattle.nodes.proofs.Keeping.{are_allocated, grey_kept, store_kept}
+use Rattle.nodes.proofs.Keeping.{are_allocated, grey_kept, store_kept, linked_still}
 use Rattle.machine.proofs.Collecting.{flushed_heap}
 use Rattle.machine.proofs.Doing.{present_agrees}
 
@@ -36,7 +36,7 @@ module _ (a : HeapFields) (w : AreHeapFields a) (new : Store) (pages : ℕ) (is 
   relinks = record { blocks = kept; pages = same_pages }
 
   pub touched_fields : AreHeapFields (record a { nodes = new })
-  touched_fields = flushed_heap a (record a { nodes = new }) w refl (grey_kept a (are_allocated a w) new (ap length same_pages) links) relinks refl
+  touched_fields = flushed_heap a (record a { nodes = new }) w refl (grey_kept a (are_allocated a w) new (ap length same_pages) links) relinks refl (linked_still a new w.linked (are_allocated a w) links)
 
   still : state_of (record a { nodes = new }) ≡ record (state_of a) { store = new }
   still = store_kept a (are_allocated a w) new (ap length same_pages) links

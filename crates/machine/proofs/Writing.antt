@@ -12,7 +12,7 @@ use Rattle.heap_model.specs.State.{HeapState, seen}
 use Rattle.heap_model.specs.Written.{records}
 use Rattle.heap_model.proofs.Left.{change_left}
 use Rattle.heap_model.proofs.Change.Recording.{records_stay}
-use Rattle.nodes.specs.Grey.{GreySet, buffer_of, with_buffer}
+use Rattle.nodes.specs.Grey.{GreySet, buffer_of, with_buffer, AreLinked}
 use Rattle.satb_barrier.specs.Recording.{with_room, shades, buffers_after}
 use Rattle.machine.specs.Buffers.{AreBuffersBy}
 use Rattle.heap_model.specs.Change.{DoesChange, Does_nothing, Does_root, Does_ref, Does_word, Does_new, Does_join, Does_leave, Clears, Clears_none, Clears_next, Records, Records_nothing, Records_main}
@@ -116,13 +116,14 @@ count_after a m x = by_case (shades a x)
     by_case false = refl
 
 -- a write done leaves a heap
-pub written_heap : (a b : HeapFields) → AreHeapFields a → (write : Write) → CanPerform (state_of a) write → DoesEach (state_of a) write (state_of b) → length b.grey.buffers ≡ length a.grey.buffers → AreHeapFields b
-written_heap a b w write can does count =
+pub written_heap : (a b : HeapFields) → AreHeapFields a → (write : Write) → CanPerform (state_of a) write → DoesEach (state_of a) write (state_of b) → length b.grey.buffers ≡ length a.grey.buffers → AreLinked b.nodes b.grey → AreHeapFields b
+written_heap a b w write can does count linked =
     let p = can w.heap.present (present_agrees (state_of a) w.heap) in
     let change = does w.heap.present p.0 (present_agrees (state_of a) w.heap) p.1 in
     record {
       heap = stays_heap (state_of a) (state_of a) refl w.heap write (state_of b) does can;
       buffers = count ∙ w.buffers ∙ sym (ap (λ (x : HeapSettings). x.limits.mutators) (change_settings (state_of a) (state_of b) w.heap.present p.0 change));
+      linked = linked;
       empty = λ off.
           let still : records a.phase ≡ false = ap records (sym (change_left (state_of a) (state_of b) w.heap.present p.0 change).phase) ∙ off in
           grey_left (state_of a) (state_of b) w.heap.present p.0 change still ∙ w.empty still;

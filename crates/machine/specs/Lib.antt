@@ -5,5 +5,6 @@ pub mod Reading
 pub mod Recorded
 pub mod Buffers
 pub mod Writing
+pub mod Runs
 pub mod Space
 pub mod Copies

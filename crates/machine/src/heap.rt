@@ -21,6 +21,7 @@ mod collecting;
 mod inspecting;
 mod planning;
 mod reading;
+mod runs;
 mod writing;
 
 use planning::Plan;

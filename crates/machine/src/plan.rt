@@ -97,6 +97,13 @@ pub struct Cell {
     pub index: usize,
 }
 
+/// Words of an object that stand in a row: as many as `count`, each in the next cell of one block, from a cell on.
+#[derive(Clone, Copy, Debug, PartialEq, Eq)]
+pub struct Run {
+    pub at: Cell,
+    pub count: usize,
+}
+
 /// The main copy of an object.
 #[derive(Clone, Copy, Debug, PartialEq, Eq)]
 pub struct Found {

@@ -6,9 +6,10 @@ use Rattle.heap_model.specs.Grey.{AreGrey}
 use Rattle.heap_model.specs.State.{HeapState, seen, width_at}
 use Rattle.heap_model.specs.Store.{record_of}
 use Rattle.nodes.specs.declared.heap_fields.HeapFields.{HeapFields}
-use Rattle.nodes.specs.Grey.{grey_in}
+use Rattle.nodes.specs.Grey.{grey_in, in_buffers}
 use Rattle.nodes.specs.HeapFields.{state_of}
 use Rattle.nodes.proofs.Chains.{then_action, then_chain, heap_after_chain}
+use Rattle.nodes.proofs.Linking.{none_linked}
 use Rattle.marker.specs.Scanning.{scanning, IsScanning}
 use Rattle.marker.proofs.Acting.{some_of}
 use Rattle.marker.proofs.Scanned.{all_scanned, none_left, cell_small}
@@ -42,9 +43,9 @@ run_scanned h b k part cell n m units chain rest =
     (then_chain h (state_of (scanning b part (cell + n) (units + n))) (state_of (scanning k part (cell + n + m) (units + n + m))) n m chain rest))
 
 -- actions lead from a heap between two steps to one
-pub still_scanning : (a b : HeapFields) (part cell to at n : ℕ) → IsScanning a part cell → ((units : ℕ) → Chain (state_of (scanning a part cell units)) n (state_of (scanning b to at (units + n)))) → b.grey.buffers ≡ a.grey.buffers → IsScanning b to at
-still_scanning a b part cell to at n is chain buffers =
-    (is.0 + n, heap_after_chain (scanning a part cell is.0) (scanning b to at (is.0 + n)) is.1 n (chain is.0) (ap length buffers))
+pub still_scanning : (a b : HeapFields) (part cell to at n : ℕ) → IsScanning a part cell → ((units : ℕ) → Chain (state_of (scanning a part cell units)) n (state_of (scanning b to at (units + n)))) → b.grey.buffers ≡ a.grey.buffers → in_buffers a.grey.buffers ≡ [] → IsScanning b to at
+still_scanning a b part cell to at n is chain buffers empty =
+    (is.0 + n, heap_after_chain (scanning a part cell is.0) (scanning b to at (is.0 + n)) is.1 n (chain is.0) (ap length buffers) (none_linked b.nodes b.grey (ap in_buffers buffers ∙ empty)))
 
 -- a grey part is taken, and its header scanned
 pub header_scanned : (a b : HeapFields) (part cell next units : ℕ) → IsScanning a part cell → (part ≢ 0 → width_at (record_of a.nodes (part - 1)) ≤ cell) → b ≡ record a { grey = record a.grey { first = b.grey.first } }

@@ -6,7 +6,7 @@ ghost use Rattle.heap_model.specs.Action.{Action, Chain, goes_to};
 ghost use Rattle.heap_model.specs.declared.cost.TheConstants.{SCAN, TURN};
 ghost use Rattle.heap_model.specs.declared.phase.Phase.TheVariants as phases;
 ghost use Rattle.nodes.specs.Acting.{Acts};
-ghost use Rattle.nodes.specs.Grey.{in_buffers};
+ghost use Rattle.nodes.specs.Grey.{in_buffers, AreLinked};
 ghost use Rattle.nodes.specs.HeapFields.{state_of, AreHeapFields};
 ghost use Rattle.marker.specs.Scanning.{scanning, IsScanning, Scans};
 
@@ -40,6 +40,7 @@ fn scan_root(heap: &mut HeapFields, next: usize)
     ensures phase { heap.new.phase ≡ phases.Roots (next + 1) }
     ensures cells { length heap.new.roots.cells ≡ length heap.old.roots.cells }
     ensures buffers { heap.new.grey.buffers ≡ heap.old.grey.buffers }
+    ensures linked { AreLinked heap.new.nodes heap.new.grey }
 {
     let main = heap.nodes.resolve(heap.roots.get(next)).reference;
     heap.roots.set(next, main);
@@ -142,9 +143,10 @@ fn scan_next(heap: &mut HeapFields, scan: Scan, room: u32) -> Option<Step>
     Some(Step { scan, units: SCAN })
 }
 
-/// Scans `count` reference cells of a part, from one on.
+/// Scans `count` reference cells of a part, from one on. The buffers are empty.
 fn scan_cells(heap: &mut HeapFields, part: u64, cell: usize, count: usize)
     requires heap { IsScanning heap.old part cell }
+    requires buffers { in_buffers heap.old.grey.buffers ≡ [] }
     requires some { part ≢ 0 }
     requires within { cell + count ≤ width_at (record_of heap.old.nodes (part - 1)) }
     ensures acts { (units : ℕ) → Chain (state_of (scanning heap.old part cell units)) count

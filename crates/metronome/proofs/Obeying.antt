@@ -1,5 +1,6 @@
 -- From the bytes of files to what a request does.
 use Rattle.std.proofs.Common.{◌≡◌, ℕ, ◌<◌, ◌≤◌, ◌⊎◌, inl, inr, Bool, true, false, List, [], ◌++◌, length, length-take, take, take_all, Option, Some, None, option_map, ap, ◌∙◌, sym, subst, refl, arith}
+use Rattle.std.specs.Borrow.{Bor}
 use Rattle.std.specs.Str.{bytes_eq}
 use Rattle.std.specs.Io.KnownBytes.{prepend_known}
 use Rattle.std.specs.Prelude.{codes, nat_lt, if◌then◌else◌, IfSome, Result, Ok, Err}
@@ -15,7 +16,7 @@ use Rattle.streams.specs.Streams.{Given, Taken, Stays, Begins}
 use Rattle.metronome.specs.declared.fault.Ending.{Ending}
 use Rattle.metronome.specs.declared.fault.RunFault.{RunFault}
 use Rattle.metronome.specs.Done.{JobDone}
-use Rattle.metronome.specs.Run.{document_bytes, file_bytes, IsGivenOf, JobDoneOn}
+use Rattle.metronome.specs.Run.{document_bytes, file_bytes, other_bytes, IsGivenOf, JobDoneOn}
 
 -- where known bytes stay known, what is a beginning of those is one of these
 pub begins_on : (old new : Option (List ℕ)) (given : List ℕ) (ended : Bool) → Stays old new → IfSome new (λ all. Begins given ended all) → IfSome old (λ all. Begins given ended all)
@@ -80,6 +81,15 @@ on_input contents input name job config taken how e done = subst (λ b. JobDoneO
 pub on_file : (contents : List ℕ → Option (List ℕ)) (input : Option (List ℕ)) (name : List ℕ) (job : Job) (config : Config) (taken : Taken) (how : Result Ending RunFault) → false ≡ bytes_eq name (codes "-")
     → JobDoneOn contents (contents name) job config taken how → JobDoneOn contents (file_bytes contents input name) job config taken how
 on_file contents input name job config taken how e done = subst (λ b. JobDoneOn contents (if b then input else contents name) job config taken how) e done
+
+-- a job's other file is that of its name, or it has none
+pub of_file : (contents : List ℕ → Option (List ℕ)) (input : Option (List ℕ)) (file : Option (Bor (List ℕ))) (name : Bor (List ℕ)) (job : Job) (config : Config) (taken : Taken) (how : Result Ending RunFault) → file ≡ Some name
+    → JobDoneOn contents (file_bytes contents input name.now) job config taken how → JobDoneOn contents (other_bytes contents input file) job config taken how
+of_file contents input file name job config taken how e done = subst (λ f. JobDoneOn contents (other_bytes contents input f) job config taken how) (sym e) done
+
+pub of_none : (contents : List ℕ → Option (List ℕ)) (input : Option (List ℕ)) (file : Option (Bor (List ℕ))) (job : Job) (config : Config) (taken : Taken) (how : Result Ending RunFault) → file ≡ None
+    → JobDoneOn contents (Some []) job config taken how → JobDoneOn contents (other_bytes contents input file) job config taken how
+of_none contents input file job config taken how e done = subst (λ f. JobDoneOn contents (other_bytes contents input f) job config taken how) (sym e) done
 
 -- a reader that has given nothing has its bytes still to give
 pub none_given : (bytes left : Option (List ℕ)) (given : List ℕ) → given ≡ [] → Stays bytes left → Stays bytes (prepend_known given left)

@@ -1,5 +1,5 @@
 -- A trace that is read from memory.
-use Rattle.std.proofs.Common.{◌≡◌, ℕ, List, length, take, Some, ap, ◌∙◌, subst}
+use Rattle.std.proofs.Common.{◌≡◌, ℕ, List, [], length, take, Some, ap, ◌∙◌, subst}
 use Rattle.std.specs.Prelude.{nat_le}
 use Rattle.std.proofs.lemmas.Option.{same_Some}
 use Rattle.streams.specs.declared.memory.MemorySource.{MemorySource}
@@ -14,3 +14,7 @@ reads_text text old new bytes place stays = (
   ap (λ n. take n old.bytes.now) place,
   subst (Begins (take new.at new.bytes.now) (nat_le (length new.bytes.now) new.at)) (same_Some new.bytes.now old.bytes.now stays ∙ bytes) (take_begins new.at new.bytes.now),
 )
+
+-- a source over memory of which nothing is read yet has given nothing
+pub none_taken : (s : MemorySource) → s.at ≡ 0 → take s.at s.bytes.now ≡ []
+none_taken s place = ap (λ n. take n s.bytes.now) place

@@ -5,7 +5,8 @@ use Rattle.heap_model.specs.Event.{present_of}
 use Rattle.streams.specs.Streams.{Given, Taken}
 use Rattle.command_line.specs.declared.job.Job.{Job}
 use Rattle.command_line.specs.declared.job.Sizing.TheVariants.{Demand, Pace, Load}
-use Rattle.command_line.specs.declared.job.Job.TheVariants.{Play, Check, Threads, Inspect, Cycles, Path, Mmu, Draw, DrawGraph, DrawTime, Pages}
+use Rattle.command_line.specs.declared.job.Job.TheVariants.{Play, Check, Threads, Inspect, Cycles, Path, Mmu, Draw, DrawGraph, DrawTime, Pages, Plan}
+use Rattle.plans.specs.Report.{IsPlansReport}
 use Rattle.player.specs.declared.style.Style.{Style}
 use Rattle.player.specs.declared.style.Style.TheVariants.{Replies, Entries}
 use Rattle.metronome.specs.declared.fault.Ending.{Ending}
@@ -32,7 +33,7 @@ abbrev pub layout_of : Bool → Layout
 layout_of csv = if csv then Commas else Columns
 
 -- what a job does, by the bytes of the file of each name, where they are known: for some, what it reports of the player
--- after its play
+-- after its play; a plan reads no other file than the configuration
 abbrev pub JobDone : (List ℕ → Option (List ℕ)) → Job → Config → Given → Taken → Result Ending RunFault → Type 0
 JobDone contents (Play history) config = TracePlayed (style_of history) config
 JobDone contents Check config = Answered questions.History config
@@ -48,6 +49,7 @@ JobDone contents DrawTime config = TimeDrawn config
 JobDone contents (Pages Demand) config = Answered (questions.Pages false) config
 JobDone contents (Pages Pace) config = Answered (questions.Pages true) config
 JobDone contents (Pages (Load file)) config = LoadTold (contents file.now) config
+JobDone contents (Plan live) config = λ given. ReportTold (IsPlansReport config live)
 
 -- a job counts the failed reads of its source; one by a load may end before it reads
 abbrev pub JobCountsReads : {S : Type 0} → Job → (S → ℕ) → S → S → Result Ending RunFault → Type 0

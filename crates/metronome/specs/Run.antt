@@ -1,5 +1,6 @@
 -- What a run of the program does, by the request that its words give and the bytes of its files.
-use Rattle.std.specs.Prelude.{◌≡◌, ℕ, ◌⊎◌, if◌then◌else◌, List, [], take, codes, Option, IfSome, Result, Ok, Err}
+use Rattle.std.specs.Prelude.{◌≡◌, ℕ, ◌⊎◌, if◌then◌else◌, List, [], take, codes, Option, Some, None, IfSome, Result, Ok, Err}
+use Rattle.std.specs.Borrow.{Bor}
 use Rattle.std.specs.Str.{bytes_eq}
 use Rattle.settings.specs.declared.config.Config.{Config}
 use Rattle.settings.specs.declared.fault.ConfigFault.{ConfigFault}
@@ -36,20 +37,25 @@ module _ (contents : List ℕ → Option (List ℕ)) where
       × JobDone contents job config given taken how
 
 module _ (contents : List ℕ → Option (List ℕ)) (input : Option (List ℕ)) where
-  -- the bytes of a request's other file, where they are known
+  -- the bytes of a file that is no configuration, where they are known
   abbrev pub file_bytes : List ℕ → Option (List ℕ)
   file_bytes name = if bytes_eq name (codes "-") then input else contents name
+
+  -- the bytes of a request's other file, where they are known; none where it has no other file
+  abbrev pub other_bytes : Option (Bor (List ℕ)) → Option (List ℕ)
+  other_bytes None = Some []
+  other_bytes (Some name) = file_bytes name.now
 
   -- the bytes of a configuration file, where they are known, were read so
   abbrev pub ConfigRead : List ℕ → Result Config (ReadFault ConfigFault) → Type 0
   ConfigRead name read = IfSome (contents name) (λ all. IsRead all read)
 
-  -- A request's configuration was read, and its job done on its other file; or the configuration was refused; or one of
-  -- the two files couldn't be read.
+  -- A request's configuration was read, and its job done on its other file, or without one; or the configuration was
+  -- refused; or one of the two files couldn't be read.
   abbrev pub Obeyed : Request → Taken → Result Ending RunFault → Type 0
   Obeyed request taken how =
       ((config : Config) × ConfigRead request.config.now (Ok config)
-      × JobDoneOn contents (file_bytes request.file.now) request.job config taken how)
+      × JobDoneOn contents (other_bytes request.file) request.job config taken how)
       ⊎ (((why : ReadFault ConfigFault) × ConfigRead request.config.now (Err why)
       × NothingDone (of_settings why) taken how)
       ⊎ ((fault : RunFault) × IsUnreadable fault × NothingDone fault taken how))

@@ -17,6 +17,7 @@ use Rattle.command_line.specs.declared.job.Picture.TheVariants as pictures
 use Rattle.command_line.specs.declared.job.Report.{Report}
 use Rattle.command_line.specs.declared.job.Report.TheVariants as reports
 use Rattle.pictures.specs.declared.share.Share.{Share}
+use Rattle.pictures.specs.Events.{events_picture}
 use Rattle.pictures.specs.GraphDrawn.{GraphDrawn}
 use Rattle.pictures.specs.PageMap.{pages_picture}
 use Rattle.pictures.specs.Utilisation.{AreShares, utilisation_picture}
@@ -34,11 +35,13 @@ abbrev pub report_by : Report → HeapState → List ℕ
 report_by reports.Pages h = report_of h
 report_by reports.Sizes h = sizes_told h
 
--- the text of a picture of a player: of the pages of its heap, or of the shares that its timetable left the mutators
+-- the text of a picture of a player: of the pages of its heap, of the shares that its timetable left the mutators, or of
+-- the quanta in its timetable
 abbrev pub IsPicture : Picture → Config → PlayerState → List ℕ → Type 0
 IsPicture pictures.Pages config p text = text ≡ pages_picture p.course.heap
 IsPicture pictures.Utilisation config p text = (shares : List Share) × AreShares config p.timetable shares
     × (text ≡ utilisation_picture shares)
+IsPicture pictures.Events config p text = text ≡ events_picture p.timetable
 
 -- a picture of a player is drawn, or a part of it where a write failed
 abbrev pub PictureDrawn : Picture → Config → PlayerState → Taken → Result Ending RunFault → Type 0

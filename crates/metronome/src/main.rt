@@ -8,6 +8,7 @@ mod fault;
 mod files;
 mod jobs;
 mod load_job;
+mod plan_job;
 mod progress;
 mod run;
 mod time_job;

@@ -1,12 +1,12 @@
 //! A run of the program.
-ghost use Rattle.std.specs.Prelude.{◌≡◌, ◌+◌, [], map, Result};
+ghost use Rattle.std.specs.Prelude.{◌≡◌, ◌+◌, [], Some, map, Result};
 ghost use Rattle.metronome.specs.declared.fault.Ending.{Ending};
 ghost use Rattle.metronome.specs.declared.fault.RunFault.{RunFault};
 ghost use Rattle.streams.specs.Streams.{given_by, taken_by, Stays};
 ghost use Rattle.command_line.specs.declared.job.Job.TheVariants as jobs;
 ghost use Rattle.metronome.specs.Done.{JobDone, JobCountsReads, style_of, layout_of};
 ghost use Rattle.metronome.specs.Faults.{failed_reads, failed_writes};
-ghost use Rattle.metronome.specs.Run.{IsGivenOf, Obeyed, RunDone};
+ghost use Rattle.metronome.specs.Run.{IsGivenOf, JobDoneOn, Obeyed, RunDone};
 ghost use Rattle.metronome.specs.Status.{status_of};
 
 use crate::after::{Telling, after_play};
@@ -16,6 +16,7 @@ use crate::fault::{Ending, RunFault};
 use crate::files::{Opener, open_file, read_document};
 use crate::jobs::{play_job, threads_job};
 use crate::load_job::load_job;
+use crate::plan_job::plan_job;
 use crate::progress::ToldSource;
 use crate::time_job::time_job;
 use command_line::{Job, Request, Sizing, WordsFault, read_words};
@@ -28,7 +29,7 @@ use std::convert::AsStr;
 use std::io::{Read, Write};
 use std::sync::Wait;
 use std::thread::Threads;
-use streams::{ReadSource, Sink, Source, write_all};
+use streams::{MemorySource, ReadSource, Sink, Source, write_all};
 use trace::PlayFault;
 
 /// What a run has of the machine: threads, memory, and files by their names.
@@ -136,11 +137,29 @@ fn obey<O: Opener, R: Read + Drop, K: Sink, E: Write, T: Threads + Wait + Sync>(
 {
     let bytes = read_document(host.alloc, host.opener, request.config)?;
     let config = read_config(host.alloc, bytes.as_slice())?;
-    if request.file == "-" {
+    let Some(name) = request.file else {
+        return serve_alone(host, request, &config, sink, errors);
+    };
+    if name == "-" {
         return serve(host, request, &config, ReadSource::new(input), sink, errors);
     }
-    let file = open_file(host.opener, request.file)?;
+    let file = open_file(host.opener, name)?;
     serve(host, request, &config, ReadSource::new(file), sink, errors)
+}
+
+/// Does the job of a request that has no other file: there is nothing to read.
+fn serve_alone<O: Opener, K: Sink, E: Write, T: Threads + Wait + Sync>(
+    host: &Host<O, T>,
+    request: &Request,
+    config: &Config,
+    sink: &mut K,
+    errors: &mut E,
+) -> Result<Ending, RunFault>
+    ensures done { JobDoneOn (O.contents host.now.opener.now) (Some []) request.now.job config.now
+        (taken_by K.taken sink.old sink.new) result }
+    ensures writes { K.failures sink.new ≡ K.failures sink.old + failed_writes result }
+{
+    serve(host, request, config, MemorySource::new(&[]), sink, errors)
 }
 
 /// Does the job of a request, from the source of the other file. Where progress is asked for, the lines that are read
@@ -218,6 +237,7 @@ fn work<S: Source, K: Sink, O: Opener, T: Threads + Wait + Sync>(
         }
         Job::DrawTime => time_job(alloc, config, source, sink),
         Job::Pages { by } => pages_job(host, config, source, sink, *by),
+        Job::Plan { live } => plan_job(alloc, config, *live, sink),
     }
 }
 

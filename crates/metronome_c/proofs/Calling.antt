@@ -1,135 +1,162 @@
 -- The calls of a program are events of a heap with its history.
-use Rattle.std.proofs.Common.{◌≡◌, ◌∙◌, ℕ, List, [], ◌∷◌, ◌++◌, length, Ok, Err, Result, refl, ap, subst}
+use Rattle.std.proofs.Common.{◌≡◌, ◌∙◌, ℕ, List, [], ◌∷◌, Ok, Err, Result, refl, ap, sym, subst}
 use Rattle.std.specs.Prelude.{Option, Some, None}
 use Rattle.graph_heap.specs.declared.command.Command.{Command}
+use Rattle.graph_heap.specs.declared.command.Command.TheVariants as commands
+use Rattle.graph_heap.specs.declared.command.Reply.{Reply}
 use Rattle.settings.specs.declared.settings.Settings.{Settings}
+use Rattle.settings.specs.declared.config.Config.{Config}
 use Rattle.settings.specs.declared.fault.ConfigFault.{ConfigFault}
 use Rattle.settings.specs.declared.ranges.Ranges.TheVariants.{Library}
 use Rattle.settings.specs.Config.{fault_of}
 use Rattle.heap_model.specs.State.{HeapState}
-use Rattle.heap_model.specs.Agreement.{Agrees}
-use Rattle.heap_model.specs.Event.{Course, Event, Command_done, Cycle_begun, Begin_refused, Quantum_done, Quantum_refused, IsCourse, Does, Runs, present_of, snapshot_of}
+use Rattle.heap_model.specs.Event.{Course, Event, Command_done, IsCourse, Does, Runs}
 use Rattle.heap_model.specs.ReachedFrom.{opened}
-use Rattle.heap_model.proofs.Agreements.Implied.{consistent_agrees}
 use Rattle.heap_model.proofs.Event.Kept.{does_course, opening_course}
+use Rattle.space.specs.Room.{asks}
 use Rattle.space.proofs.Fittings.Configured as configured
-use Rattle.machine.specs.declared.collector.Busy.{Busy}
-use Rattle.machine.specs.declared.collector.BudgetOutOfRange.{BudgetOutOfRange}
-use Rattle.machine.specs.declared.collector.Spent.{Spent}
-use Rattle.machine.specs.Collecting.{Begins, Spends}
-use Rattle.machine.proofs.Courses.{quantum_does}
+use Rattle.fragmentation.specs.Flow.{words_of}
+use Rattle.machine.specs.Plan as calls
+use Rattle.machine.specs.Recorded.{begin_done, quantum_done}
+use Rattle.machine.proofs.Events.{command_event, begin_event, quantum_event}
 use Rattle.machine.proofs.Headline.{course_holds, always_holds}
 use Rattle.machine.proofs.Space.{finds_space}
 use Rattle.metronome_c.specs.declared.answer.Answer.{Answer}
 use Rattle.metronome_c.specs.declared.collector.QuantumSpent.{QuantumSpent}
+use Rattle.metronome_c.specs.declared.held.Held.{Held}
 use Rattle.metronome_c.specs.declared.status.Status.{Status}
 use Rattle.metronome_c.specs.declared.status.Status.TheVariants.{Closed}
+use Rattle.metronome_c.specs.Answer.{answer_of, answered}
+use Rattle.metronome_c.specs.Asking.{AsksPaying}
 use Rattle.metronome_c.specs.Calls.{Call, Command_called, Begin_called, Quantum_called, DoesCall, Calls, TellsEvent, AllTellEvents, AreEvents, IsPromised}
-use Rattle.metronome_c.specs.Collecting.{begin_status, quantum_status, spent_of}
+use Rattle.metronome_c.specs.Collecting.{BeginsOpen, SpendsOpen}
 use Rattle.metronome_c.specs.Lifetime.{IsMadeOf, MakesUnless, Creates}
-use Rattle.metronome_c.specs.Steps.{reply_to, Steps}
+use Rattle.metronome_c.specs.Steps.{Steps, DoesCommand}
+use Rattle.metronome_c.proofs.Outcomes.{begin_told, quantum_told}
 
--- a call is one event of the heap that the handle holds, with its history
-record IsEvent (r : Course) (call : Call) (next : Result HeapState Status) : Type 0 where
-  pub event : Event
-  pub after : Course
-  pub does : Does r event after
-  pub told : TellsEvent event call
-  pub left : next ≡ Ok after.heap
+module _ (config : Config) where
+  -- a heap that keeps no plan
+  abbrev bare : HeapState → Held
+  bare x = record { heap = x; config = config; pacer = None }
 
-command_event : (r : Course) (m : ℕ) (c : Command) (answer : Answer) (next : Result HeapState Status) → IsCourse r → Steps (Ok r.heap) m c next answer → IsEvent r (Command_called m c answer) next
-command_event r m c answer next w s =
-    let agrees : Agrees r.heap (present_of r) = consistent_agrees r.heap (present_of r) (snapshot_of r) w.represents.consistent in
-    let step = s.2 (present_of r) agrees in
-    record {
-      event = Command_done m c (reply_to r.heap (present_of r) m c);
-      after = record { heap = s.0; history = r.history ++ (record { mutator = m; command = c; reply = reply_to r.heap (present_of r) m c }) ∷ []; place = r.place };
-      does = record { replies = refl; change = step.2; history = refl; place = refl };
-      told = ap (Command_called m c) step.0;
-      left = s.1;
-    }
+  -- a call is one event of the heap that the handle holds, with its history
+  record IsEvent (r : Course) (call : Call) (next : Result Held Status) : Type 0 where
+    pub event : Event
+    pub after : Course
+    pub does : Does r event after
+    pub told : TellsEvent event call
+    pub left : next ≡ Ok (bare after.heap)
 
-begin_event : (r : Course) (k : HeapState) (answer : Result (Unit {0}) Busy) (status : ℕ) (next : Result HeapState Status)
-    → next ≡ Ok k → Begins r.heap k answer → status ≡ begin_status answer → IsEvent r (Begin_called status) next
-begin_event r k (Ok done) status next left b told = record {
-  event = Cycle_begun;
-  after = record { heap = k; history = r.history; place = length r.history };
-  does = record { idle = b.0; heap = b.1; history = refl; place = refl };
-  told = ap Begin_called told;
-  left = left;
-}
-begin_event r k (Err busy) status next left b told = record {
-  event = Begin_refused;
-  after = r;
-  does = (b.0, refl);
-  told = ap Begin_called told;
-  left = left ∙ ap Ok b.1;
-}
+  stepped : (r : Course) (m : ℕ) (c : Command) (reply : Reply) (answer : Answer) (k : HeapState) (next : Result Held Status)
+      → IsCourse r → calls.Steps r.heap m c reply k → answer ≡ answer_of reply → next ≡ Ok (bare k) → IsEvent r (Command_called m c answer) next
+  stepped r m c reply answer k next w s told left =
+      let e = command_event r m c reply k w s in
+      record {
+        event = Command_done m c reply;
+        after = e.0;
+        does = e.2;
+        told = ap (Command_called m c) told;
+        left = left ∙ ap (λ (x : HeapState). Ok (bare x)) (sym e.1);
+      }
 
-quantum_event : (r : Course) (budget : ℕ) (k : HeapState) (answer : Result Spent BudgetOutOfRange) (before after : QuantumSpent) (status : ℕ) (next : Result HeapState Status)
-    → next ≡ Ok k → Spends r.heap budget k answer → after ≡ spent_of before answer → status ≡ quantum_status answer → IsEvent r (Quantum_called budget before after status) next
-quantum_event r budget k (Ok spent) before after status next left s was told = record {
-  event = Quantum_done budget spent.units spent.phase;
-  after = record r { heap = k };
-  does = quantum_does r budget k (Ok spent) s;
-  told = (before, ap (λ (x : QuantumSpent). Quantum_called budget before x status) was ∙ ap (Quantum_called budget before (spent_of before (Ok spent))) told);
-  left = left;
-}
-quantum_event r budget k (Err refused) before after status next left s was told = record {
-  event = Quantum_refused budget;
-  after = record r { heap = k };
-  does = quantum_does r budget k (Err refused) s;
-  told = (before, ap (λ (x : QuantumSpent). Quantum_called budget before x status) was ∙ ap (Quantum_called budget before before) told);
-  left = left;
-}
+  step_event : (r : Course) (m : ℕ) (c : Command) (answer : Answer) (next : Result Held Status) → IsCourse r → Steps (Ok (bare r.heap)) m c next answer → IsEvent r (Command_called m c answer) next
+  step_event r m c answer next w s =
+      let asked = s.1 in
+      stepped r m c asked.0 answer asked.1.heap next w asked.4.1 (s.2 ∙ ap answered asked.2) (asked.3 ∙ ap Ok asked.4.0)
 
-call_event : (r : Course) (call : Call) (next : Result HeapState Status) → IsCourse r → DoesCall (Ok r.heap) call next → IsEvent r call next
-call_event r (Command_called m c answer) next w d = command_event r m c answer next w d
-call_event r (Begin_called status) next w d = begin_event r d.0 d.1 status next d.2 d.4 d.5
-call_event r (Quantum_called budget before after status) next w d = quantum_event r budget d.0 d.1 before after status next d.2 d.4 d.6 d.7
+  -- where no plan is kept nothing is paid for
+  make_event : (r : Course) (m : ℕ) (c : Command) (answer : Answer) (next : Result Held Status) (reply : Result Reply Status) → IsCourse r
+      → AsksPaying (words_of (asks c)) (λ h a k. calls.Steps h m c a k) (Ok (bare r.heap)) reply next → answer ≡ answered reply → IsEvent r (Command_called m c answer) next
+  make_event r m c answer next (Err why) w a told = absurd a.2.1.0
+  make_event r m c answer next (Ok reply) w a told =
+      let same : a.2.0 ≡ bare r.heap = a.2.1 in
+      stepped r m c reply answer a.0.heap next w (subst (λ (x : Held). calls.Steps x.heap m c reply a.0.heap) same a.2.2.1) told
+      (a.1 ∙ ap Ok (a.2.2.0 ∙ ap (λ (x : Held). record x { heap = a.0.heap }) same))
 
--- calls are events, one after the other
-record FromHere (r : Course) (calls : List Call) (new : Result HeapState Status) : Type 0 where
-  pub events : List Event
-  pub course : Course
-  pub runs : Runs r events course
-  pub told : AllTellEvents events calls
-  pub left : new ≡ Ok course.heap
-  pub is : IsCourse course
+  command_called : (r : Course) (m : ℕ) (c : Command) (answer : Answer) (next : Result Held Status) → IsCourse r → DoesCommand (Ok (bare r.heap)) m c next answer → IsEvent r (Command_called m c answer) next
+  command_called r m (commands.New dst shape) answer next w d = make_event r m (commands.New dst shape) answer next d.0 w d.1 d.2
+  command_called r m c answer next w d = step_event r m c answer next w d
 
-calls_from : (calls : List Call) (r : Course) (new : Result HeapState Status) → IsCourse r → Calls (Ok r.heap) calls new → FromHere r calls new
-calls_from [] r new w d = record { events = []; course = r; runs = refl; told = refl; left = d; is = w }
-calls_from (call ∷ calls) r new w d =
-    let one = call_event r call d.0 w d.1 in
-    let rest = calls_from calls one.after new (does_course r one.event one.after w one.does) (subst (λ (x : Result HeapState Status). Calls x calls new) one.left d.2) in
-    record { events = one.event ∷ rest.events; course = rest.course; runs = (one.after, one.does, rest.runs); told = (one.told, rest.told); left = rest.left; is = rest.is }
+  begin_called : (r : Course) (status : ℕ) (next : Result Held Status) → BeginsOpen (Ok (bare r.heap)) next status → IsEvent r (Begin_called status) next
+  begin_called r status next d =
+      let e = begin_event r d.0.heap d.1 d.3.2 in
+      record {
+        event = begin_done d.1;
+        after = e.0;
+        does = e.2;
+        told = begin_told d.1 status d.4;
+        left = d.2 ∙ ap Ok d.3.0 ∙ ap (λ (x : HeapState). Ok (bare x)) (sym e.1);
+      }
 
--- a heap that was created is one of a configuration with the settings
-made_unless : (fault : Option ConfigFault) (s : Settings) (h : HeapState) (status : ℕ) → MakesUnless fault (IsMadeOf s) (Ok h) status → IsMadeOf s h
+  quantum_called : (r : Course) (budget : ℕ) (before after : QuantumSpent) (status : ℕ) (next : Result Held Status) → SpendsOpen (Ok (bare r.heap)) budget next before after status → IsEvent r (Quantum_called budget before after status) next
+  quantum_called r budget before after status next d =
+      let e = quantum_event r budget d.0.heap d.1 d.3.2 in
+      record {
+        event = quantum_done budget d.1;
+        after = e.0;
+        does = e.2;
+        told = quantum_told budget d.1 before after status d.4 d.5;
+        left = d.2 ∙ ap Ok d.3.0 ∙ ap (λ (x : HeapState). Ok (bare x)) (sym e.1);
+      }
+
+  call_event : (r : Course) (call : Call) (next : Result Held Status) → IsCourse r → DoesCall (Ok (bare r.heap)) call next → IsEvent r call next
+  call_event r (Command_called m c answer) next w d = command_called r m c answer next w d
+  call_event r (Begin_called status) next w d = begin_called r status next d
+  call_event r (Quantum_called budget before after status) next w d = quantum_called r budget before after status next d
+
+  -- calls are events, one after the other
+  record FromHere (r : Course) (calls : List Call) (new : Result Held Status) : Type 0 where
+    pub events : List Event
+    pub course : Course
+    pub runs : Runs r events course
+    pub told : AllTellEvents events calls
+    pub left : new ≡ Ok (bare course.heap)
+    pub is : IsCourse course
+
+  calls_from : (calls : List Call) (r : Course) (new : Result Held Status) → IsCourse r → Calls (Ok (bare r.heap)) calls new → FromHere r calls new
+  calls_from [] r new w d = record { events = []; course = r; runs = refl; told = refl; left = d; is = w }
+  calls_from (call ∷ calls) r new w d =
+      let one = call_event r call d.0 w d.1 in
+      let rest = calls_from calls one.after new (does_course r one.event one.after w one.does) (subst (λ (x : Result Held Status). Calls x calls new) one.left d.2) in
+      record { events = one.event ∷ rest.events; course = rest.course; runs = (one.after, one.does, rest.runs); told = (one.told, rest.told); left = rest.left; is = rest.is }
+
+-- what was created is a heap of a configuration with the settings
+made_unless : (fault : Option ConfigFault) (s : Settings) (h : Held) (status : ℕ) → MakesUnless fault (IsMadeOf s) (Ok h) status → IsMadeOf s h
 made_unless (Some fault) s h status m = absurd (let z : Ok h ≡ Err Closed = m.0 in cc)
 made_unless None s h status m = m.1
 
-pub made_by : (s : Settings) (h : HeapState) (status : ℕ) → Creates IsMadeOf (Err Closed) s (Ok h) status → IsMadeOf s h
+pub made_by : (s : Settings) (h : Held) (status : ℕ) → Creates IsMadeOf (Err Closed) s (Ok h) status → IsMadeOf s h
 made_by s h status created = made_unless (fault_of Library s) s h status created
 
-module _ (s : Settings) (h : HeapState) (made : IsMadeOf s h) where
-  is_course : IsCourse (opened h)
-  is_course = opening_course h made.1 (configured.some made.0 h made.1 made.3 made.0.pages_in_range.0)
+module _ (s : Settings) (h : Held) (made : IsMadeOf s h) where
+  pub is_course : IsCourse (opened h.heap)
+  is_course = opening_course h.heap made.0 (configured.some h.config h.heap made.0 made.2 h.config.pages_in_range.0)
 
-  pub promised : IsPromised s h
+  pub promised : IsPromised s h.heap
   promised = record {
-    config = made.0;
-    of = made.2;
+    config = h.config;
+    of = made.1;
     made = record {
-      heap = made.1;
-      settings = made.3;
+      heap = made.0;
+      settings = made.2;
       course = refl;
     };
-    holds = always_holds (opened h) is_course;
-    space = finds_space (opened h);
+    holds = always_holds (opened h.heap) is_course;
+    space = finds_space (opened h.heap);
   }
 
-  pub are_events : (calls : List Call) (new : Result HeapState Status) → Calls (Ok h) calls new → AreEvents h calls new
+  -- it keeps no plan
+  without : h ≡ bare h.config h.heap
+  without = ap (λ p. record h { pacer = p }) made.3
+
+  pub are_events : (calls : List Call) (new : Result Held Status) → Calls (Ok h) calls new → AreEvents h calls new
   are_events calls new d =
-      let all = calls_from calls (opened h) new is_course d in
-      record { events = all.events; course = all.course; runs = all.runs; told = all.told; left = all.left; holds = course_holds all.course all.is }
+      let all = calls_from h.config calls (opened h.heap) new is_course (subst (λ (x : Held). Calls (Ok x) calls new) without d) in
+      record {
+        events = all.events;
+        course = all.course;
+        runs = all.runs;
+        told = all.told;
+        left = all.left ∙ ap (λ (x : Held). Ok (record x { heap = all.course.heap })) (sym without);
+        holds = course_holds all.course all.is;
+      }

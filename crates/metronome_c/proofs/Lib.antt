@@ -10,5 +10,10 @@ pub mod Moving
 pub mod Making
 pub mod Beginning
 pub mod TouchedPages
+pub mod Kept
+pub mod Paying
+pub mod Outcomes
 pub mod Calling
+pub mod KeptCalling
+pub mod Fitting
 pub mod Limits

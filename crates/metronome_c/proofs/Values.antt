@@ -25,7 +25,7 @@ use Rattle.std.specs.Box.Ownership.{box_owns}
 use Rattle.std.proofs.ResultValues.{and_tt}
 use Rattle.metronome_c.specs.contracts.handle.Loose as loose
 use Rattle.metronome_c.specs.contracts.handle.Handle as handle
-use Rattle.machine.specs.contracts.heap.Heap as store
+use Rattle.metronome_c.specs.contracts.held.Held as store
 use Rattle.std.specs.contracts.alloc.Global as global
 use Rattle.std.proofs.alloc.Global.TheLaws as global-laws
 use Rattle.std.specs.contracts.impls.GlobalAllocator.TheImpl.{ghosts}

@@ -37,7 +37,7 @@ answered (Ok reply) = answer_of reply
 answered (Err why) = refused why
 
 -- a shape of this kind with this many cells
-abbrev sized : ℕ → ℕ → ℕ → MetronomeShape
+abbrev pub sized : ℕ → ℕ → ℕ → MetronomeShape
 sized k r w = record { kind = k; refs = r; words = w }
 
 -- a shape, as C sees it

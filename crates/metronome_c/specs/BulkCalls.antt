@@ -3,13 +3,13 @@ use Rattle.std.specs.Prelude.{◌≡◌, ℕ, List, take, drop, Option, Some, No
 use Rattle.graph_heap.specs.declared.command.Command.{Command}
 use Rattle.graph_heap.specs.declared.command.Refusal.{Refusal}
 use Rattle.graph_heap.specs.declared.command.Refusal.TheVariants.{TooLarge}
-use Rattle.heap_model.specs.State.{HeapState}
 use Rattle.bulk.specs.declared.progress.Progress.{Progress}
 use Rattle.bulk.specs.InOrder.{DoesFront, DoesWith, words_told}
 use Rattle.metronome_c.specs.declared.bulk_calls.MetronomeProgress.{MetronomeProgress}
+use Rattle.metronome_c.specs.declared.held.Held.{Held}
 use Rattle.metronome_c.specs.declared.status.Status.{Status}
 use Rattle.metronome_c.specs.declared.status.Status.TheVariants.{Done, Refused}
-use Rattle.metronome_c.specs.Asking.{Asks}
+use Rattle.metronome_c.specs.Asking.{AsksHeap, AsksPaying}
 use Rattle.metronome_c.specs.Status.{status_number}
 
 -- the status of a list of which the next command was refused, or none was
@@ -28,14 +28,20 @@ too_many = progress_told (Err (Refused TooLarge))
 
 -- A list of commands of mutator m is done in order by the heap that is held, up to the first that is refused, and C is told
 -- how far. Without a heap none is.
-abbrev pub DoesList : Result HeapState Status → ℕ → List Command → Result HeapState Status → MetronomeProgress → Type 0
-DoesList old m cs new told = (p : Result Progress Status) × Asks (λ h p k. DoesFront h m cs p k) old p new
+abbrev pub DoesList : Result Held Status → ℕ → List Command → Result Held Status → MetronomeProgress → Type 0
+DoesList old m cs new told = (p : Result Progress Status) × AsksHeap (λ h p k. DoesFront h m cs p k) old p new
     × (told ≡ progress_told p)
+
+-- A list that makes an object is done so once so many words were paid for, where a plan is kept. Where they are more than the
+-- plan has none is done.
+abbrev pub MakesList : Result Held Status → ℕ → ℕ → List Command → Result Held Status → MetronomeProgress → Type 0
+MakesList old words m cs new told = (p : Result Progress Status)
+    × AsksPaying words (λ h p k. DoesFront h m cs p k) old p new × (told ≡ progress_told p)
 
 -- A list of commands that read words is done so by the heap that is held, and the words that were replied stand in front of
 -- those that C gave, of which the others stay.
-abbrev pub ReadsList : Result HeapState Status → ℕ → List Command → Result HeapState Status → List ℕ × List ℕ
+abbrev pub ReadsList : Result Held Status → ℕ → List Command → Result Held Status → List ℕ × List ℕ
     → MetronomeProgress → Type 0
 ReadsList old m cs new words told = (p : Result Progress Status)
-    × Asks (λ h p k. DoesWith h m cs (words_told (take p.done words.1)) p k) old p new
+    × AsksHeap (λ h p k. DoesWith h m cs (words_told (take p.done words.1)) p k) old p new
     × (told ≡ progress_told p) × (drop told.done words.1 ≡ drop told.done words.0)

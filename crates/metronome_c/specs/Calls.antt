@@ -11,12 +11,13 @@ use Rattle.machine.specs.Headline.{Holds, AlwaysHolds}
 use Rattle.machine.specs.Space.{IsJustMade, FindsSpace}
 use Rattle.metronome_c.specs.declared.answer.Answer.{Answer}
 use Rattle.metronome_c.specs.declared.collector.QuantumSpent.{QuantumSpent}
+use Rattle.metronome_c.specs.declared.held.Held.{Held}
 use Rattle.metronome_c.specs.declared.status.Status.{Status}
 use Rattle.metronome_c.specs.declared.status.Status.TheVariants.{Done, Busy, BudgetOutOfRange}
 use Rattle.metronome_c.specs.Answer.{answer_of}
 use Rattle.metronome_c.specs.Collecting.{phase_number, BeginsOpen, SpendsOpen}
 use Rattle.metronome_c.specs.Status.{status_number}
-use Rattle.metronome_c.specs.Steps.{Steps}
+use Rattle.metronome_c.specs.Steps.{DoesCommand}
 
 -- A call that may change a heap, and its outcome: a command of a mutator, with its answer; a cycle to be begun,
 -- with the status; a budget to be spent, with what stood in the record for the quantum before and after, and the
@@ -27,15 +28,15 @@ pub data Call : Type 0 where
   Quantum_called : ℕ → QuantumSpent → QuantumSpent → ℕ → Call
 
 -- what a call does to what the handle holds, as the contract of its export says
-abbrev pub DoesCall : Result HeapState Status → Call → Result HeapState Status → Type 0
-DoesCall old (Command_called m c answer) new = Steps old m c new answer
+abbrev pub DoesCall : Result Held Status → Call → Result Held Status → Type 0
+DoesCall old (Command_called m c answer) new = DoesCommand old m c new answer
 DoesCall old (Begin_called status) new = BeginsOpen old new status
 DoesCall old (Quantum_called budget before after status) new = SpendsOpen old budget new before after status
 
 -- calls one after the other
-abbrev pub Calls : Result HeapState Status → List Call → Result HeapState Status → Type 0
+abbrev pub Calls : Result Held Status → List Call → Result Held Status → Type 0
 Calls old [] new = new ≡ old
-Calls old (call ∷ calls) new = (next : Result HeapState Status) × DoesCall old call next × Calls next calls new
+Calls old (call ∷ calls) new = (next : Result Held Status) × DoesCall old call next × Calls next calls new
 
 -- the call told the program the outcome of the event
 abbrev pub TellsEvent : Event → Call → Type 0
@@ -55,12 +56,12 @@ AllTellEvents (e ∷ es) (call ∷ calls) = TellsEvent e call × AllTellEvents e
 
 -- The calls are events, which lead from the heap that was made to the one that the handle holds, with the history of
 -- the commands; each told the program its outcome; and all that is promised of a heap with its history holds there.
-pub record AreEvents (h : HeapState) (calls : List Call) (new : Result HeapState Status) : Type 0 where
+pub record AreEvents (h : Held) (calls : List Call) (new : Result Held Status) : Type 0 where
   pub events : List Event
   pub course : Course
-  pub runs : Runs (opened h) events course
+  pub runs : Runs (opened h.heap) events course
   pub told : AllTellEvents events calls
-  pub left : new ≡ Ok course.heap
+  pub left : new ≡ Ok (record h { heap = course.heap })
   pub holds : Holds course
 
 -- A heap of a configuration with the numbers of these settings was just made: whatever comes, what is promised of a

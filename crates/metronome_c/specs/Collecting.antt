@@ -1,16 +1,20 @@
 -- What the collector does to what C holds, and what C is told.
-use Rattle.std.specs.Prelude.{◌≡◌, ◌⊎◌, ◌+◌, ◌<◌, ℕ, Result, Ok, Err}
+use Rattle.std.specs.Prelude.{◌≡◌, ◌⊎◌, ◌+◌, ◌<◌, ℕ, Option, Some, None, Result, Ok, Err}
 use Rattle.graph_heap.specs.Graph.{Graph}
 use Rattle.settings.specs.declared.config.TheConstants.{LEAST_BUDGET}
 use Rattle.heap_model.specs.declared.phase.Phase.{Phase}
 use Rattle.heap_model.specs.declared.phase.Phase.TheVariants as phases
 use Rattle.heap_model.specs.State.{HeapState}
 use Rattle.heap_model.specs.Agreement.{Agrees}
+use Rattle.heap_model.specs.Event.{Event}
 use Rattle.machine.specs.declared.collector.Busy.{Busy as CycleOn}
 use Rattle.machine.specs.declared.collector.BudgetOutOfRange.{BudgetOutOfRange as Refused}
 use Rattle.machine.specs.declared.collector.Spent.{Spent}
 use Rattle.machine.specs.Collecting.{Begins, Spends}
+use Rattle.machine.specs.Recorded.{begin_done, quantum_done}
+use Rattle.paced.specs.Pacing.{PacerView, counted}
 use Rattle.metronome_c.specs.declared.collector.QuantumSpent.{QuantumSpent}
+use Rattle.metronome_c.specs.declared.held.Held.{Held}
 use Rattle.metronome_c.specs.declared.status.Status.{Status}
 use Rattle.metronome_c.specs.declared.status.Status.TheVariants.{Done, Busy, BudgetOutOfRange}
 use Rattle.metronome_c.specs.Status.{status_number}
@@ -27,16 +31,27 @@ phase_number (phases.Moving place) = 4
 abbrev pub KeepsAgreeing : HeapState → HeapState → Type 0
 KeepsAgreeing h k = (g : Graph) → Agrees h g → Agrees k g
 
+-- a pacer, where there is one, has counted an event
+abbrev pub counted_by : Event → Option PacerView → Option PacerView
+counted_by e (Some p) = Some (record p { counts = counted p.counts e })
+counted_by e None = None
+
+-- a cycle begins, or one is running already
+abbrev pub BeginsHeld : Held → Result (Unit {0}) CycleOn → Held → Type 0
+BeginsHeld old result new =
+    (new ≡ record old { heap = new.heap; pacer = counted_by (begin_done result) old.pacer })
+    × KeepsAgreeing old.heap new.heap × Begins old.heap new.heap result
+
 -- the status of a call to begin a cycle
 abbrev pub begin_status : Result (Unit {0}) CycleOn → ℕ
 begin_status (Ok done) = status_number Done
 begin_status (Err busy) = status_number Busy
 
--- a cycle begins, or one is running already
-abbrev pub BeginsOpen : Result HeapState Status → Result HeapState Status → ℕ → Type 0
+-- a cycle begins in the heap that C holds, or one is running already
+abbrev pub BeginsOpen : Result Held Status → Result Held Status → ℕ → Type 0
 BeginsOpen (Err why) new status = (new ≡ Err why) × (status ≡ status_number why)
-BeginsOpen (Ok h) new status = (k : HeapState) × (answer : Result (Unit {0}) CycleOn)
-    × (new ≡ Ok k) × KeepsAgreeing h k × Begins h k answer × (status ≡ begin_status answer)
+BeginsOpen (Ok h) new status = (k : Held) × (answer : Result (Unit {0}) CycleOn)
+    × (new ≡ Ok k) × BeginsHeld h answer k × (status ≡ begin_status answer)
 
 -- the status of a call to spend a budget
 abbrev pub quantum_status : Result Spent Refused → ℕ
@@ -54,8 +69,14 @@ EndsOrSpends budget (Ok spent) = (spent.phase ≡ phases.Idle) ⊎ (budget < spe
 EndsOrSpends budget (Err refused) = Unit {0}
 
 -- a quantum spends units of its budget in one turn, or the budget is refused
-abbrev pub SpendsOpen : Result HeapState Status → ℕ → Result HeapState Status → QuantumSpent → QuantumSpent → ℕ → Type 0
+abbrev pub SpendsHeld : Held → ℕ → Result Spent Refused → Held → Type 0
+SpendsHeld old budget result new =
+    (new ≡ record old { heap = new.heap; pacer = counted_by (quantum_done budget result) old.pacer })
+    × KeepsAgreeing old.heap new.heap × Spends old.heap budget new.heap result × EndsOrSpends budget result
+
+-- a quantum is spent in the heap that C holds, or its budget is refused
+abbrev pub SpendsOpen : Result Held Status → ℕ → Result Held Status → QuantumSpent → QuantumSpent → ℕ → Type 0
 SpendsOpen (Err why) budget new before after status = (new ≡ Err why) × (after ≡ before) × (status ≡ status_number why)
-SpendsOpen (Ok h) budget new before after status = (k : HeapState) × (answer : Result Spent Refused)
-    × (new ≡ Ok k) × KeepsAgreeing h k × Spends h budget k answer × EndsOrSpends budget answer
+SpendsOpen (Ok h) budget new before after status = (k : Held) × (answer : Result Spent Refused)
+    × (new ≡ Ok k) × SpendsHeld h budget answer k
     × (after ≡ spent_of before answer) × (status ≡ quantum_status answer)

@@ -6,13 +6,18 @@ use Rattle.heap_model.specs.Pages.{free_pages, page_at}
 use Rattle.heap_model.specs.State.{HeapState}
 use Rattle.heap_model.specs.Represents.{Represents}
 use Rattle.nodes.specs.Copies.{copies_in}
+use Rattle.nodes.specs.Seen.{block_view}
+use Rattle.nodes.specs.declared.nodes.seeing.BlockView.{BlockView}
 use Rattle.pages.specs.View.{view_of}
 use Rattle.pages.specs.declared.view.PageView.{PageView}
 use Rattle.roots.specs.Used.{used_in}
+use Rattle.metronome_c.specs.declared.block.MetronomeBlock.{MetronomeBlock}
 use Rattle.metronome_c.specs.declared.figures.Counts.{Counts}
+use Rattle.metronome_c.specs.declared.held.Held.{Held}
 use Rattle.metronome_c.specs.declared.page.MetronomePage.{MetronomePage}
 use Rattle.metronome_c.specs.declared.status.Status.{Status}
 use Rattle.metronome_c.specs.declared.status.Status.TheVariants.{Done}
+use Rattle.metronome_c.specs.Answer.{sized, shape_of}
 use Rattle.metronome_c.specs.Status.{status_number}
 
 -- C is told what was found of a heap, or why there is none
@@ -21,10 +26,10 @@ IsTold (Err why) before after status = (after ≡ before) × (status ≡ status_
 IsTold (Ok a) before after status = (after ≡ a) × (status ≡ status_number Done)
 
 -- C is told something of a heap, which stays as it is. Of a handle that holds none it is only told why.
-abbrev pub Tells : {A : Type 0} → (HeapState → A) → Result HeapState Status → Result HeapState Status → A → A → ℕ
+abbrev pub Tells : {A : Type 0} → (HeapState → A) → Result Held Status → Result Held Status → A → A → ℕ
     → Type 0
 Tells tell (Err why) new before after status = (new ≡ Err why) × (after ≡ before) × (status ≡ status_number why)
-Tells tell (Ok h) new before after status = (new ≡ Ok h) × (after ≡ tell h) × (status ≡ status_number Done)
+Tells tell (Ok h) new before after status = (new ≡ Ok h) × (after ≡ tell h.heap) × (status ≡ status_number Done)
 
 -- a heap represents some graph heap at present, and one when the last cycle began
 abbrev pub RepresentsSome : HeapState → Type 0
@@ -56,3 +61,19 @@ page_told (Some v) = record {
 -- the page of this number, where there is one: else it is given as a free one
 abbrev pub page_of : ℕ → HeapState → MetronomePage
 page_of number h = page_told (view_of (page_at h.store.pages number))
+
+-- A block that holds a part: that part's number, the identity and the shape of its object, and whether it was moved to another
+-- block, as 1 or 0. Of one that holds none each number is 0.
+abbrev pub block_told : Option BlockView → MetronomeBlock
+block_told None = record { identity = 0; shape = sized 0 0 0; part = 0; held = 0; old = 0 }
+block_told (Some v) = record {
+  identity = v.identity;
+  shape = shape_of v.shape;
+  part = v.part;
+  held = 1;
+  old = if v.is_old then 1 else 0;
+}
+
+-- the block of a number on the page of a number, where there is one: else it is given as one that holds nothing
+abbrev pub block_of : ℕ → ℕ → HeapState → MetronomeBlock
+block_of page number h = block_told (block_view h.store page number)

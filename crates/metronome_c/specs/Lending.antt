@@ -1,7 +1,7 @@
 -- What a handle holds is lent out of it.
 use Rattle.std.specs.Prelude.{Some}
 use Rattle.std.specs.Borrow.{Fml, Lends, MutBor}
-use Rattle.machine.specs.contracts.heap.Heap as heap
+use Rattle.metronome_c.specs.contracts.held.Held as held
 use Rattle.heap_shared.specs.contracts.member.Member as member
 use Rattle.metronome_c.specs.declared.handle.Handle.{Handle}
 use Rattle.metronome_c.specs.contracts.handle.Handle.{the_row}
@@ -9,12 +9,12 @@ use Rattle.metronome_c.specs.declared.seats.handle.SeatHandle.{SeatHandle}
 use Rattle.metronome_c.specs.contracts.seats.handle.SeatHandle as seat
 
 -- the handle with this heap where it had its own
-abbrev pub with_heap : Handle → (heap.the_row).Denot → Handle
+abbrev pub with_heap : Handle → (held.the_row).Denot → Handle
 with_heap h x = record { at = h.at; alloc = h.alloc; value = Some x }
 
 -- once the borrow of the heap ends, the handle holds what was left behind it
-abbrev pub LendsHeap : MutBor Handle → MutBor ((heap.the_row).Denot) → Fml
-LendsHeap h r = Lends the_row heap.the_row h r (with_heap h.now)
+abbrev pub LendsHeap : MutBor Handle → MutBor ((held.the_row).Denot) → Fml
+LendsHeap h r = Lends the_row held.the_row h r (with_heap h.now)
 
 -- the handle with this member where it had its own
 abbrev pub with_member : SeatHandle → (member.the_row).Denot → SeatHandle

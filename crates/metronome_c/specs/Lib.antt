@@ -4,7 +4,11 @@ pub mod BulkCalls
 pub mod Calls
 pub mod Collecting
 pub mod Figures
+pub mod Held
+pub mod Keeping
+pub mod KeptCalls
 pub mod Opened
+pub mod Planning
 pub mod Kept
 pub mod Lending
 pub mod Lifetime

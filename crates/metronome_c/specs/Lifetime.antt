@@ -1,20 +1,19 @@
 -- Heaps are made, and what a handle holds is given back.
 use Rattle.std.specs.Prelude.{◌≡◌, ℕ, Option, Some, None, Result, Ok, Err}
 use Rattle.settings.specs.declared.settings.Settings.{Settings}
-use Rattle.settings.specs.declared.config.Config.{Config}
 use Rattle.settings.specs.declared.fault.ConfigFault.{ConfigFault}
 use Rattle.settings.specs.declared.ranges.Ranges.TheVariants.{Library}
 use Rattle.settings.specs.Config.{fault_of, IsOf}
-use Rattle.heap_model.specs.State.{HeapState}
 use Rattle.heap_model.specs.Opening.{IsOpening}
 use Rattle.heap_model.specs.Settings.{settings_of, settings_by}
+use Rattle.metronome_c.specs.declared.held.Held.{Held}
 use Rattle.metronome_c.specs.declared.status.Status.{Status}
 use Rattle.metronome_c.specs.declared.status.Status.TheVariants.{Done, NoMemory, Open, Closed}
 use Rattle.metronome_c.specs.Status.{status_number, fault_status}
 
--- a heap from which histories start, with the numbers of these settings
-abbrev pub IsMadeOf : Settings → HeapState → Type 0
-IsMadeOf s h = (c : Config) × IsOpening h × IsOf s c × (settings_of h ≡ settings_by c)
+-- a heap from which histories start, of a configuration with the numbers of these settings, and no plan is kept
+abbrev pub IsMadeOf : Settings → Held → Type 0
+IsMadeOf s h = IsOpening h.heap × IsOf s h.config × (settings_of h.heap ≡ settings_by h.config) × (h.pacer ≡ None)
 
 -- such a thing is made; or there was no memory for it, and the handle is closed
 abbrev pub IsMade : {S : Type 0} → (S → Type 0) → Result S Status → ℕ → Type 0

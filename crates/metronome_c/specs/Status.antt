@@ -40,6 +40,8 @@ status_number statuses.Taken = 41
 status_number statuses.Inside = 42
 status_number statuses.Outside = 43
 status_number statuses.NotYours = 44
+status_number statuses.NoPlan = 46
+status_number statuses.AbovePlan = 47
 
 -- all statuses, in the order of their numbers: one for each setting, in the order of `Key::ALL`
 abbrev pub all_statuses : List Status
@@ -100,6 +102,8 @@ status_text statuses.Taken = codes "another seat has the turn"
 status_text statuses.Inside = codes "the seat has the turn"
 status_text statuses.Outside = codes "the seat hasn't the turn"
 status_text statuses.NotYours = codes "the mutator isn't the seat's"
+status_text statuses.NoPlan = codes "no plan fits"
+status_text statuses.AbovePlan = codes "the object is above the plan"
 
 -- the text of a number, which may be that of no status
 abbrev pub text_or_none : Option Status → List ℕ

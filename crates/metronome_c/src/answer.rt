@@ -69,7 +69,7 @@ impl Answer {
 
 impl MetronomeShape {
     /// The shape, as C sees it.
-    fn from_shape(shape: Shape) -> MetronomeShape
+    pub(crate) fn from_shape(shape: Shape) -> MetronomeShape
         ensures { result ≡ shape_of shape }
     {
         let (kind, refs, words) = match shape {

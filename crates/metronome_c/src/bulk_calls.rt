@@ -3,9 +3,10 @@ ghost use Rattle.std.specs.Prelude.{◌≡◌, ◌+◌, ◌<◌, ◌≤◌, leng
 ghost use Rattle.std.specs.Fn.{FnOnceReturnsAtMut};
 ghost use Rattle.graph_heap.specs.declared.command.TheConstants.{PLAIN_CELLS as most_cells};
 ghost use Rattle.graph_heap.specs.declared.command.Shape.TheVariants as shapes;
+ghost use Rattle.paced.specs.Pacing.{shape_words};
 ghost use Rattle.bulk.specs.Lists.{clears, moves, gets, puts, copies, makes};
-ghost use Rattle.metronome_c.specs.BulkCalls.{progress_told, too_many, DoesList, ReadsList};
-ghost use Rattle.metronome_c.specs.Opened.{heap_in};
+ghost use Rattle.metronome_c.specs.BulkCalls.{progress_told, too_many, DoesList, MakesList, ReadsList};
+ghost use Rattle.metronome_c.specs.Opened.{held_in};
 
 use crate::metronome::Metronome;
 use crate::status::Status;
@@ -57,7 +58,7 @@ pub extern "C" fn metronome_clear_slots(
     first: u32,
     count: u32,
 ) -> MetronomeProgress
-    ensures { DoesList (heap_in heap.old) mutator (clears first count) (heap_in heap.new) result }
+    ensures { DoesList (held_in heap.old) mutator (clears first count) (held_in heap.new) result }
 {
     MetronomeProgress::from_outcome(heap.ask(|inner| bulk::clear_slots(
         inner, mutator, first, count,
@@ -72,7 +73,7 @@ pub extern "C" fn metronome_move(
     dst: u32,
     src: u32,
 ) -> MetronomeProgress
-    ensures { DoesList (heap_in heap.old) mutator (moves dst src) (heap_in heap.new) result }
+    ensures { DoesList (held_in heap.old) mutator (moves dst src) (held_in heap.new) result }
 {
     MetronomeProgress::from_outcome(heap.ask(|inner| bulk::move_slot(inner, mutator, dst, src)))
 }
@@ -87,8 +88,8 @@ pub extern "C" fn metronome_put_words_from(
     words: &[u64],
 ) -> MetronomeProgress
     ensures few { length words.now ≤ most_cells
-        → DoesList (heap_in heap.old) mutator (puts obj first words.now) (heap_in heap.new) result }
-    ensures many { most_cells < length words.now → (heap_in heap.new ≡ heap_in heap.old) × (result ≡ too_many) }
+        → DoesList (held_in heap.old) mutator (puts obj first words.now) (held_in heap.new) result }
+    ensures many { most_cells < length words.now → (held_in heap.new ≡ held_in heap.old) × (result ≡ too_many) }
 {
     if words.len() > PLAIN_CELLS as usize {
         return MetronomeProgress::too_many();
@@ -108,10 +109,10 @@ pub extern "C" fn metronome_get_words_into(
     first: u32,
     words: &mut [u64],
 ) -> MetronomeProgress
-    ensures few { length words.old ≤ most_cells → ReadsList (heap_in heap.old) mutator
-        (gets obj first (length words.old)) (heap_in heap.new) (words.old, words.new) result }
+    ensures few { length words.old ≤ most_cells → ReadsList (held_in heap.old) mutator
+        (gets obj first (length words.old)) (held_in heap.new) (words.old, words.new) result }
     ensures many { most_cells < length words.old
-        → (heap_in heap.new ≡ heap_in heap.old) × (words.new ≡ words.old) × (result ≡ too_many) }
+        → (held_in heap.new ≡ held_in heap.old) × (words.new ≡ words.old) × (result ≡ too_many) }
 {
     if words.len() > PLAIN_CELLS as usize {
         return MetronomeProgress::too_many();
@@ -132,9 +133,9 @@ pub extern "C" fn metronome_copy_refs(
     to_first: u32,
     count: u32,
 ) -> MetronomeProgress
-    ensures few { count ≤ most_cells → DoesList (heap_in heap.old) mutator
-        (copies through from from_first to to_first count) (heap_in heap.new) result }
-    ensures many { most_cells < count → (heap_in heap.new ≡ heap_in heap.old) × (result ≡ too_many) }
+    ensures few { count ≤ most_cells → DoesList (held_in heap.old) mutator
+        (copies through from from_first to to_first count) (held_in heap.new) result }
+    ensures many { most_cells < count → (held_in heap.new ≡ held_in heap.old) × (result ≡ too_many) }
 {
     if count > PLAIN_CELLS {
         return MetronomeProgress::too_many();
@@ -158,17 +159,18 @@ pub extern "C" fn metronome_new_from(
     slots: &[u32],
     contents: &[u64],
 ) -> MetronomeProgress
-    ensures few { length slots.now + length contents.now ≤ most_cells → DoesList (heap_in heap.old) mutator
-        (makes dst (shapes.Plain refs words) slots.now contents.now) (heap_in heap.new) result }
+    ensures few { length slots.now + length contents.now ≤ most_cells
+        → MakesList (held_in heap.old) (shape_words (shapes.Plain refs words)) mutator
+        (makes dst (shapes.Plain refs words) slots.now contents.now) (held_in heap.new) result }
     ensures many { most_cells < length slots.now + length contents.now
-        → (heap_in heap.new ≡ heap_in heap.old) × (result ≡ too_many) }
+        → (held_in heap.new ≡ held_in heap.old) × (result ≡ too_many) }
 {
     let most = PLAIN_CELLS as usize;
     if slots.len() > most || contents.len() > most - slots.len() {
         return MetronomeProgress::too_many();
     }
     let shape = Shape::Plain { refs, words };
-    MetronomeProgress::from_outcome(heap.ask(|inner| bulk::new_with(
-        inner, mutator, dst, shape, slots, contents,
-    )))
+    MetronomeProgress::from_outcome(heap.ask_paying(shape, |inner| {
+        bulk::new_with(inner, mutator, dst, shape, slots, contents)
+    }))
 }

@@ -1,5 +1,5 @@
 //! The collector: a cycle is begun, and goes on by quanta.
-ghost use Rattle.metronome_c.specs.Opened.{heap_in};
+ghost use Rattle.metronome_c.specs.Opened.{held_in};
 ghost use Rattle.metronome_c.specs.Collecting.{BeginsOpen, SpendsOpen};
 
 use crate::metronome::Metronome;
@@ -17,9 +17,9 @@ pub struct QuantumSpent {
 /// Begins a cycle.
 #[unsafe(no_mangle)]
 pub extern "C" fn metronome_begin(heap: &mut Metronome) -> u32
-    ensures { BeginsOpen (heap_in heap.old) (heap_in heap.new) result }
+    ensures { BeginsOpen (held_in heap.old) (held_in heap.new) result }
 {
-    let status = match heap.ask(|inner| inner.begin()) {
+    let status = match heap.ask_held(|held| held.begin()) {
         Ok(Ok(())) => Status::Done,
         Ok(Err(_)) => Status::Busy,
         Err(why) => why,
@@ -34,9 +34,9 @@ pub extern "C" fn metronome_quantum(
     budget: u32,
     spent: &mut QuantumSpent,
 ) -> u32
-    ensures { SpendsOpen (heap_in heap.old) budget (heap_in heap.new) spent.old spent.new result }
+    ensures { SpendsOpen (held_in heap.old) budget (held_in heap.new) spent.old spent.new result }
 {
-    let status = match heap.ask(|inner| inner.quantum(budget)) {
+    let status = match heap.ask_held(|held| held.quantum(budget)) {
         Ok(Ok(did)) => {
             *spent = QuantumSpent {
                 units: did.units,

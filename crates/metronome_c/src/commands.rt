@@ -1,8 +1,8 @@
 //! The commands of mutators, each with a function for C, in the order of `graph_heap::Command`.
 ghost use Rattle.graph_heap.specs.declared.command.Command.TheVariants as commands;
 ghost use Rattle.graph_heap.specs.declared.command.Shape.TheVariants as shapes;
-ghost use Rattle.metronome_c.specs.Opened.{heap_in};
-ghost use Rattle.metronome_c.specs.Steps.{Steps, TellsShape};
+ghost use Rattle.metronome_c.specs.Opened.{held_in};
+ghost use Rattle.metronome_c.specs.Steps.{Makes, Steps, TellsShape};
 
 use crate::answer::{Answer, MetronomeShape};
 use crate::metronome::Metronome;
@@ -17,9 +17,12 @@ pub extern "C" fn metronome_new_plain(
     refs: u32,
     words: u32,
 ) -> Answer
-    ensures { Steps (heap_in heap.old) mutator (commands.New dst (shapes.Plain refs words)) (heap_in heap.new) result }
+    ensures { Makes (held_in heap.old) mutator (commands.New dst (shapes.Plain refs words)) (held_in heap.new) result }
 {
     let shape = Shape::Plain { refs, words };
+    if heap.keeps_plan() {
+        return heap.make_kept(mutator, dst, shape);
+    }
     heap.answer(|inner| inner.make(mutator, dst, shape))
 }
 
@@ -31,9 +34,12 @@ pub extern "C" fn metronome_new_refs(
     dst: u32,
     refs: u32,
 ) -> Answer
-    ensures { Steps (heap_in heap.old) mutator (commands.New dst (shapes.RefArray refs)) (heap_in heap.new) result }
+    ensures { Makes (held_in heap.old) mutator (commands.New dst (shapes.RefArray refs)) (held_in heap.new) result }
 {
     let shape = Shape::RefArray(refs);
+    if heap.keeps_plan() {
+        return heap.make_kept(mutator, dst, shape);
+    }
     heap.answer(|inner| inner.make(mutator, dst, shape))
 }
 
@@ -45,9 +51,12 @@ pub extern "C" fn metronome_new_words(
     dst: u32,
     words: u32,
 ) -> Answer
-    ensures { Steps (heap_in heap.old) mutator (commands.New dst (shapes.WordArray words)) (heap_in heap.new) result }
+    ensures { Makes (held_in heap.old) mutator (commands.New dst (shapes.WordArray words)) (held_in heap.new) result }
 {
     let shape = Shape::WordArray(words);
+    if heap.keeps_plan() {
+        return heap.make_kept(mutator, dst, shape);
+    }
     heap.answer(|inner| inner.make(mutator, dst, shape))
 }
 
@@ -60,7 +69,7 @@ pub extern "C" fn metronome_load(
     obj: u32,
     i: u32,
 ) -> Answer
-    ensures { Steps (heap_in heap.old) mutator (commands.Load dst obj i) (heap_in heap.new) result }
+    ensures { Steps (held_in heap.old) mutator (commands.Load dst obj i) (held_in heap.new) result }
 {
     heap.answer(|inner| inner.load(mutator, dst, obj, i))
 }
@@ -74,7 +83,7 @@ pub extern "C" fn metronome_store(
     i: u32,
     src: u32,
 ) -> Answer
-    ensures { Steps (heap_in heap.old) mutator (commands.Store obj i src) (heap_in heap.new) result }
+    ensures { Steps (held_in heap.old) mutator (commands.Store obj i src) (held_in heap.new) result }
 {
     heap.answer(|inner| inner.store(mutator, obj, i, src))
 }
@@ -89,7 +98,7 @@ pub extern "C" fn metronome_compare_store(
     expect: u32,
     new: u32,
 ) -> Answer
-    ensures { Steps (heap_in heap.old) mutator (commands.CompareStore obj i expect new) (heap_in heap.new) result }
+    ensures { Steps (held_in heap.old) mutator (commands.CompareStore obj i expect new) (held_in heap.new) result }
 {
     heap.answer(|inner| inner.compare_store(mutator, obj, i, expect, new))
 }
@@ -97,7 +106,7 @@ pub extern "C" fn metronome_compare_store(
 /// Reads a word cell.
 #[unsafe(no_mangle)]
 pub extern "C" fn metronome_get(heap: &mut Metronome, mutator: u32, obj: u32, i: u32) -> Answer
-    ensures { Steps (heap_in heap.old) mutator (commands.Get obj i) (heap_in heap.new) result }
+    ensures { Steps (held_in heap.old) mutator (commands.Get obj i) (held_in heap.new) result }
 {
     heap.answer(|inner| inner.get(mutator, obj, i))
 }
@@ -111,7 +120,7 @@ pub extern "C" fn metronome_put(
     i: u32,
     word: u64,
 ) -> Answer
-    ensures { Steps (heap_in heap.old) mutator (commands.Put obj i word) (heap_in heap.new) result }
+    ensures { Steps (held_in heap.old) mutator (commands.Put obj i word) (held_in heap.new) result }
 {
     heap.answer(|inner| inner.put(mutator, obj, i, word))
 }
@@ -126,7 +135,7 @@ pub extern "C" fn metronome_compare_put(
     old: u64,
     new: u64,
 ) -> Answer
-    ensures { Steps (heap_in heap.old) mutator (commands.ComparePut obj i old new) (heap_in heap.new) result }
+    ensures { Steps (held_in heap.old) mutator (commands.ComparePut obj i old new) (held_in heap.new) result }
 {
     heap.answer(|inner| inner.compare_put(mutator, obj, i, old, new))
 }
@@ -134,7 +143,7 @@ pub extern "C" fn metronome_compare_put(
 /// What slot src holds into slot dst.
 #[unsafe(no_mangle)]
 pub extern "C" fn metronome_copy(heap: &mut Metronome, mutator: u32, dst: u32, src: u32) -> Answer
-    ensures { Steps (heap_in heap.old) mutator (commands.Copy dst src) (heap_in heap.new) result }
+    ensures { Steps (held_in heap.old) mutator (commands.Copy dst src) (held_in heap.new) result }
 {
     heap.answer(|inner| inner.copy(mutator, dst, src))
 }
@@ -142,7 +151,7 @@ pub extern "C" fn metronome_copy(heap: &mut Metronome, mutator: u32, dst: u32, s
 /// Null into slot dst.
 #[unsafe(no_mangle)]
 pub extern "C" fn metronome_clear(heap: &mut Metronome, mutator: u32, dst: u32) -> Answer
-    ensures { Steps (heap_in heap.old) mutator (commands.Clear dst) (heap_in heap.new) result }
+    ensures { Steps (held_in heap.old) mutator (commands.Clear dst) (held_in heap.new) result }
 {
     heap.answer(|inner| inner.clear(mutator, dst))
 }
@@ -155,7 +164,7 @@ pub extern "C" fn metronome_load_static(
     dst: u32,
     k: u32,
 ) -> Answer
-    ensures { Steps (heap_in heap.old) mutator (commands.LoadStatic dst k) (heap_in heap.new) result }
+    ensures { Steps (held_in heap.old) mutator (commands.LoadStatic dst k) (held_in heap.new) result }
 {
     heap.answer(|inner| inner.load_static(mutator, dst, k))
 }
@@ -168,7 +177,7 @@ pub extern "C" fn metronome_store_static(
     k: u32,
     src: u32,
 ) -> Answer
-    ensures { Steps (heap_in heap.old) mutator (commands.StoreStatic k src) (heap_in heap.new) result }
+    ensures { Steps (held_in heap.old) mutator (commands.StoreStatic k src) (held_in heap.new) result }
 {
     heap.answer(|inner| inner.store_static(mutator, k, src))
 }
@@ -182,7 +191,7 @@ pub extern "C" fn metronome_compare_static(
     expect: u32,
     new: u32,
 ) -> Answer
-    ensures { Steps (heap_in heap.old) mutator (commands.CompareStatic k expect new) (heap_in heap.new) result }
+    ensures { Steps (held_in heap.old) mutator (commands.CompareStatic k expect new) (held_in heap.new) result }
 {
     heap.answer(|inner| inner.compare_static(mutator, k, expect, new))
 }
@@ -190,7 +199,7 @@ pub extern "C" fn metronome_compare_static(
 /// Whether slots a and b hold the same object, or both null.
 #[unsafe(no_mangle)]
 pub extern "C" fn metronome_same(heap: &mut Metronome, mutator: u32, a: u32, b: u32) -> Answer
-    ensures { Steps (heap_in heap.old) mutator (commands.Same a b) (heap_in heap.new) result }
+    ensures { Steps (held_in heap.old) mutator (commands.Same a b) (held_in heap.new) result }
 {
     heap.answer(|inner| inner.same(mutator, a, b))
 }
@@ -203,8 +212,8 @@ pub extern "C" fn metronome_describe(
     a: u32,
     shape: &mut MetronomeShape,
 ) -> Answer
-    ensures steps { Steps (heap_in heap.old) mutator (commands.Describe a) (heap_in heap.new) result }
-    ensures shape { TellsShape (heap_in heap.old) mutator (commands.Describe a) shape.old shape.new }
+    ensures steps { Steps (held_in heap.old) mutator (commands.Describe a) (held_in heap.new) result }
+    ensures shape { TellsShape (held_in heap.old) mutator (commands.Describe a) shape.old shape.new }
 {
     heap.told_with_shape(shape, |inner| inner.describe(mutator, a))
 }
@@ -212,7 +221,7 @@ pub extern "C" fn metronome_describe(
 /// The mutator becomes live.
 #[unsafe(no_mangle)]
 pub extern "C" fn metronome_join(heap: &mut Metronome, mutator: u32) -> Answer
-    ensures { Steps (heap_in heap.old) mutator commands.Join (heap_in heap.new) result }
+    ensures { Steps (held_in heap.old) mutator commands.Join (held_in heap.new) result }
 {
     heap.answer(|inner| inner.join(mutator))
 }
@@ -220,7 +229,7 @@ pub extern "C" fn metronome_join(heap: &mut Metronome, mutator: u32) -> Answer
 /// Null into each slot of the mutator, which is live no more.
 #[unsafe(no_mangle)]
 pub extern "C" fn metronome_leave(heap: &mut Metronome, mutator: u32) -> Answer
-    ensures { Steps (heap_in heap.old) mutator commands.Leave (heap_in heap.new) result }
+    ensures { Steps (held_in heap.old) mutator commands.Leave (held_in heap.new) result }
 {
     heap.answer(|inner| inner.leave(mutator))
 }

@@ -3,7 +3,7 @@ ghost use Rattle.std.specs.Prelude.{◌≡◌, ◌≤◌, IfOk};
 ghost use Rattle.heap_model.specs.Pages as pages;
 ghost use Rattle.metronome_c.specs.Collecting as collecting;
 ghost use Rattle.heap_model.specs.Spent.{cycle_limit};
-ghost use Rattle.metronome_c.specs.Opened.{heap_in};
+ghost use Rattle.metronome_c.specs.Opened.{held_in};
 ghost use Rattle.metronome_c.specs.Figures.{IsTold, Tells, RepresentsSome, counts_of};
 
 use crate::metronome::Metronome;
@@ -61,10 +61,10 @@ pub(crate) fn tell<T: Copy>(told: &mut T, found: Result<T, Status>) -> u32
 /// Tells the phase. A heap always represents some graph heap at present, and one when the last cycle began.
 #[unsafe(no_mangle)]
 pub extern "C" fn metronome_phase(heap: &mut Metronome, phase: &mut u32) -> u32
-    ensures phase { Tells (λ h. collecting.phase_number h.phase) (heap_in heap.old)
-        (heap_in heap.new) phase.old phase.new
+    ensures phase { Tells (λ h. collecting.phase_number h.phase) (held_in heap.old)
+        (held_in heap.new) phase.old phase.new
         result }
-    ensures represents { IfOk (heap_in heap.old) RepresentsSome }
+    ensures represents { IfOk (held_in heap.old) (λ h. RepresentsSome h.heap) }
 {
     tell(phase, heap.ask(|inner| phase_number(inner.phase())))
 }
@@ -72,8 +72,8 @@ pub extern "C" fn metronome_phase(heap: &mut Metronome, phase: &mut u32) -> u32
 /// Tells the units that were spent since the last cycle began: no more than a cycle may spend.
 #[unsafe(no_mangle)]
 pub extern "C" fn metronome_units(heap: &mut Metronome, units: &mut u64) -> u32
-    ensures units { Tells (λ h. h.units) (heap_in heap.old) (heap_in heap.new) units.old units.new result }
-    ensures within { IfOk (heap_in heap.old) (λ h. h.units ≤ cycle_limit h) }
+    ensures units { Tells (λ h. h.units) (held_in heap.old) (held_in heap.new) units.old units.new result }
+    ensures within { IfOk (held_in heap.old) (λ h. h.heap.units ≤ cycle_limit h.heap) }
 {
     tell(units, heap.ask(|inner| inner.units()))
 }
@@ -81,8 +81,8 @@ pub extern "C" fn metronome_units(heap: &mut Metronome, units: &mut u64) -> u32
 /// Tells how many pages are free.
 #[unsafe(no_mangle)]
 pub extern "C" fn metronome_free_pages(heap: &mut Metronome, free_pages: &mut u64) -> u32
-    ensures { Tells (λ h. pages.free_pages h.store.pages) (heap_in heap.old)
-        (heap_in heap.new) free_pages.old free_pages.new
+    ensures { Tells (λ h. pages.free_pages h.store.pages) (held_in heap.old)
+        (held_in heap.new) free_pages.old free_pages.new
         result }
 {
     tell(free_pages, heap.ask(|inner| inner.free_pages() as u64))
@@ -91,7 +91,7 @@ pub extern "C" fn metronome_free_pages(heap: &mut Metronome, free_pages: &mut u6
 /// Tells the counts. It looks at each block.
 #[unsafe(no_mangle)]
 pub extern "C" fn metronome_count(heap: &mut Metronome, counts: &mut Counts) -> u32
-    ensures { Tells counts_of (heap_in heap.old) (heap_in heap.new) counts.old counts.new result }
+    ensures { Tells counts_of (held_in heap.old) (held_in heap.new) counts.old counts.new result }
 {
     tell(counts, heap.ask(|inner| Counts::from_heap(inner)))
 }

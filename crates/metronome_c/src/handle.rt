@@ -3,10 +3,10 @@ ghost use Rattle.std.specs.Prelude.{◌≡◌, Option, Some, None, IsSome};
 ghost use Rattle.std.specs.Coded.{coded_option};
 ghost use Rattle.std.specs.Borrow.{sem};
 ghost use Rattle.std.specs.Box.Ownership.{box_owns};
-ghost use Rattle.machine.specs.contracts.heap.Heap.{the_row};
+ghost use Rattle.metronome_c.specs.contracts.held.Held.{the_row};
 ghost use Rattle.metronome_c.specs.Kept.{kept};
 
-use machine::Heap;
+use crate::held::Held;
 use std::alloc::{Allocator, Global};
 use std::marker::Model;
 
@@ -69,7 +69,7 @@ impl Handle {
     }
 
     /// This heap.
-    pub(crate) fn shut(value: Loose<Heap, Global>) -> Handle
+    pub(crate) fn shut(value: Loose<Held, Global>) -> Handle
         ensures { result.value ≡ Some value.value }
     {
         let Loose { at, alloc } = value;
@@ -80,24 +80,24 @@ impl Handle {
     }
 
     /// The heap.
-    pub(crate) fn open(self) -> Loose<Heap, Global>
+    pub(crate) fn open(self) -> Loose<Held, Global>
         requires { IsSome self.value }
         ensures { self.value ≡ Some result.value }
     {
         let Handle { at, alloc } = self;
         Loose {
-            at: at as *mut Heap,
+            at: at as *mut Held,
             alloc,
         }
     }
 
     /// The heap where it is. It is held again once the borrow ends.
     #[inline(always)]
-    pub(crate) fn lend(&mut self) -> &mut Heap
+    pub(crate) fn lend(&mut self) -> &mut Held
         requires { IsSome self.old.value }
         ensures* writes_back { sem 𝓛 (LendsHeap self.entry result) }
         ensures value { self.old.value ≡ Some result.now }
     {
-        unsafe { &mut *(self.at as *mut Heap) }
+        unsafe { &mut *(self.at as *mut Held) }
     }
 }

@@ -11,27 +11,53 @@ ghost use Rattle.heap_model.specs.Spent.{cycle_limit};
 ghost use Rattle.heap_model.specs.State.{HeapState};
 ghost use Rattle.metronome_c.specs.Calls.{Call, Calls, AreEvents, IsPromised};
 ghost use Rattle.metronome_c.specs.Lifetime.{IsMadeOf, Creates};
+ghost use Rattle.metronome_c.specs.Keeping.{CanKeep, Keeps};
+ghost use Rattle.metronome_c.specs.KeptCalls.{KeptCall, KeptCalls, KeepsRoom};
 ghost use Rattle.metronome_c.specs.Limit.{limit_of};
-ghost use Rattle.metronome_c.specs.Status.{all_statuses};
-ghost use Rattle.metronome_c.specs.Touching.{touched_heap};
+ghost use Rattle.metronome_c.specs.Planning.{TellsPlan};
+ghost use Rattle.metronome_c.specs.Status.{all_statuses, status_number};
+ghost use Rattle.metronome_c.specs.Touching.{touched_heap, touched_held};
+ghost use Rattle.metronome_c.specs.declared.held.Held.{Held};
+ghost use Rattle.metronome_c.specs.declared.planning.MetronomeFlow.{MetronomeFlow};
 ghost use Rattle.metronome_c.specs.declared.metronome.TheConstants.{CHECK_WORD};
 ghost use Rattle.metronome_c.specs.declared.status.Status.{Status};
-ghost use Rattle.metronome_c.specs.declared.status.Status.TheVariants.{Done, Refused, NoMemory, Busy, BudgetOutOfRange, Closed, Open, ScheduleOutOfRange, BadHandle, SettingOutOfRange, OtherVersion, Taken, Inside, Outside, NotYours};
+ghost use Rattle.metronome_c.specs.declared.status.Status.TheVariants.{Done, Refused, NoMemory, Busy, BudgetOutOfRange, Closed, Open, ScheduleOutOfRange, BadHandle, SettingOutOfRange, OtherVersion, Taken, Inside, Outside, NotYours, NoPlan, AbovePlan};
 
 /// Where a heap was just made of a closed handle, and a program calls the library as it likes, the calls are events
 /// that the heap does one after the other, with a history that only grows: each call tells the outcome of its event,
 /// and what is promised of a heap with its history (`machine::Recorded::run`) holds of it, whatever comes. So it is where
 /// the program touched pages of it first.
 pub fn calls_are_events()
-    ensures made { (s : Settings) (h : HeapState) (status : ℕ) → Creates IsMadeOf (Err Closed) s (Ok h) status
-        → IsPromised s h }
-    ensures calls { (s : Settings) (h : HeapState) (status : ℕ) (calls : List Call) (new : Result HeapState Status)
+    ensures made { (s : Settings) (h : Held) (status : ℕ) → Creates IsMadeOf (Err Closed) s (Ok h) status
+        → IsPromised s h.heap }
+    ensures calls { (s : Settings) (h : Held) (status : ℕ) (calls : List Call) (new : Result Held Status)
         → Creates IsMadeOf (Err Closed) s (Ok h) status → Calls (Ok h) calls new → AreEvents h calls new }
-    ensures touched { (s : Settings) (h : HeapState) (status pages : ℕ) → Creates IsMadeOf (Err Closed) s (Ok h) status
-        → IsPromised s (touched_heap h pages) }
-    ensures after { (s : Settings) (h : HeapState) (status pages : ℕ) (calls : List Call)
-        (new : Result HeapState Status) → Creates IsMadeOf (Err Closed) s (Ok h) status
-        → Calls (Ok (touched_heap h pages)) calls new → AreEvents (touched_heap h pages) calls new }
+    ensures touched { (s : Settings) (h : Held) (status pages : ℕ) → Creates IsMadeOf (Err Closed) s (Ok h) status
+        → IsPromised s (touched_heap h.heap pages) }
+    ensures after { (s : Settings) (h : Held) (status pages : ℕ) (calls : List Call)
+        (new : Result Held Status) → Creates IsMadeOf (Err Closed) s (Ok h) status
+        → Calls (Ok (touched_held h pages)) calls new → AreEvents (touched_held h pages) calls new }
+{}
+
+/// Where a heap that was just made of a closed handle keeps a plan, and a program calls the library as it likes: no reply is
+/// the refusal for lack of space, if what is live is within the plan wherever a cycle begins, by the program or by the
+/// plan. So it is where the program touched pages of it first.
+pub fn kept_heaps_find_room()
+    ensures kept { (s : Settings) (h k : Held) (made status : ℕ) (flow : MetronomeFlow) (calls : List KeptCall)
+        (new : Result Held Status) → Creates IsMadeOf (Err Closed) s (Ok h) made → Keeps (Ok h) flow (Ok k) status
+        → status ≡ status_number Done → KeptCalls (Ok k) calls new → KeepsRoom h flow calls new }
+    ensures touched { (s : Settings) (h k : Held) (made status pages : ℕ) (flow : MetronomeFlow) (calls : List KeptCall)
+        (new : Result Held Status) → Creates IsMadeOf (Err Closed) s (Ok h) made
+        → Keeps (Ok (touched_held h pages)) flow (Ok k) status → status ≡ status_number Done
+        → KeptCalls (Ok k) calls new
+        → KeepsRoom (touched_held h pages) flow calls new }
+{}
+
+/// A plan that C was told for settings is kept by a heap that was just made of them.
+pub fn plans_are_kept()
+    ensures { (s : Settings) (h : Held) (made told : ℕ) (live : ℕ) (before flow : MetronomeFlow)
+        → TellsPlan s live before flow told → told ≡ status_number Done → Creates IsMadeOf (Err Closed) s (Ok h) made
+        → CanKeep h flow }
 {}
 
 /// The limit that C is told of a configuration is that of a heap that was made of it: the units of a cycle are within
@@ -54,7 +80,7 @@ pub fn statuses_are_in_order()
         ∷ SettingOutOfRange keys.Statics ∷ SettingOutOfRange keys.Identities ∷ SettingOutOfRange keys.DefragBelow
         ∷ SettingOutOfRange keys.DefragPages ∷ SettingOutOfRange keys.CollectorTicks
         ∷ SettingOutOfRange keys.MutatorTicks ∷ SettingOutOfRange keys.Rate ∷ SettingOutOfRange keys.Live
-        ∷ OtherVersion ∷ Taken ∷ Inside ∷ Outside ∷ NotYours ∷ [] }
+        ∷ OtherVersion ∷ Taken ∷ Inside ∷ Outside ∷ NotYours ∷ NoPlan ∷ AbovePlan ∷ [] }
 {}
 
 /// The check word of a handle that holds a heap. Memory that nothing set hardly has it by chance.

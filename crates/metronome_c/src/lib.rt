@@ -2,17 +2,21 @@
 #![tactic(auto)]
 
 mod answer;
+mod block;
 mod bulk_calls;
 mod collector;
 mod commands;
 mod figures;
 mod handle;
+mod held;
+mod keeping;
 mod laws;
 mod lifetime;
 mod limit;
 mod metronome;
 mod page;
 mod phase;
+mod planning;
 mod seats;
 mod status;
 mod text;

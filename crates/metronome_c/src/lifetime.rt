@@ -1,10 +1,11 @@
 //! Heaps are made and given back.
 ghost use Rattle.std.specs.Prelude.{◌≡◌, ◌≢◌};
 ghost use Rattle.metronome_c.specs.declared.status.Status.TheVariants.{OtherVersion};
-ghost use Rattle.metronome_c.specs.Opened.{heap_in};
+ghost use Rattle.metronome_c.specs.Opened.{held_in};
 ghost use Rattle.metronome_c.specs.Lifetime.{IsMadeOf, Creates, Destroys};
 ghost use Rattle.metronome_c.specs.Status.{status_number};
 
+use crate::held::Held;
 use crate::metronome::Metronome;
 use crate::status::Status;
 use crate::text::VERSION;
@@ -19,8 +20,8 @@ pub extern "C" fn metronome_create_for(
     settings: &Settings,
     version: u32,
 ) -> u32
-    ensures same { version ≡ 2 → Creates IsMadeOf (heap_in heap.old) settings.now (heap_in heap.new) result }
-    ensures other { version ≢ 2 → (heap_in heap.new ≡ heap_in heap.old) × (result ≡ status_number OtherVersion) }
+    ensures same { version ≡ 2 → Creates IsMadeOf (held_in heap.old) settings.now (held_in heap.new) result }
+    ensures other { version ≢ 2 → (held_in heap.new ≡ held_in heap.old) × (result ≡ status_number OtherVersion) }
 {
     if version != VERSION {
         return Status::OtherVersion.number();
@@ -30,7 +31,7 @@ pub extern "C" fn metronome_create_for(
 
 /// Makes a heap of these settings, where the handle is closed.
 fn create(heap: &mut Metronome, settings: &Settings) -> u32
-    ensures { Creates IsMadeOf (heap_in heap.old) settings.now (heap_in heap.new) result }
+    ensures { Creates IsMadeOf (held_in heap.old) settings.now (held_in heap.new) result }
 {
     if heap.is_open() {
         return Status::Open.number();
@@ -46,7 +47,12 @@ fn create(heap: &mut Metronome, settings: &Settings) -> u32
     let Ok(made) = Heap::new(alloc, &config) else {
         return Status::NoMemory.number();
     };
-    let Ok(boxed) = Box::new(alloc, made) else {
+    let held = Held {
+        heap: made,
+        config,
+        pacer: None,
+    };
+    let Ok(boxed) = Box::new(alloc, held) else {
         return Status::NoMemory.number();
     };
     heap.put(boxed);
@@ -56,7 +62,7 @@ fn create(heap: &mut Metronome, settings: &Settings) -> u32
 /// Gives the memory of a heap back. Where the handle holds none nothing is done.
 #[unsafe(no_mangle)]
 pub extern "C" fn metronome_destroy(heap: &mut Metronome)
-    ensures { Destroys (heap_in heap.old) (heap_in heap.new) }
+    ensures { Destroys (held_in heap.old) (held_in heap.new) }
 {
     if heap.is_open() {
         drop(heap.take());

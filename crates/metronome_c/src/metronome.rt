@@ -7,13 +7,18 @@ ghost use Rattle.std.specs.Prelude.{◌≤◌, length, take, drop, IfOk, IfErr};
 ghost use Rattle.graph_heap.specs.declared.command.TheConstants.{PLAIN_CELLS};
 ghost use Rattle.bulk.specs.InOrder.{DoesWith, words_told};
 ghost use Rattle.bulk.specs.Lists.{gets};
-ghost use Rattle.metronome_c.specs.Asking.{Asks, AsksTold, AsksToldWithShape};
+ghost use Rattle.paced.specs.Pacing.{shape_words};
+ghost use Rattle.metronome_c.specs.Held.{is_kept};
+ghost use Rattle.graph_heap.specs.declared.command.Command.TheVariants as commands;
+ghost use Rattle.metronome_c.specs.Steps.{Makes};
+ghost use Rattle.metronome_c.specs.Asking.{Asks, AsksHeap, AsksPaying, AsksTold, AsksToldWithShape};
 
 use crate::answer::{Answer, MetronomeShape};
 use crate::handle::{Handle, Loose};
+use crate::held::Held;
 use crate::status::Status;
 use bulk::Progress;
-use graph_heap::Reply;
+use graph_heap::{Reply, Shape};
 use machine::Heap;
 use std::alloc::Global;
 use std::mem::replace;
@@ -32,7 +37,7 @@ pub struct Metronome {
 }
 
 impl Metronome {
-    ghost use Rattle.metronome_c.specs.Opened.{absence, heap_in};
+    ghost use Rattle.metronome_c.specs.Opened.{absence, held_in};
 
     /// No heap.
     pub(crate) fn closed(alloc: Global) -> Metronome
@@ -74,11 +79,11 @@ impl Metronome {
 
     /// Holds this heap.
     #[inline(always)]
-    pub(crate) fn put(&mut self, heap: Box<Heap>)
-        ensures { self.new.handle.value ≡ Some heap.value }
+    pub(crate) fn put(&mut self, held: Box<Held>)
+        ensures { self.new.handle.value ≡ Some held.value }
     {
         *self = Metronome {
-            handle: Handle::shut(Loose::from_box(heap)),
+            handle: Handle::shut(Loose::from_box(held)),
             alloc: self.alloc,
             check: CHECK_WORD,
         };
@@ -86,7 +91,7 @@ impl Metronome {
 
     /// The heap. None is left.
     #[inline(always)]
-    pub(crate) fn take(&mut self) -> Box<Heap>
+    pub(crate) fn take(&mut self) -> Box<Held>
         requires { IsSome self.old.handle.value }
         ensures value { self.old.handle.value ≡ Some result.value }
         ensures left { self.new.handle.value ≡ None }
@@ -101,7 +106,21 @@ impl Metronome {
     #[inline(always)]
     pub(crate) fn ask<T, F: FnOnce(&mut Heap) -> T + Drop>(&mut self, call: F) -> Result<T, Status>
         requires { F.IsAlwaysCallable call }
-        ensures { Asks (FnOnceReturnsAtMut F.FnOnce call) (heap_in self.old) result (heap_in self.new) }
+        ensures { AsksHeap (FnOnceReturnsAtMut F.FnOnce call) (held_in self.old) result (held_in self.new) }
+    {
+        if !self.is_open() {
+            return Err(self.why_empty());
+        }
+        Ok(call(&mut self.handle.lend().heap))
+    }
+
+    /// Asks what holds the heap, and its plan, if there is one.
+    pub(crate) fn ask_held<T, F: FnOnce(&mut Held) -> T + Drop>(
+        &mut self,
+        call: F,
+    ) -> Result<T, Status>
+        requires { F.IsAlwaysCallable call }
+        ensures { Asks (FnOnceReturnsAtMut F.FnOnce call) (held_in self.old) result (held_in self.new) }
     {
         if !self.is_open() {
             return Err(self.why_empty());
@@ -109,11 +128,54 @@ impl Metronome {
         Ok(call(self.handle.lend()))
     }
 
+    /// Asks the heap, if there is one, for what makes an object of a shape. Where a plan is kept its words are paid for first.
+    #[inline(always)]
+    pub(crate) fn ask_paying<T, F: FnOnce(&mut Heap) -> T + Drop>(
+        &mut self,
+        shape: Shape,
+        call: F,
+    ) -> Result<T, Status>
+        requires { F.IsAlwaysCallable call }
+        ensures { AsksPaying (shape_words shape) (FnOnceReturnsAtMut F.FnOnce call) (held_in self.old) result
+            (held_in self.new) }
+    {
+        if !self.is_open() {
+            return Err(self.why_empty());
+        }
+        let held = self.handle.lend();
+        if !held.pays(shape) {
+            return Err(Status::AbovePlan);
+        }
+        Ok(call(&mut held.heap))
+    }
+
+    /// Whether it holds a heap that keeps a plan.
+    #[inline(always)]
+    pub(crate) fn keeps_plan(&mut self) -> bool
+        ensures keeps { result ≡ is_kept (held_in self.old) }
+        ensures same { held_in self.new ≡ held_in self.old }
+    {
+        if !self.is_open() {
+            return false;
+        }
+        self.handle.lend().pacer.is_some()
+    }
+
+    /// Makes an object of a shape in the heap, if there is one, once its words were paid for, where a plan is kept. It is out of
+    /// the way of heaps that keep none.
+    #[cold]
+    #[inline(never)]
+    pub(crate) fn make_kept(&mut self, mutator: u32, dst: u32, shape: Shape) -> Answer
+        ensures { Makes (held_in self.old) mutator (commands.New dst shape) (held_in self.new) result }
+    {
+        Answer::from_outcome(self.ask_paying(shape, |inner| inner.make(mutator, dst, shape)))
+    }
+
     /// Asks the heap for a reply, if there is one, and tells it.
     #[inline(always)]
     pub(crate) fn answer<F: FnOnce(&mut Heap) -> Reply + Drop>(&mut self, call: F) -> Answer
         requires { F.IsAlwaysCallable call }
-        ensures { AsksTold (FnOnceReturnsAtMut F.FnOnce call) (heap_in self.old) (heap_in self.new) result }
+        ensures { AsksTold (FnOnceReturnsAtMut F.FnOnce call) (held_in self.old) (held_in self.new) result }
     {
         Answer::from_outcome(self.ask(call))
     }
@@ -125,8 +187,8 @@ impl Metronome {
         call: F,
     ) -> Answer
         requires { F.IsAlwaysCallable call }
-        ensures { AsksToldWithShape (FnOnceReturnsAtMut F.FnOnce call) (heap_in self.old)
-            (heap_in self.new) result shape.old
+        ensures { AsksToldWithShape (FnOnceReturnsAtMut F.FnOnce call) (held_in self.old)
+            (held_in self.new) result shape.old
             shape.new }
     {
         let reply = self.ask(call);
@@ -144,14 +206,14 @@ impl Metronome {
         words: &mut [u64],
     ) -> Result<Progress, Status>
         requires { length words.old ≤ PLAIN_CELLS }
-        ensures asks { Asks (λ h p k. DoesWith h mutator (gets obj first (length words.old))
-            (words_told (take p.done words.new)) p k) (heap_in self.old) result (heap_in self.new) }
+        ensures asks { AsksHeap (λ h p k. DoesWith h mutator (gets obj first (length words.old))
+            (words_told (take p.done words.new)) p k) (held_in self.old) result (held_in self.new) }
         ensures rest { IfOk result (λ p. drop p.done words.new ≡ drop p.done words.old) }
         ensures same { IfErr result (λ why. words.new ≡ words.old) }
     {
         if !self.is_open() {
             return Err(self.why_empty());
         }
-        Ok(bulk::get_words(self.handle.lend(), mutator, obj, first, words))
+        Ok(bulk::get_words(&mut self.handle.lend().heap, mutator, obj, first, words))
     }
 }

@@ -1,6 +1,6 @@
 //! Pages as C sees them.
 ghost use Rattle.std.specs.Prelude.{◌≡◌};
-ghost use Rattle.metronome_c.specs.Opened.{heap_in};
+ghost use Rattle.metronome_c.specs.Opened.{held_in};
 ghost use Rattle.metronome_c.specs.Figures.{Tells, page_of};
 
 use crate::figures::tell;
@@ -47,7 +47,7 @@ pub extern "C" fn metronome_page(
     number: usize,
     page: &mut MetronomePage,
 ) -> u32
-    ensures { Tells (page_of number) (heap_in heap.old) (heap_in heap.new) page.old page.new result }
+    ensures { Tells (page_of number) (held_in heap.old) (held_in heap.new) page.old page.new result }
 {
     tell(
         page,

@@ -37,6 +37,10 @@ pub enum Status {
     Outside,
     /// The mutator isn't one of the seat's.
     NotYours,
+    /// No plan fits in a heap of the settings, or in this heap as it is.
+    NoPlan,
+    /// The object has more words than the plan has for a whole cycle.
+    AbovePlan,
 }
 
 /// The place of a key among the settings, from 0.
@@ -70,12 +74,14 @@ impl Status {
     ];
 
     /// Those behind the settings out of their ranges, in the order of their numbers.
-    pub const BEHIND_SETTINGS: [Status; 5] = [
+    pub const BEHIND_SETTINGS: [Status; 7] = [
         Status::OtherVersion,
         Status::Taken,
         Status::Inside,
         Status::Outside,
         Status::NotYours,
+        Status::NoPlan,
+        Status::AbovePlan,
     ];
 
     /// The number by which C is told.
@@ -98,6 +104,8 @@ impl Status {
             Status::Inside => 42,
             Status::Outside => 43,
             Status::NotYours => 44,
+            Status::NoPlan => 46,
+            Status::AbovePlan => 47,
         }
     }
 
@@ -184,6 +192,8 @@ impl Status {
             Status::Inside => "the seat has the turn",
             Status::Outside => "the seat hasn't the turn",
             Status::NotYours => "the mutator isn't the seat's",
+            Status::NoPlan => "no plan fits",
+            Status::AbovePlan => "the object is above the plan",
         }
     }
 }

@@ -12,6 +12,7 @@ use Rattle.heap_model.proofs.Represents.{represents_chain}
 use Rattle.heap_model.proofs.QuantumSpending.Quanta.{action_cost}
 use Rattle.nodes.specs.Acting.{Acts}
 use Rattle.nodes.specs.declared.heap_fields.HeapFields.{HeapFields}
+use Rattle.nodes.specs.Grey.{AreLinked}
 use Rattle.nodes.specs.HeapFields.{state_of, AreHeapFields}
 use Rattle.nodes.proofs.Representing.{still}
 
@@ -35,8 +36,8 @@ rests_chain h after u Nothing_done none = none
 rests_chain h after u (Then v cost j k linked chain links action) none = rests_empty (record j { store = linked }) after cost action (rests_chain h j v chain none)
 
 -- a chain leaves a heap
-pub heap_after_chain : (a b : HeapFields) → AreHeapFields a → (units : ℕ) → Chain (state_of a) units (state_of b) → length b.grey.buffers ≡ length a.grey.buffers → AreHeapFields b
-heap_after_chain a b w units chain count = record {
+pub heap_after_chain : (a b : HeapFields) → AreHeapFields a → (units : ℕ) → Chain (state_of a) units (state_of b) → length b.grey.buffers ≡ length a.grey.buffers → AreLinked b.nodes b.grey → AreHeapFields b
+heap_after_chain a b w units chain count linked = record {
   heap = record {
     present = w.heap.present;
     snapshot = w.heap.snapshot;
@@ -45,6 +46,7 @@ heap_after_chain a b w units chain count = record {
     small = subst (λ n. n < 2 ^ 41) (sym (chain_limit (state_of a) (state_of b) units chain)) w.heap.small;
   };
   buffers = count ∙ w.buffers ∙ sym (ap (λ (s : HeapSettings). s.limits.mutators) (chain_settings (state_of a) (state_of b) units chain));
+  linked = linked;
   empty = rests_chain (state_of a) (state_of b) units chain w.empty;
 }
 

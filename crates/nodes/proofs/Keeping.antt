@@ -7,18 +7,23 @@ use Rattle.heap_model.specs.Written.{records}
 use Rattle.heap_model.proofs.State.{allocated_pages}
 use Rattle.nodes.specs.Links.{KeepsLinks}
 use Rattle.nodes.specs.declared.heap_fields.HeapFields.{HeapFields}
-use Rattle.nodes.specs.Grey.{grey_in}
+use Rattle.nodes.specs.Grey.{grey_in, AreLinked}
 use Rattle.nodes.specs.HeapFields.{state_of, AreHeapFields}
 use Rattle.nodes.specs.GreyAllocated.{AreAllocated}
+use Rattle.nodes.proofs.Linking.{linked_kept}
 use Rattle.nodes.proofs.Representing.{are_grey}
 use Rattle.nodes.proofs.Threading.{grey_same, first_none, buffers_none, grey_none}
 
 pub are_allocated : (a : HeapFields) → AreHeapFields a → AreAllocated a
-are_allocated a w x some c = (are_grey a w).allocated x c
+are_allocated a w x c = (are_grey a w).allocated x c
 
 -- the links of allocated blocks stay
 pub grey_kept : (a : HeapFields) → AreAllocated a → (new : Store) → length new.pages ≡ length a.nodes.pages → KeepsLinks a.nodes new → grey_in new a.grey ≡ grey_in a.nodes a.grey
-grey_kept a allocated new pages links = grey_same a.nodes a.grey new pages (λ y some c. links.each (y - 1) (allocated y some c))
+grey_kept a allocated new pages links = grey_same a.nodes a.grey new pages (λ y some c. links.each (y - 1) (allocated y c))
+
+-- and so do the links of records
+pub linked_still : (a : HeapFields) (new : Store) → AreLinked a.nodes a.grey → AreAllocated a → KeepsLinks a.nodes new → AreLinked new a.grey
+linked_still a new linked allocated links = linked_kept a.nodes new a.grey linked (λ y c. links.each (y - 1) (allocated y c))
 
 -- no part is grey, whatever the blocks say
 pub grey_stays : (a : HeapFields) → AreHeapFields a → records a.phase ≡ false → (new : Store) → grey_in new a.grey ≡ grey_in a.nodes a.grey

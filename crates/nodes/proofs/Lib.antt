@@ -11,6 +11,7 @@ pub mod Joining
 pub mod Keeping
 pub mod Evacuating
 pub mod Linked
+pub mod Linking
 pub mod Made
 pub mod Making
 pub mod Moved
@@ -19,6 +20,7 @@ pub mod Opening
 pub mod Places
 pub mod Sorting
 pub mod Representing
+pub mod Seeing
 pub mod Sweeping
 pub mod Threading
 pub mod Touching

@@ -13,6 +13,8 @@ use Rattle.heap_model.specs.Spent.{cycle_limit}
 use Rattle.heap_model.proofs.Represents.{represents_opening}
 use Rattle.nodes.specs.declared.heap_fields.HeapFields.{HeapFields}
 use Rattle.nodes.specs.HeapFields.{state_of, AreHeapFields}
+use Rattle.nodes.proofs.Linking.{none_linked}
+use Rattle.nodes.proofs.Threading.{buffers_none}
 
 no_object_fits : (id : ℕ) → fits (object_of [] id).shape ≡ true
 unfolding object_of
@@ -32,6 +34,7 @@ opening_heap a o some few row most buffers = record {
     small = small_limit (state_of a) few row most;
   };
   buffers = buffers;
+  linked = none_linked a.nodes a.grey (buffers_none a.nodes a.grey o.grey);
   empty = λ off. o.grey;
 }
 

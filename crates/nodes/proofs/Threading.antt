@@ -1,7 +1,7 @@
 -- The list of grey parts, and the buffers beside it.
 use Rattle.std.proofs.Common.{◌≡◌, ◌≢◌, ℕ, zero, suc, ◌+◌, ◌-◌, ◌*◌, ◌<◌, ◌≤◌, Bool, true, false, ◌==◌, ◌||◌, if◌then◌else◌, List, [], ◌∷◌, ◌++◌, length, get_or, set, replicate, refl, ap, sym, ◌∙◌, subst, arith}
 use Rattle.std.proofs.lemmas.Bool.{ne_eqb, eq-eqb}
-use Rattle.std.proofs.lemmas.List.{get_or-set_other, append_assoc, length-append}
+use Rattle.std.proofs.lemmas.List.{get_or-set_other, append_assoc, append-nil, length-append}
 use Rattle.arrayvec.specs.ArrayVec.{ArrayVec}
 use Rattle.heap_model.specs.Collector.{contains}
 use Rattle.heap_model.specs.Store.{Store}
@@ -89,6 +89,29 @@ between (b ∷ bs) (suc m) l =
       now = ap (λ ys. b.items ++ ys) q.now ∙ sym (append_assoc b.items q.front ((get_or bs m (record { items = [] })).items ++ q.back));
     }
 
+-- what stands in a list, and in a buffer
+in_list : (xs : List ℕ) (i : ℕ) → i < length xs → contains xs (get_or xs i 0) ≡ true
+unfolding contains
+in_list [] i l = absurd (omega (arith, l))
+in_list (x ∷ xs) zero l = rw (eq-eqb x x refl) refl
+in_list (x ∷ xs) (suc i) l = either_true (x == get_or xs i 0) (contains xs (get_or xs i 0)) (in_list xs i (omega (arith, l)))
+  where
+    either_true : (a b : Bool) → b ≡ true → (a || b) ≡ true
+    either_true true b e = refl
+    either_true false b e = e
+
+pub in_buffer : (bs : List (ArrayVec ℕ)) (m i : ℕ) → i < length (get_or bs m (record { items = [] })).items → contains (in_buffers bs) (get_or (get_or bs m (record { items = [] })).items i 0) ≡ true
+unfolding in_buffers
+in_buffer [] m i l = absurd (omega (arith, l))
+in_buffer (b ∷ bs) zero i l = let k = get_or b.items i 0 in contains-append b.items (in_buffers bs) k ∙ ap (λ c. c || contains (in_buffers bs) k) (in_list b.items i l)
+in_buffer (b ∷ bs) (suc m) i l =
+    let k = get_or (get_or bs m (record { items = [] })).items i 0 in
+    contains-append b.items (in_buffers bs) k ∙ either_true (contains b.items k) (contains (in_buffers bs) k) (in_buffer bs m i l)
+  where
+    either_true : (a b : Bool) → b ≡ true → (a || b) ≡ true
+    either_true true b e = refl
+    either_true false b e = e
+
 pub no_records : (n : ℕ) → in_buffers (replicate n (record { items = [] })) ≡ []
 unfolding in_buffers
 no_records zero = refl
@@ -137,6 +160,15 @@ module _ (s : Store) (g : GreySet) where
       left true b e = e
       left false b e = refl
 
+  -- a record is grey
+  pub record_grey : (m i : ℕ) → i < length (buffer_of g m) → contains (grey_in s g) (get_or (buffer_of g m) i 0) ≡ true
+  record_grey m i l =
+      let k = get_or (buffer_of g m) i 0 in contains_grey k ∙ ap (λ b. contains linked k || b) (in_buffer g.buffers m i l) ∙ or_true (contains linked k)
+    where
+      or_true : (a : Bool) → (a || true) ≡ true
+      or_true true = refl
+      or_true false = refl
+
   -- where the links of the grey parts stay, the same parts are grey
   pub grey_same : (new : Store) → length new.pages ≡ length s.pages → ((y : ℕ) → y ≢ 0 → contains (grey_in s g) y ≡ true → get_or new.words (y - 1 + 3) 0 ≡ get_or s.words (y - 1 + 3) 0) → grey_in new g ≡ grey_in s g
   unfolding grey_in
@@ -171,11 +203,10 @@ module _ (s : Store) (g : GreySet) where
   unfolding grey_in sorted
   grey_none first buffers = ap (λ x. sorted (linked_from s.words most x ++ in_buffers g.buffers)) first ∙ ap (λ xs. sorted (xs ++ in_buffers g.buffers)) (linked_none s.words most) ∙ ap sorted buffers
 
-  -- a part comes first in the list
-  pub threaded : (words : List ℕ) (x : ℕ) → x ≢ 0 → words ≡ set s.words (x - 1 + 3) g.first → get_or words (x - 1 + 3) 0 ≡ g.first → contains (grey_in s g) x ≡ false → length (grey_in s g) < most
-      → grey_in (record { pages = s.pages; words = words }) (record g { first = x }) ≡ inserted x (grey_in s g)
+  -- a part whose link names the first of the list comes first in it
+  pub comes_first : (x : ℕ) → x ≢ 0 → get_or s.words (x - 1 + 3) 0 ≡ g.first → length (grey_in s g) < most → grey_in s (record g { first = x }) ≡ inserted x (grey_in s g)
   unfolding grey_in sorted
-  threaded words x some is here fresh few = ap (λ xs. sorted (xs ++ in_buffers g.buffers)) list
+  comes_first x some here few = ap (λ xs. sorted (xs ++ in_buffers g.buffers)) list
     where
       more : most ≡ suc (most - 1)
       more = omega (arith, few)
@@ -183,17 +214,11 @@ module _ (s : Store) (g : GreySet) where
       less : length (linked_from s.words (suc (most - 1)) g.first) ≤ most - 1
       less = subst (λ n. length (linked_from s.words n g.first) ≤ most - 1) more (omega (arith, few, length_grey))
 
-      other : (y : ℕ) → y ≢ 0 → contains (linked_from s.words (most - 1) g.first) y ≡ true → get_or words (y - 1 + 3) 0 ≡ get_or s.words (y - 1 + 3) 0
-      other y there c =
-          let all : contains linked y ≡ true = ap (λ n. contains (linked_from s.words n g.first) y) more ∙ ap (λ xs. contains xs y) (sym (linked_less s.words (most - 1) g.first less)) ∙ c in
-          let apart : y ≢ x = λ e. absurd (let t : true ≡ false = sym (subst (λ z. contains linked z ≡ true) e all) ∙ not_linked x fresh in cc) in
-          ap (λ w. get_or w (y - 1 + 3) 0) is ∙ get_or-set_other s.words (x - 1 + 3) (y - 1 + 3) g.first 0 (λ e. apart (omega (arith, e, there, some)))
-
-      list : linked_from words most x ≡ x ∷ linked
+      list : linked_from s.words most x ≡ x ∷ linked
       list =
-          ap (λ n. linked_from words n x) more ∙ linked_first words (most - 1) x some
-          ∙ ap (λ y. x ∷ linked_from words (most - 1) y) here
-          ∙ ap (λ ys. x ∷ ys) (linked_same s.words words (most - 1) g.first other ∙ linked_less s.words (most - 1) g.first less ∙ ap (λ n. linked_from s.words n g.first) (sym more))
+          ap (λ n. linked_from s.words n x) more ∙ linked_first s.words (most - 1) x some
+          ∙ ap (λ y. x ∷ linked_from s.words (most - 1) y) here
+          ∙ ap (λ ys. x ∷ ys) (linked_less s.words (most - 1) g.first less ∙ ap (λ n. linked_from s.words n g.first) (sym more))
 
   -- the first part of the list is taken
   pub taken : g.first ≢ 0 → length (grey_in s g) < most → grey_in s g ≡ inserted g.first (grey_in s (record g { first = get_or s.words (g.first - 1 + 3) 0 }))
@@ -218,15 +243,41 @@ module _ (s : Store) (g : GreySet) where
     unfolding grey_in
     same_buffer = ap (λ xs. sorted (linked ++ xs)) (q.after (buffer_of g m) ∙ sym q.now)
 
-    -- with another record
-    pub buffered : (items : List ℕ) (x : ℕ) → grey_in s (with_buffer g m (items ++ x ∷ [])) ≡ inserted x (grey_in s (with_buffer g m items))
+    -- with another record between those before it and those after it
+    buffered_between : (before after : List ℕ) (x : ℕ) → grey_in s (with_buffer g m (before ++ x ∷ after)) ≡ inserted x (grey_in s (with_buffer g m (before ++ after)))
     unfolding grey_in
-    buffered items x =
-        ap (λ xs. sorted (linked ++ xs)) (q.after (items ++ x ∷ []))
-        ∙ ap sorted (ap (λ xs. linked ++ (q.front ++ xs)) (append_assoc items (x ∷ []) q.back) ∙ regroup (x ∷ q.back))
-        ∙ sorted_middle ((linked ++ q.front) ++ items) q.back x
-        ∙ ap (λ xs. inserted x (sorted xs)) (sym (regroup q.back))
-        ∙ ap (λ xs. inserted x (sorted (linked ++ xs))) (sym (q.after items))
+    buffered_between before after x =
+        ap (λ xs. sorted (linked ++ xs)) (q.after (before ++ x ∷ after))
+        ∙ ap sorted (regroup (x ∷ after))
+        ∙ sorted_middle ((linked ++ q.front) ++ before) (after ++ q.back) x
+        ∙ ap (λ xs. inserted x (sorted xs)) (sym (regroup after))
+        ∙ ap (λ xs. inserted x (sorted (linked ++ xs))) (sym (q.after (before ++ after)))
       where
-        regroup : (ys : List ℕ) → linked ++ (q.front ++ (items ++ ys)) ≡ ((linked ++ q.front) ++ items) ++ ys
-        regroup ys = sym (append_assoc linked q.front (items ++ ys)) ∙ sym (append_assoc (linked ++ q.front) items ys)
+        regroup : (ys : List ℕ) → linked ++ (q.front ++ ((before ++ ys) ++ q.back)) ≡ ((linked ++ q.front) ++ before) ++ (ys ++ q.back)
+        regroup ys =
+            ap (λ xs. linked ++ (q.front ++ xs)) (append_assoc before ys q.back)
+            ∙ sym (append_assoc linked q.front (before ++ (ys ++ q.back))) ∙ sym (append_assoc (linked ++ q.front) before (ys ++ q.back))
+
+    -- with another record after the last
+    pub buffered : (items : List ℕ) (x : ℕ) → grey_in s (with_buffer g m (items ++ x ∷ [])) ≡ inserted x (grey_in s (with_buffer g m items))
+    buffered items x = buffered_between items [] x ∙ ap (λ xs. inserted x (grey_in s (with_buffer g m xs))) (append-nil items)
+
+    -- and before the first
+    pub buffered_first : (x : ℕ) (items : List ℕ) → grey_in s (with_buffer g m (x ∷ items)) ≡ inserted x (grey_in s (with_buffer g m items))
+    buffered_first x items = buffered_between [] items x
+
+module _ (s : Store) (g : GreySet) (words : List ℕ) (x : ℕ) (some : x ≢ 0) where
+  -- where the link of a part that isn't grey is written, the same parts are grey
+  pub link_written : (link : ℕ) → words ≡ set s.words (x - 1 + 3) link → contains (grey_in s g) x ≡ false → grey_in (record { pages = s.pages; words = words }) g ≡ grey_in s g
+  link_written link is fresh =
+      grey_same s g (record { pages = s.pages; words = words }) refl
+      (λ y there c.
+      let apart : y ≢ x = λ e. absurd (let t : true ≡ false = sym (subst (λ z. contains (grey_in s g) z ≡ true) e c) ∙ fresh in cc) in
+      ap (λ w. get_or w (y - 1 + 3) 0) is ∙ get_or-set_other s.words (x - 1 + 3) (y - 1 + 3) link 0 (λ e. apart (omega (arith, e, there, some))))
+
+  -- a part comes first in the list
+  pub threaded : words ≡ set s.words (x - 1 + 3) g.first → get_or words (x - 1 + 3) 0 ≡ g.first → contains (grey_in s g) x ≡ false → length (grey_in s g) < 2048 * length s.pages
+      → grey_in (record { pages = s.pages; words = words }) (record g { first = x }) ≡ inserted x (grey_in s g)
+  threaded is here fresh few =
+      let same = link_written g.first is fresh in
+      comes_first (record { pages = s.pages; words = words }) g x some here (subst (λ xs. length xs < 2048 * length s.pages) (sym same) few) ∙ ap (inserted x) same

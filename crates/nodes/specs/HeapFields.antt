@@ -7,7 +7,7 @@ use Rattle.heap_model.specs.Spent.{cycle_limit}
 use Rattle.heap_model.specs.Represents.{Represents}
 use Rattle.heap_model.specs.Written.{records}
 use Rattle.nodes.specs.declared.heap_fields.HeapFields.{HeapFields}
-use Rattle.nodes.specs.Grey.{grey_in}
+use Rattle.nodes.specs.Grey.{grey_in, AreLinked}
 
 -- the fields of a heap, as the heap in words
 abbrev pub state_of : HeapFields → HeapState
@@ -34,9 +34,10 @@ pub record IsHeap (h : HeapState) : Type 0 where
   pub fits : (id : ℕ) → fits (object_of present.objects id).shape ≡ true
   pub small : cycle_limit h < 2 ^ 41
 
--- What holds of the fields between two steps: they are a heap, each mutator has a buffer, and outside roots and
--- marking no part is grey.
+-- What holds of the fields between two steps: they are a heap, each mutator has a buffer, whose records are linked one
+-- to the next, and outside roots and marking no part is grey.
 pub record AreHeapFields (a : HeapFields) : Type 0 where
   pub heap : IsHeap (state_of a)
   pub buffers : length a.grey.buffers ≡ a.roots.limits.mutators
+  pub linked : AreLinked a.nodes a.grey
   pub empty : records a.phase ≡ false → grey_in a.nodes a.grey ≡ []

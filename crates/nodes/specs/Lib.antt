@@ -12,3 +12,4 @@ pub mod Acting
 pub mod Grey
 pub mod HeapFields
 pub mod GreyAllocated
+pub mod Seen

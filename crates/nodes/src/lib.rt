@@ -10,4 +10,5 @@ pub mod nodes;
 pub use grey::Grey;
 pub use heap_fields::HeapFields;
 pub use nodes::counting::Copies;
+pub use nodes::seeing::BlockView;
 pub use nodes::{Nodes, Referent};

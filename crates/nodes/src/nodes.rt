@@ -26,6 +26,7 @@ use std::marker::Model;
 mod block;
 pub mod counting;
 mod holding;
+pub mod seeing;
 
 /// What a reference names: an object, by its identity and the reference of its main copy, which is
 /// the copy's address plus one. For null both are 0.

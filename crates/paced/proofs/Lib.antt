@@ -1,3 +1,4 @@
+pub mod OneBlock
 pub mod Paths
 pub mod Pieces
 pub mod Running

@@ -15,8 +15,7 @@ use Rattle.machine.specs.declared.collector.Spent.{Spent}
 use Rattle.machine.specs.Collecting.{Begins, Spends}
 use Rattle.machine.specs.Recorded.{begin_done, quantum_done}
 use Rattle.paced.specs.declared.pacer.AbovePlan.{AbovePlan}
-use Rattle.paced.specs.Pacing.{PacerView, PacedState, PacedView, paced_by, state_of, counted, Path, KeepsPlan, MakesNothing, MayAsk, Paced, WorksFor, Pays, Calls, Counted}
-use Rattle.paced.specs.Working.{PaysUnless}
+use Rattle.paced.specs.Pacing.{PacerView, PacedState, PacedView, paced_by, state_of, counted, Path, KeepsPlan, MakesNothing, MayAsk, Paced, WorksFor, Pays, PaysUnless, Calls, Counted}
 
 -- events, and then others
 pub path_then : (Passes : PacedState → Event → Type 0) (es fs : List Event) (old mid new : PacedState) → Path Passes old es mid → Path Passes mid fs new → Path Passes old (es ++ fs) new
@@ -41,23 +40,40 @@ paced_none v = ([], refl)
 pub paced_then : (old mid new : PacedState) → Paced old mid → Paced mid new → Paced old new
 paced_then old mid new p q = (p.0 ++ q.0, path_then KeepsPlan p.0 q.0 old mid new p.1 q.1)
 
+-- words are paid for, and then a command is done that asks for them, and more events
+pub paid_path : (old mid : PacedView) (m : ℕ) (c : Command) (reply : Reply) (after : HeapState) (es : List Event) (new : PacedState) (w : Pays old (words_of (asks c)) mid) → Steps mid.heap m c reply after
+    → Path KeepsPlan (record { heap = after; counts = mid.pacer.counts }) es new → Path KeepsPlan (state_of old) (w.work ++ Command_done m c reply ∷ es) new
+paid_path old mid m c reply after es new w steps rest =
+    let before : PacedState = record { heap = mid.heap; counts = w.before } in
+    path_then KeepsPlan w.work (Command_done m c reply ∷ es) (state_of old) before new (work_paces _ w.work (state_of old) before w.works) (record { heap = after; counts = mid.pacer.counts }, w.may, steps, w.counts, rest)
+
+-- a command that is done after the work that pays for it
+pub call_path : (old new : PacedView) (m : ℕ) (c : Command) (reply : Reply) (w : Calls old m c (Ok reply) new) → Path KeepsPlan (state_of old) (w.2.work ++ Command_done m c reply ∷ []) (state_of new)
+call_path old new m c reply w =
+    let before : PacedState = record { heap = w.1.heap; counts = w.2.before } in
+    let counts : new.pacer.counts ≡ counted w.2.before (Command_done m c reply) = ap (λ (p : PacerView). p.counts) w.4 ∙ w.2.counts in
+    path_then KeepsPlan w.2.work (Command_done m c reply ∷ []) (state_of old) before (state_of new) (work_paces _ w.2.work (state_of old) before w.2.works) (state_of new, w.2.may, w.3, counts, refl)
+
 -- what a call does is paced
 pub calls_paced : (old new : PacedView) (m : ℕ) (c : Command) (result : Result Reply AbovePlan) → Calls old m c result new → Paced (state_of old) (state_of new)
 calls_paced old new m c (Err above) w = ([], ap state_of w.1)
-calls_paced old new m c (Ok reply) w =
-    let before : PacedState = record { heap = w.1.heap; counts = w.2.before } in
-    let counts : new.pacer.counts ≡ counted w.2.before (Command_done m c reply) = ap (λ (p : PacerView). p.counts) w.4 ∙ w.2.counts in (
-      w.2.work ++ Command_done m c reply ∷ [],
-      path_then KeepsPlan w.2.work (Command_done m c reply ∷ []) (state_of old) before (state_of new) (work_paces _ w.2.work (state_of old) before w.2.works) (state_of new, w.2.may, w.3, counts, refl),
-    )
+calls_paced old new m c (Ok reply) w = (w.2.work ++ Command_done m c reply ∷ [], call_path old new m c reply w)
+
+pub begin_path : (p q : PacerView) (old new : HeapState) (result : Result (Unit {0}) Busy) → Begins old new result → Counted p (begin_done result) q
+    → Path KeepsPlan (state_of (paced_by p old)) (begin_done result ∷ []) (state_of (paced_by q new))
+begin_path p q old new (Ok done) b k = (state_of (paced_by q new), tt, b, ap (λ (x : PacerView). x.counts) k, refl)
+begin_path p q old new (Err busy) b k = (state_of (paced_by q new), tt, b, ap (λ (x : PacerView). x.counts) k, refl)
 
 pub begin_paced : (p q : PacerView) (old new : HeapState) (result : Result (Unit {0}) Busy) → Begins old new result → Counted p (begin_done result) q → Paced (state_of (paced_by p old)) (state_of (paced_by q new))
-begin_paced p q old new (Ok done) b k = (Cycle_begun ∷ [], (state_of (paced_by q new), tt, b, ap (λ (x : PacerView). x.counts) k, refl))
-begin_paced p q old new (Err busy) b k = (Begin_refused ∷ [], (state_of (paced_by q new), tt, b, ap (λ (x : PacerView). x.counts) k, refl))
+begin_paced p q old new result b k = (begin_done result ∷ [], begin_path p q old new result b k)
+
+pub quantum_path : (p q : PacerView) (old new : HeapState) (budget : ℕ) (result : Result Spent BudgetOutOfRange) → Spends old budget new result → Counted p (quantum_done budget result) q
+    → Path KeepsPlan (state_of (paced_by p old)) (quantum_done budget result ∷ []) (state_of (paced_by q new))
+quantum_path p q old new budget (Ok spent) s k = (state_of (paced_by q new), tt, s, ap (λ (x : PacerView). x.counts) k, refl)
+quantum_path p q old new budget (Err refused) s k = (state_of (paced_by q new), tt, s, ap (λ (x : PacerView). x.counts) k, refl)
 
 pub quantum_paced : (p q : PacerView) (old new : HeapState) (budget : ℕ) (result : Result Spent BudgetOutOfRange) → Spends old budget new result → Counted p (quantum_done budget result) q → Paced (state_of (paced_by p old)) (state_of (paced_by q new))
-quantum_paced p q old new budget (Ok spent) s k = (Quantum_done budget spent.units spent.phase ∷ [], (state_of (paced_by q new), tt, s, ap (λ (x : PacerView). x.counts) k, refl))
-quantum_paced p q old new budget (Err refused) s k = (Quantum_refused budget ∷ [], (state_of (paced_by q new), tt, s, ap (λ (x : PacerView). x.counts) k, refl))
+quantum_paced p q old new budget result s k = (quantum_done budget result ∷ [], quantum_path p q old new budget result s k)
 
 -- a command that asks for too much is told so, and any other is done once its words were paid for
 pub call_told : (old new : PacedView) (words m : ℕ) (c : Command) (above : AbovePlan) → words ≡ words_of (asks c) → PaysUnless old words (Err above) new → Calls old m c (Err above) new
@@ -71,9 +87,12 @@ no_words : (c : Command) → MakesNothing c → words_of (asks c) ≡ 0
 no_words (commands.New dst shape) none = absurd none
 no_words c none = words_none (asks c) (λ k l. refl)
 
-pub other_paced : (v : PacedState) (m : ℕ) (c : Command) (reply : Reply) (after : HeapState) → MakesNothing c → Steps v.heap m c reply after → Paced v (record v { heap = after })
-other_paced v m c reply after none steps =
+pub other_path : (v : PacedState) (m : ℕ) (c : Command) (reply : Reply) (after : HeapState) → MakesNothing c → Steps v.heap m c reply after → Path KeepsPlan v (Command_done m c reply ∷ []) (record v { heap = after })
+other_path v m c reply after none steps =
     let n = no_words c none in
     let same : v.counts.words ≡ v.counts.words + words_of (asks c) = omega (arith, n) in
     let may : MayAsk v (words_of (asks c)) = record { cycle = λ some. absurd (omega (arith, n, some)); quanta = λ some on. absurd (omega (arith, n, some)) } in
-    (Command_done m c reply ∷ [], (record v { heap = after }, may, steps, ap (λ w. record v.counts { words = w }) same, refl))
+    (record v { heap = after }, may, steps, ap (λ w. record v.counts { words = w }) same, refl)
+
+pub other_paced : (v : PacedState) (m : ℕ) (c : Command) (reply : Reply) (after : HeapState) → MakesNothing c → Steps v.heap m c reply after → Paced v (record v { heap = after })
+other_paced v m c reply after none steps = (Command_done m c reply ∷ [], other_path v m c reply after none steps)

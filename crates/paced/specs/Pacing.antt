@@ -4,6 +4,9 @@ use Rattle.graph_heap.specs.Graph.{Graph}
 use Rattle.graph_heap.specs.declared.command.Command.{Command}
 use Rattle.graph_heap.specs.declared.command.Command.TheVariants as commands
 use Rattle.graph_heap.specs.declared.command.Reply.{Reply}
+use Rattle.graph_heap.specs.declared.command.Shape.{Shape}
+use Rattle.graph_heap.specs.Shape.{fits}
+use Rattle.size_classes.specs.Need.{needed}
 use Rattle.heap_model.specs.declared.phase.Phase.TheVariants as phases
 use Rattle.heap_model.specs.State.{HeapState}
 use Rattle.heap_model.specs.Action.{begun}
@@ -126,6 +129,15 @@ pub record Pays (old : PacedView) (words : ℕ) (new : PacedView) : Type 0 where
   pub counts : new.pacer.counts ≡ record before { words = before.words + words }
   pub figures : new.pacer.figures ≡ worked old.pacer.figures work
   pub agrees : (g : Graph) → Agrees old.heap g → Agrees new.heap g
+
+-- the words of the blocks that an object of a shape needs, or none where the shape is too large
+abbrev pub shape_words : Shape → ℕ
+shape_words shape = words_of (λ class. if fits shape then needed shape class else 0)
+
+-- words are paid for, unless they are more than the plan has for a whole cycle: then nothing is done
+abbrev pub PaysUnless : PacedView → ℕ → Result (Unit {0}) AbovePlan → PacedView → Type 0
+PaysUnless old words (Err above) new = (old.pacer.counts.plan.cycle_words < words) × (new ≡ old)
+PaysUnless old words (Ok paid) new = (words ≤ old.pacer.counts.plan.cycle_words) × Pays old words new
 
 -- A command that asks for more words than the plan has for a whole cycle is told so, and nothing is done. Any other is
 -- done once its words were paid for, and gets its reply.

@@ -1,5 +1,5 @@
 -- How the collector works for words, seen from within the crate.
-use Rattle.std.specs.Prelude.{◌≡◌, ◌≢◌, ℕ, ◌+◌, ◌-◌, ◌<◌, ◌≤◌, Bool, true, false, ◌==◌, if◌then◌else◌, Result, Ok, Err, List}
+use Rattle.std.specs.Prelude.{◌≡◌, ◌≢◌, ℕ, ◌+◌, ◌-◌, Bool, true, false, ◌==◌, if◌then◌else◌, List}
 use Rattle.graph_heap.specs.Graph.{Graph}
 use Rattle.heap_model.specs.declared.phase.Phase.TheVariants as phases
 use Rattle.heap_model.specs.State.{HeapState}
@@ -8,8 +8,7 @@ use Rattle.heap_model.specs.Event.{Event, Cycle_begun, Quantum_done, quanta_in}
 use Rattle.heap_model.specs.ReachedFrom.{cycles_in}
 use Rattle.heap_model.specs.Spent.{cycle_limit}
 use Rattle.space.specs.Pace.{in_cycle}
-use Rattle.paced.specs.declared.pacer.AbovePlan.{AbovePlan}
-use Rattle.paced.specs.Pacing.{PacedState, PacedView, saturated, counted, DoesOn, Path, WorksFor, Pays}
+use Rattle.paced.specs.Pacing.{PacedState, saturated, counted, DoesOn, Path, WorksFor}
 
 -- each graph heap with which the heap agreed is one with which it agrees
 abbrev pub KeepsAgreeing : HeapState → HeapState → Type 0
@@ -42,8 +41,3 @@ pub record HasWorked (words : ℕ) (old now : PacedState) (quanta cycles : ℕ) 
   pub quanta_done : quanta ≡ saturated (quanta_in work)
   pub cycles_begun : cycles ≡ saturated (cycles_in work)
   pub plan : now.counts.plan ≡ old.counts.plan
-
--- words are paid for, unless they are more than the plan has for a whole cycle: then nothing is done
-abbrev pub PaysUnless : PacedView → ℕ → Result (Unit {0}) AbovePlan → PacedView → Type 0
-PaysUnless old words (Err above) new = (old.pacer.counts.plan.cycle_words < words) × (new ≡ old)
-PaysUnless old words (Ok paid) new = (words ≤ old.pacer.counts.plan.cycle_words) × Pays old words new

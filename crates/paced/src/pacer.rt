@@ -7,9 +7,9 @@ ghost use Rattle.heap_model.specs.Spent.{cycle_limit};
 ghost use Rattle.space.specs.Pace.{in_cycle};
 ghost use Rattle.machine.specs.Collecting.{Begins, Spends};
 ghost use Rattle.machine.specs.Recorded.{begin_done, quantum_done};
-ghost use Rattle.paced.specs.Pacing.{paced_by, state_of, MayAsk, Paced, Calls, Counted};
+ghost use Rattle.paced.specs.Pacing.{paced_by, state_of, shape_words, MayAsk, Paced, PaysUnless, Calls, Counted};
 ghost use Rattle.paced.specs.Rooms.{first_pacer};
-ghost use Rattle.paced.specs.Working.{KeepsAgreeing, DoesPiece, PaysUnless, work_left};
+ghost use Rattle.paced.specs.Working.{KeepsAgreeing, DoesPiece, work_left};
 
 use crate::asking::{words_asked, words_of_shape};
 use crate::figures::Figures;
@@ -228,6 +228,16 @@ impl Pacer {
     {
         self.pay(heap, words_of_shape(&shape))?;
         Ok(heap.make(mutator, dst, shape))
+    }
+
+    /// Has the collector work as much as the plan wants for a new object of this shape, and no more, and counts its words:
+    /// what `make` does before it makes the object, for a caller that makes it on the heap then. Where it has more words
+    /// than a whole cycle has, nothing is done.
+    pub fn pay_for(&mut self, heap: &mut Heap, shape: Shape) -> Result<(), AbovePlan>
+        ensures { PaysUnless (paced_by self.old heap.old) (shape_words shape) result (paced_by self.new heap.new) }
+    {
+        let words = words_of_shape(&shape);
+        self.pay(heap, words)
     }
 
     /// Begins a cycle, sooner than the plan wants it: what is live is then to be within the flow. Refused while one is

@@ -323,6 +323,13 @@ thread_step old words new page class i first size e low some t is long =
     (threads_more old words new (2048 * page) class (i - 1) first (subst (λ n. Threads old words (2048 * page) (size_of class) (blocks_in class) n first) back t) (subst (λ n. 4 ≤ n) e low)
     (is ∙ ap (λ n. set (set words n free_mark) (n + 3) first) same) long)
 
+-- the block before one
+one_less : (at size m block : ℕ) → block ≡ at + (m + 1) * size → (size ≤ block) × (block - size ≡ at + m * size)
+one_less at size m block is = (omega (arith, is), omega (arith, is))
+
+pub block_before : (at size i block : ℕ) → 0 < i → block ≡ at + i * size → (size ≤ block) × (block - size ≡ at + (i - 1) * size)
+block_before at size i block some is = one_less at size (i - 1) block (subst (λ n. block ≡ at + n * size) (omega (arith, some)) is)
+
 -- a block is allocated by its first word
 pub flag_by : (words : List ℕ) (page class size i word : ℕ) (b : Bool) → size ≡ size_of class → i < blocks_in class → word ≡ get_or words (2048 * page + i * size) 0 → not (eqb word 18446744073709551615) ≡ b
     → slice_get (flags_of words (2048 * page) class) i ≡ Some b

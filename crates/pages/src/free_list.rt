@@ -1,4 +1,5 @@
-//! One page's list of free blocks: word 0 of a free block says that it is one, and word 3 names the next.
+//! One page's list of free blocks: word 0 of a free block says that it is one, and word 3 names the next. Loops over
+//! blocks are lent the arena's words once, as one row.
 ghost use Rattle.std.specs.Prelude.{◌≡◌, ℕ, ◌+◌, ◌-◌, ◌<◌, ◌≤◌, ◌*◌, List, Option, length, slice_get, slice_set, slice_index, replicate, true, false, Some, IfSome, IsNone};
 ghost use Rattle.size_classes.specs.declared.class.TheConstants.{CLASSES};
 ghost use Rattle.size_classes.specs.Sizes.{size_of, blocks_in};
@@ -11,6 +12,7 @@ ghost use Rattle.pages.specs.declared.page.PageRow.{PageRow as Row};
 
 use crate::page::PageRow;
 use headers::Arena;
+use headers::block::{self, forward_of, set_forward, set_link};
 use size_classes::Class;
 
 /// Takes the first free block off a page's list, and answers its address: it is allocated, and forwards to
@@ -40,35 +42,55 @@ pub fn pop(arena: &mut Arena, page: usize, row: &mut PageRow) -> usize
 
 /// Says of a block that it is free, and names the next free one.
 #[inline(always)]
-fn link_free(arena: &mut Arena, block: usize, next: u64)
-    requires { block + 3 < length arena.old.words }
-    ensures words { arena.new.words ≡ slice_set (slice_set arena.old.words block free_mark) (block + 3) next }
-    ensures pages { arena.new.pages ≡ arena.old.pages }
+fn link_free(words: &mut [u64], block: usize, next: u64)
+    requires { block + 3 < length words.old }
+    ensures { words.new ≡ slice_set (slice_set words.old block free_mark) (block + 3) next }
 {
-    arena.set_forward(block, u64::MAX);
-    arena.set_link(block, next);
+    set_forward(words, block, u64::MAX);
+    set_link(words, block, next);
 }
 
 /// Puts an allocated block on a page's list: it is free.
 #[inline(always)]
-fn push(arena: &mut Arena, page: usize, row: &mut PageRow, index: usize)
+fn push(words: &mut [u64], page: usize, row: &mut PageRow, index: usize)
     requires page { page < 1048576 }
-    requires within { 2048 * page + 2048 ≤ length arena.old.words }
-    requires chain { IsFreeList arena.old.words (2048 * page) row.old.class row.old.first row.old.allocated }
-    requires allocated { slice_get (flags_of arena.old.words (2048 * page) row.old.class) index ≡ Some true }
-    ensures flags { flags_of arena.new.words (2048 * page) row.old.class
-        ≡ slice_set (flags_of arena.old.words (2048 * page) row.old.class) index false }
-    ensures chain { IsFreeList arena.new.words (2048 * page) row.old.class row.new.first (row.old.allocated - 1) }
+    requires within { 2048 * page + 2048 ≤ length words.old }
+    requires chain { IsFreeList words.old (2048 * page) row.old.class row.old.first row.old.allocated }
+    requires allocated { slice_get (flags_of words.old (2048 * page) row.old.class) index ≡ Some true }
+    ensures flags { flags_of words.new (2048 * page) row.old.class
+        ≡ slice_set (flags_of words.old (2048 * page) row.old.class) index false }
+    ensures chain { IsFreeList words.new (2048 * page) row.old.class row.new.first (row.old.allocated - 1) }
     ensures some { 0 < row.old.allocated }
     ensures row { row.new ≡ record row.old { first = row.new.first; allocated = row.old.allocated - 1 } }
-    ensures words { arena.new.words ≡ slice_set (slice_set arena.old.words (2048 * page + index * size_of row.old.class) free_mark)
+    ensures words { words.new ≡ slice_set (slice_set words.old (2048 * page + index * size_of row.old.class) free_mark)
         (2048 * page + index * size_of row.old.class + 3) row.old.first }
-    ensures pages { arena.new.pages ≡ arena.old.pages }
 {
     let block = 2048 * page + index * row.class.size() as usize;
-    link_free(arena, block, row.first);
+    link_free(words, block, row.first);
     row.first = block as u64 + 1;
     row.allocated -= 1;
+}
+
+/// Links all blocks of a page of a class, each to the next and the last to none. Answers the link to the first.
+#[inline(always)]
+fn link_in(words: &mut [u64], page: usize, class: Class) -> u64
+    requires page { page < 1048576 }
+    requires within { 2048 * page + 2048 ≤ length words.old }
+    ensures flags { flags_of words.new (2048 * page) class ≡ replicate (blocks_in class) false }
+    ensures chain { IsFreeList words.new (2048 * page) class result 0 }
+    ensures words { SameOutside words.old words.new (2048 * page) }
+{
+    let size = class.size() as usize;
+    let mut i = class.blocks_per_page() as usize;
+    let mut block = 2048 * page + i * size;
+    let mut first = 0;
+    while i > 0 {
+        i -= 1;
+        block -= size;
+        link_free(words, block, first);
+        first = block as u64 + 1;
+    }
+    first
 }
 
 /// Puts all blocks of a page that gets a class on its list.
@@ -88,15 +110,8 @@ pub fn link_blocks(arena: &mut Arena, page: usize, class: Class) -> PageRow
     ensures pages { arena.new.pages ≡ arena.old.pages }
     ensures known { class < CLASSES }
 {
-    let size = class.size() as usize;
-    let mut first = 0;
-    let mut i = class.blocks_per_page() as usize;
-    while i > 0 {
-        i -= 1;
-        let block = 2048 * page + i * size;
-        link_free(arena, block, first);
-        first = block as u64 + 1;
-    }
+    let words = arena.words_mut();
+    let first = link_in(words, page, class);
     PageRow {
         class,
         first,
@@ -107,30 +122,41 @@ pub fn link_blocks(arena: &mut Arena, page: usize, class: Class) -> PageRow
 }
 
 /// Whether a block of a page of a class is allocated.
+#[inline(always)]
+fn is_taken_in(words: &[u64], page: usize, class: Class, index: usize) -> bool
+    requires page { page < 1048576 }
+    requires within { 2048 * page + 2048 ≤ length words.now }
+    requires block { index < blocks_in class }
+    ensures { slice_get (flags_of words.now (2048 * page) class) index ≡ Some result }
+{
+    let block = 2048 * page + index * class.size() as usize;
+    forward_of(words, block) != u64::MAX
+}
+
+/// The same in the arena.
 pub fn is_taken(arena: &Arena, page: usize, class: Class, index: usize) -> bool
     requires page { page < 1048576 }
     requires within { 2048 * page + 2048 ≤ length arena.now.words }
     requires block { index < blocks_in class }
     ensures { slice_get (flags_of arena.now.words (2048 * page) class) index ≡ Some result }
 {
-    let block = 2048 * page + index * class.size() as usize;
-    arena.forward_of(block) != u64::MAX
+    is_taken_in(arena.words(), page, class, index)
 }
 
 /// Whether a block of a page of a class isn't allocated, or has a colour.
 #[inline(always)]
-fn stays(arena: &Arena, page: usize, class: Class, index: usize, colour: bool) -> bool
+fn stays(words: &[u64], page: usize, class: Class, index: usize, colour: bool) -> bool
     requires page { page < 1048576 }
-    requires within { 2048 * page + 2048 ≤ length arena.now.words }
+    requires within { 2048 * page + 2048 ≤ length words.now }
     requires block { index < blocks_in class }
-    ensures stays { result ≡ true → slice_get (flags_of arena.now.words (2048 * page) class) index ≡ Some true
-        → has_colour arena.now.words colour (address_of class page index) ≡ true }
-    ensures goes { result ≡ false → (slice_get (flags_of arena.now.words (2048 * page) class) index ≡ Some true)
-        × (has_colour arena.now.words colour (address_of class page index) ≡ false) }
+    ensures stays { result ≡ true → slice_get (flags_of words.now (2048 * page) class) index ≡ Some true
+        → has_colour words.now colour (address_of class page index) ≡ true }
+    ensures goes { result ≡ false → (slice_get (flags_of words.now (2048 * page) class) index ≡ Some true)
+        × (has_colour words.now colour (address_of class page index) ≡ false) }
 {
-    if is_taken(arena, page, class, index) {
+    if is_taken_in(words, page, class, index) {
         let block = 2048 * page + index * class.size() as usize;
-        return arena.has_colour(block, colour);
+        return block::has_colour(words, block, colour);
     }
     true
 }
@@ -138,27 +164,55 @@ fn stays(arena: &Arena, page: usize, class: Class, index: usize, colour: bool) -
 /// Looks at a block of a page: where it is allocated and hasn't the colour, it goes on the page's list. Whatever
 /// records of other pages the page's record and the words go together with, they still do.
 #[inline(always)]
-fn look(arena: &mut Arena, page: usize, row: &mut PageRow, index: usize, colour: bool)
+fn look(words: &mut [u64], page: usize, row: &mut PageRow, index: usize, colour: bool)
     requires page { page < 1048576 }
-    requires within { 2048 * page + 2048 ≤ length arena.old.words }
-    requires chain { IsFreeList arena.old.words (2048 * page) row.old.class row.old.first row.old.allocated }
+    requires within { 2048 * page + 2048 ≤ length words.old }
+    requires chain { IsFreeList words.old (2048 * page) row.old.class row.old.first row.old.allocated }
     requires block { index < blocks_in row.old.class }
-    ensures len { length arena.new.words ≡ length arena.old.words }
-    ensures pages { arena.new.pages ≡ arena.old.pages }
-    ensures chain { IsFreeList arena.new.words (2048 * page) row.old.class row.new.first row.new.allocated }
+    ensures len { length words.new ≡ length words.old }
+    ensures chain { IsFreeList words.new (2048 * page) row.old.class row.new.first row.new.allocated }
     ensures row { row.new ≡ record row.old { first = row.new.first; allocated = row.new.allocated } }
-    ensures together { (rows : List (Option Row)) → Together rows arena.old.words → row_at rows page ≡ Some row.old
-        → Together (slice_set rows page (Some row.new)) arena.new.words }
-    ensures looks { (rows : List (Option Row)) → Together rows arena.old.words → row_at rows page ≡ Some row.old
-        → LooksAt colour page index (joined rows arena.old.words) (joined (slice_set rows page (Some row.new)) arena.new.words) }
+    ensures together { (rows : List (Option Row)) → Together rows words.old → row_at rows page ≡ Some row.old
+        → Together (slice_set rows page (Some row.new)) words.new }
+    ensures looks { (rows : List (Option Row)) → Together rows words.old → row_at rows page ≡ Some row.old
+        → LooksAt colour page index (joined rows words.old) (joined (slice_set rows page (Some row.new)) words.new) }
 {
-    if stays(arena, page, row.class, index, colour) {
+    if stays(words, page, row.class, index, colour) {
         return;
     }
-    push(arena, page, row, index);
+    push(words, page, row, index);
 }
 
-/// Looks at `count` blocks of a page in a row, from one of them on.
+/// Looks at `count` blocks of a page in a row, from one of them on. Answers the page's record as it is then.
+#[inline(always)]
+fn sweep_in(
+    words: &mut [u64],
+    page: usize,
+    row: PageRow,
+    from: usize,
+    count: usize,
+    colour: bool,
+) -> PageRow
+    requires page { page < 1048576 }
+    requires within { 2048 * page + 2048 ≤ length words.old }
+    requires chain { IsFreeList words.old (2048 * page) row.class row.first row.allocated }
+    requires blocks { from + count ≤ blocks_in row.class }
+    ensures row { result ≡ record row { first = result.first; allocated = result.allocated } }
+    ensures together { (rows : List (Option Row)) → Together rows words.old → row_at rows page ≡ Some row
+        → Together (slice_set rows page (Some result)) words.new }
+    ensures looks { (rows : List (Option Row)) → Together rows words.old → row_at rows page ≡ Some row
+        → Looks colour page from (joined rows words.old) count (joined (slice_set rows page (Some result)) words.new) }
+{
+    let mut swept = row;
+    let mut looked = 0;
+    while looked < count {
+        look(words, page, &mut swept, from + looked, colour);
+        looked += 1;
+    }
+    swept
+}
+
+/// The same in the arena: the record becomes what it is then.
 pub fn sweep(
     arena: &mut Arena,
     page: usize,
@@ -178,11 +232,7 @@ pub fn sweep(
         → Looks colour page from (joined rows arena.old.words) count (joined (slice_set rows page (Some row.new)) arena.new.words) }
     ensures pages { arena.new.pages ≡ arena.old.pages }
 {
-    let mut looked = 0;
-    while looked < count {
-        look(arena, page, row, from + looked, colour);
-        looked += 1;
-    }
+    *row = sweep_in(arena.words_mut(), page, *row, from, count, colour);
 }
 
 /// The first allocated block of a page of a class from a place on.

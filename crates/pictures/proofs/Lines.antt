@@ -1,10 +1,10 @@
 -- Lines that are written one behind the other.
-use Rattle.std.proofs.Common.{◌≡◌, ℕ, ◌+◌, ◌<◌, List, [], ◌∷◌, ◌++◌, length, drop, get_or, map, ap, ◌∙◌, sym, refl}
+use Rattle.std.proofs.Common.{◌≡◌, ℕ, ◌+◌, ◌<◌, List, [], ◌∷◌, ◌++◌, length, drop, get_or, map, Option, None, Some, ap, ◌∙◌, sym, append_assoc, refl}
 use Rattle.std.proofs.lemmas.Grind.{flat_map-append}
 use Rattle.std.proofs.lemmas.List.{drop_more, map-append}
 use Rattle.trace.specs.Lines.{text_of}
 use Rattle.pictures.specs.Elements.{element_line, svg_text}
-use Rattle.pictures.specs.Lines.{each_from, lines_text}
+use Rattle.pictures.specs.Lines.{each_from, lines_text, present}
 use Rattle.pictures.specs.Statements.{statement_line, dot_text}
 use Rattle.pictures.proofs.Parts.{IsText}
 
@@ -30,3 +30,16 @@ pub each_on : {A B : Type 0} (drawn : ℕ → A → List B) (xs : List A) (d x :
     → each_from drawn k (drop k xs) ≡ here ++ each_from drawn (k + 1) (drop (k + 1) xs)
 each_on drawn xs d x k here l is e =
     ap (each_from drawn k) (next_on xs d x k l is) ∙ ap (λ ys. ys ++ each_from drawn (k + 1) (drop (k + 1) xs)) (sym e)
+
+-- the next of some items, if it is there, and those behind it
+present_cons : {A : Type 0} (x : Option A) (xs : List (Option A)) → present (x ∷ xs) ≡ present (x ∷ []) ++ present xs
+present_cons None xs = refl
+present_cons (Some x) xs = refl
+
+pub present_on : {A : Type 0} (xs : List (Option A)) (d x : Option A) (k : ℕ) → k < length xs → x ≡ get_or xs k d → present (drop k xs) ≡ present (x ∷ []) ++ present (drop (k + 1) xs)
+present_on xs d x k l is = ap present (next_on xs d x k l is) ∙ present_cons x (drop (k + 1) xs)
+
+-- what is put behind a name and its number, of which all three are put one behind the other
+pub put_behind : (t1 t2 t3 x y n z : List ℕ) → t1 ≡ x → t2 ≡ t1 ++ (y ++ n) → t3 ≡ t2 ++ z → t3 ≡ x ++ y ++ n ++ z
+put_behind t1 t2 t3 x y n z first then last =
+    last ∙ ap (λ t. t ++ z) (then ∙ ap (λ t. t ++ (y ++ n)) first ∙ sym (append_assoc x y n))

@@ -3,28 +3,21 @@ use Rattle.std.proofs.Common.{◌≡◌, ◌≤◌, ◌⊎◌, inl, inr, set, su
 use Rattle.std.proofs.lemmas.List.{drop_more, get_or-set_same, get_or-set_other}
 use Rattle.pictures.specs.declared.axis.Axis.{Axis}
 use Rattle.pictures.specs.declared.colour.Colour.{Colour}
-use Rattle.pictures.specs.declared.colour.Colour.TheVariants.{Blue}
+use Rattle.pictures.specs.declared.colour.Colour.TheVariants.{Blue, Green, Yellow, Orange, Purple}
 use Rattle.pictures.specs.declared.element.Element.{Element}
 use Rattle.pictures.specs.declared.element.Element.TheVariants.{Rectangle, Veil}
 use Rattle.pictures.specs.declared.over_time.Scale.{Scale}
 use Rattle.pictures.specs.declared.sample.Sample.{Sample}
+use Rattle.pictures.specs.Joining.{joined}
 use Rattle.pictures.specs.Axes.{step_of, line_x, height_of, axis_number, numbers_from}
-use Rattle.pictures.specs.OverTime.{phase_colour, objects_dash, next_x, sample_marks, samples_from}
+use Rattle.pictures.specs.Lines.{present}
+use Rattle.pictures.specs.OverTime.{more_pages, phase_band, objects_dash, next_x, sample_marks, samples_from}
 
 -- what is drawn of a sample, in parts
-abbrev pub drawn : Scale → (x width high : ℕ) → Colour → Option ℕ → List Element
-drawn scale x width high colour objects = Veil x (250 - high) width high 46 Blue ∷ Rectangle x 454 width 14 colour ∷ objects_dash x width scale.objects objects
-
-pub marks_are : (scale : Scale) (s : Sample) (end x width high : ℕ) (colour : Colour) (objects : Option ℕ) → x ≡ line_x s.line scale.lines → width ≡ end - line_x s.line scale.lines → high ≡ height_of s.pages_in_use scale.pages
-    → colour ≡ phase_colour s.phase → s.objects ≡ objects → drawn scale x width high colour objects ≡ sample_marks scale s end
-marks_are scale s end x width high colour objects at wide tall is has =
-    rw (at, wide, tall, is) (ap (drawn scale (line_x s.line scale.lines) (end - line_x s.line scale.lines) (height_of s.pages_in_use scale.pages) (phase_colour s.phase)) (sym has))
-
-pub marked_some : (Part : List Element → Type 0) (scale : Scale) (s : Sample) (end x width high : ℕ) (colour : Colour) (n dash : ℕ) → Part (Veil x (250 - high) width high 46 Blue ∷ Rectangle x 454 width 14 colour ∷ Rectangle x (439 - dash) width 3 Blue ∷ [])
-    → x ≡ line_x s.line scale.lines → width ≡ end - line_x s.line scale.lines → high ≡ height_of s.pages_in_use scale.pages → colour ≡ phase_colour s.phase → s.objects ≡ Some n → dash ≡ height_of n scale.objects → Part (sample_marks scale s end)
-marked_some Part scale s end x width high colour n dash p at wide tall is has dashed =
-    subst Part (marks_are scale s end x width high colour (Some n) at wide tall is has)
-    (subst (λ h. Part (Veil x (250 - high) width high 46 Blue ∷ Rectangle x 454 width 14 colour ∷ Rectangle x (439 - h) width 3 Blue ∷ [])) dashed p)
+pub marks_are : (scale : Scale) (s : Sample) (end x width low high : ℕ) → x ≡ line_x s.line scale.lines → width ≡ end - line_x s.line scale.lines → low ≡ height_of s.least_pages scale.pages → high ≡ height_of s.most_pages scale.pages
+    → Some (Veil x (250 - low) width low 46 Blue) ∷ more_pages x width low high ∷ phase_band x width 0 s.phases.roots Yellow ∷ phase_band x width 1 s.phases.marking Orange ∷ phase_band x width 2 s.phases.sweeping Green ∷ phase_band x width 3 s.phases.moving Purple ∷ objects_dash x width scale.objects s.objects ∷ []
+    ≡ sample_marks scale s end
+marks_are scale s end x width low high at wide least most = rw (at, wide, least, most) refl
 
 -- the first item behind some
 get_drop : {A : Type 0} (k : ℕ) (xs : List A) → slice_get (drop k xs) 0 ≡ slice_get xs k
@@ -34,10 +27,10 @@ get_drop (suc k) (x ∷ xs) = get_drop k xs
 
 -- the next sample, and those behind it
 pub samples_on : (scale : Scale) (samples : List Sample) (next : Option Sample) (d : Sample) (k : ℕ) → k < length samples → next ≡ slice_get samples (k + 1)
-    → samples_from scale (drop k samples) ≡ sample_marks scale (get_or samples k d) (next_x scale.lines next) ++ samples_from scale (drop (k + 1) samples)
+    → samples_from scale (drop k samples) ≡ present (sample_marks scale (get_or samples k d) (next_x scale.lines next)) ++ samples_from scale (drop (k + 1) samples)
 samples_on scale samples next d k l is =
     ap (samples_from scale) (drop_more samples k d l)
-    ∙ ap (λ o. sample_marks scale (get_or samples k d) (next_x scale.lines o) ++ samples_from scale (drop (k + 1) samples)) (get_drop (k + 1) samples ∙ sym is)
+    ∙ ap (λ o. present (sample_marks scale (get_or samples k d) (next_x scale.lines o)) ++ samples_from scale (drop (k + 1) samples)) (get_drop (k + 1) samples ∙ sym is)
 
 -- the next number of an axis, and those behind it
 pub numbers_on : (axis : Axis) (greatest count left k : ℕ) → count ≡ suc left
@@ -54,14 +47,14 @@ numbers_by axis greatest left k step here some is draws =
 less_or_at : (a b : ℕ) → a < b + 1 → (a < b) ⊎ (a ≡ b)
 less_or_at a b h = grind arith
 
--- one place more has every second sample
-pub evens_on : (xs ys : List Sample) (n : ℕ) (v : Sample) → n < length xs → ((k : ℕ) (d : Sample) → k < n → get_or xs k d ≡ get_or ys (2 * k) d) → ((d : Sample) → v ≡ get_or ys (2 * n) d)
-    → (k : ℕ) (d : Sample) → k < n + 1 → get_or (set xs n v) k d ≡ get_or ys (2 * k) d
-evens_on xs ys n v within before is k d l = elim (less_or_at k n l) [
+-- one place more has a sample of two
+pub pairs_on : (xs ys : List Sample) (n : ℕ) (v : Sample) → n < length xs → ((k : ℕ) (d : Sample) → k < n → get_or xs k d ≡ joined (get_or ys (2 * k) d) (get_or ys (2 * k + 1) d)) → ((d : Sample) → v ≡ joined (get_or ys (2 * n) d) (get_or ys (2 * n + 1) d))
+    → (k : ℕ) (d : Sample) → k < n + 1 → get_or (set xs n v) k d ≡ joined (get_or ys (2 * k) d) (get_or ys (2 * k + 1) d)
+pairs_on xs ys n v within before is k d l = elim (less_or_at k n l) [
   | inl less ↦ get_or-set_other xs n k v d (λ e. omega (arith, e, less)) ∙ before k d less
-  | inr e ↦ subst (λ i. get_or (set xs n v) i d ≡ get_or ys (2 * i) d) (sym e) (get_or-set_same xs n v d within ∙ is d)
+  | inr e ↦ subst (λ i. get_or (set xs n v) i d ≡ joined (get_or ys (2 * i) d) (get_or ys (2 * i + 1) d)) (sym e) (get_or-set_same xs n v d within ∙ is d)
 ]
 
 -- and those behind it have their own
-pub evens_rest : (xs ys : List Sample) (n : ℕ) (v : Sample) → ((k : ℕ) (d : Sample) → n ≤ k → get_or xs k d ≡ get_or ys k d) → (k : ℕ) (d : Sample) → n + 1 ≤ k → get_or (set xs n v) k d ≡ get_or ys k d
-evens_rest xs ys n v rest k d l = get_or-set_other xs n k v d (λ e. omega (arith, e, l)) ∙ rest k d (omega (arith, l))
+pub pairs_rest : (xs ys : List Sample) (n : ℕ) (v : Sample) → ((k : ℕ) (d : Sample) → n ≤ k → get_or xs k d ≡ get_or ys k d) → (k : ℕ) (d : Sample) → n + 1 ≤ k → get_or (set xs n v) k d ≡ get_or ys k d
+pairs_rest xs ys n v rest k d l = get_or-set_other xs n k v d (λ e. omega (arith, e, l)) ∙ rest k d (omega (arith, l))

@@ -8,7 +8,7 @@ use Rattle.pictures.specs.declared.caption.Caption.TheVariants as captions
 use Rattle.pictures.specs.declared.element.Anchor.{Anchor}
 use Rattle.pictures.specs.declared.element.Anchor.TheVariants as anchors
 use Rattle.pictures.specs.declared.element.Element.{Element}
-use Rattle.pictures.specs.declared.element.Element.TheVariants.{Open, Title, Group, Rectangle, Veil, Text, Line, Dot, GroupEnd, Close}
+use Rattle.pictures.specs.declared.element.Element.TheVariants.{Open, Title, Group, Rectangle, Veil, Text, Line, Dot, GroupEnd, Path, VeilPath, Stroke, PathEnd, Close}
 use Rattle.pictures.specs.Captions.{caption_text}
 use Rattle.pictures.specs.Lines.{lines_text}
 
@@ -91,6 +91,24 @@ dot_line x y fill =
     codes "<circle cx='" ++ decimal x ++ codes "' cy='" ++ decimal y ++ codes "' r='4' shape-rendering='auto' fill='"
     ++ colour_code fill ++ codes "'/>"
 
+-- the colour of a path's lines, behind which these follow
+abbrev pub path_colour : Colour → List ℕ
+path_colour stroke = codes "' stroke='" ++ colour_code stroke ++ codes "' d='"
+
+-- the beginning of a path of level lines of this width: these follow, each on a line of text
+abbrev pub path_line : ℕ → Colour → List ℕ
+path_line width stroke = codes "<path stroke-width='" ++ decimal width ++ path_colour stroke
+
+-- the beginning of a path through which one sees, as dense as this many hundredths say, in two digits
+abbrev pub veil_path_line : ℕ → ℕ → Colour → List ℕ
+veil_path_line width density stroke =
+    codes "<path stroke-width='" ++ decimal width ++ codes "' stroke-opacity='0." ++ decimal density
+    ++ path_colour stroke
+
+-- a level line of a path, by its left end and its length
+abbrev pub stroke_line : ℕ → ℕ → ℕ → List ℕ
+stroke_line x y long = codes "M" ++ decimal x ++ codes " " ++ decimal y ++ codes "h" ++ decimal long
+
 -- an element as a line of text
 abbrev pub element_line : Element → List ℕ
 element_line (Open width height) = open_line width height
@@ -102,6 +120,10 @@ element_line (Text x y size anchor caption) = text_line x y size anchor caption
 element_line (Line x1 y1 x2 y2 stroke) = line_line x1 y1 x2 y2 stroke
 element_line (Dot x y fill) = dot_line x y fill
 element_line GroupEnd = codes "</g>"
+element_line (Path width stroke) = path_line width stroke
+element_line (VeilPath width density stroke) = veil_path_line width density stroke
+element_line (Stroke x y long) = stroke_line x y long
+element_line PathEnd = codes "'/>"
 element_line Close = codes "</svg>"
 
 -- the text of elements: each is a line, with LF (byte 10) after it

@@ -7,6 +7,7 @@ pub mod PageMap
 pub mod Utilisation
 pub mod OverTime
 pub mod Squares
+pub mod Joining
 pub mod Samples
 pub mod Sampler
 pub mod Taking
@@ -18,3 +19,4 @@ pub mod Distance
 pub mod Search
 pub mod Route
 pub mod PathText
+pub mod Events

@@ -1,13 +1,12 @@
 -- The picture of a heap over a run, from samples of it.
-use Rattle.std.specs.Prelude.{ℕ, ◌-◌, min, Bool, if◌then◌else◌, List, [], ◌∷◌, ◌++◌, length, take, slice_get, Option, Some, None}
-use Rattle.heap_model.specs.declared.phase.Phase.{Phase}
+use Rattle.std.specs.Prelude.{ℕ, ◌+◌, ◌-◌, ◌*◌, min, nat_lt, Bool, if◌then◌else◌, List, [], ◌∷◌, ◌++◌, length, take, slice_get, option_map, Option, Some, None}
 use Rattle.heap_model.specs.Pages.{free_pages}
 use Rattle.heap_model.specs.State.{HeapState}
 use Rattle.nodes.specs.Copies.{copies_in}
 use Rattle.pictures.specs.declared.axis.Axis.TheVariants.{Lines, Pages, Objects as Objects_axis}
 use Rattle.pictures.specs.declared.colour.Colour.{Colour}
-use Rattle.pictures.specs.declared.colour.Colour.TheVariants.{Pale, Sky, Blue, Green, Yellow, Orange, Purple}
-use Rattle.pictures.specs.declared.caption.Words.TheVariants.{HeapOverTime, PagesInUse, Objects, LinesOfTrace, PhaseName, Idle, Roots, Marking, Sweeping, Moving}
+use Rattle.pictures.specs.declared.colour.Colour.TheVariants.{Sky, Blue, Green, Yellow, Orange, Purple}
+use Rattle.pictures.specs.declared.caption.Words.TheVariants.{HeapOverTime, PagesInUse, LeastPages, MostPages, Objects, LinesOfTrace, PhaseName, Roots, Marking, Sweeping, Moving}
 use Rattle.pictures.specs.declared.caption.Caption.TheVariants.{Words}
 use Rattle.pictures.specs.declared.element.Anchor.TheVariants.{Start, Middle, End}
 use Rattle.pictures.specs.declared.element.Element.{Element}
@@ -16,36 +15,44 @@ use Rattle.pictures.specs.declared.sample.Sample.{Sample}
 use Rattle.pictures.specs.declared.over_time.Scale.{Scale}
 use Rattle.pictures.specs.declared.over_time.TheConstants.{MOST_SAMPLES}
 use Rattle.pictures.specs.Axes.{line_x, height_of, axis_numbers}
-use Rattle.pictures.specs.Captions.{by_phase}
+use Rattle.pictures.specs.Joining.{phases_of}
 use Rattle.pictures.specs.Elements.{svg_text}
 use Rattle.pictures.specs.Frame.{frame, swatch, meaning}
+use Rattle.pictures.specs.Lines.{present}
 
--- what a heap is like after a line: its phase, its pages in use and, where they are counted, its objects
+-- what a heap is like after a line: the phase of its cycle, its pages in use and, where they are counted, its objects
 abbrev pub sample_of : HeapState → ℕ → Bool → Sample
 sample_of h line counted = record {
   line = line;
-  phase = h.phase;
-  pages_in_use = length h.store.pages - free_pages h.store.pages;
+  phases = phases_of h.phase;
+  least_pages = length h.store.pages - free_pages h.store.pages;
+  most_pages = length h.store.pages - free_pages h.store.pages;
   objects = if counted then Some (copies_in h.store).objects else None;
 }
 
--- the colour of a phase
-abbrev pub phase_colour : Phase → Colour
-phase_colour phase = by_phase Pale Yellow Orange Green Purple phase
+-- the pages in use between the least and the most, where they aren't as high: the bar goes on, half as dense
+abbrev pub more_pages : ℕ → ℕ → ℕ → ℕ → Option Element
+more_pages x width low high = if nat_lt low high then Some (Veil x (250 - high) width (high - low) 23 Blue) else None
+
+-- a phase that there was, as a band in a row of its own
+abbrev pub phase_band : ℕ → ℕ → ℕ → Bool → Colour → Option Element
+phase_band x width row there colour = if there then Some (Rectangle x (454 + 4 * row) width 4 colour) else None
 
 -- the objects that were counted, as a dash of this width
-abbrev pub objects_dash : ℕ → ℕ → ℕ → Option ℕ → List Element
-objects_dash x width greatest None = []
-objects_dash x width greatest (Some n) = Rectangle x (439 - height_of n greatest) width 3 Blue ∷ []
+abbrev pub objects_dash : ℕ → ℕ → ℕ → Option ℕ → Option Element
+objects_dash x width greatest objects = option_map (λ n. Rectangle x (439 - height_of n greatest) width 3 Blue) objects
 
--- what is drawn of a sample from its line to an end: its pages in use as a bar, its phase as a band, and its objects
-abbrev pub sample_marks : Scale → Sample → ℕ → List Element
+-- What is drawn of a sample from its line to an end, where it is there: its least pages in use as a bar, and those up to
+-- the most; the phases of its cycles; and its objects.
+abbrev pub sample_marks : Scale → Sample → ℕ → List (Option Element)
 sample_marks scale s end =
     let x = line_x s.line scale.lines in
     let width = end - x in
-    Veil x (250 - height_of s.pages_in_use scale.pages) width (height_of s.pages_in_use scale.pages) 46 Blue
-    ∷ Rectangle x 454 width 14 (phase_colour s.phase)
-    ∷ objects_dash x width scale.objects s.objects
+    let low = height_of s.least_pages scale.pages in
+    Some (Veil x (250 - low) width low 46 Blue) ∷ more_pages x width low (height_of s.most_pages scale.pages)
+    ∷ phase_band x width 0 s.phases.roots Yellow ∷ phase_band x width 1 s.phases.marking Orange
+    ∷ phase_band x width 2 s.phases.sweeping Green ∷ phase_band x width 3 s.phases.moving Purple
+    ∷ objects_dash x width scale.objects s.objects ∷ []
 
 -- where the next sample begins, or, after the last one, the picture ends
 abbrev pub next_x : ℕ → Option Sample → ℕ
@@ -56,7 +63,7 @@ next_x lines (Some s) = line_x s.line lines
 abbrev pub samples_from : Scale → List Sample → List Element
 samples_from scale [] = []
 samples_from scale (s ∷ later) =
-    sample_marks scale s (next_x scale.lines (slice_get later 0)) ++ samples_from scale later
+    present (sample_marks scale s (next_x scale.lines (slice_get later 0))) ++ samples_from scale later
 
 -- the numbers of the axes, and the samples
 abbrev pub time_shown : Scale → List Sample → List Element
@@ -71,8 +78,8 @@ time_frame = frame 1200 528 HeapOverTime
 -- what the colours mean, and the names of the axes; the objects stand in the legend as the dash that they are
 abbrev pub time_axes : List Element
 time_axes =
-    swatch 0 Sky ∷ meaning 0 PagesInUse ∷ Rectangle 150 54 14 3 Blue ∷ meaning 1 Objects
-    ∷ swatch 2 Pale ∷ meaning 2 Idle
+    swatch 0 Sky ∷ meaning 0 LeastPages ∷ Veil 150 48 14 14 23 Blue ∷ meaning 1 MostPages
+    ∷ Rectangle 280 54 14 3 Blue ∷ meaning 2 Objects
     ∷ swatch 3 Yellow ∷ meaning 3 Roots ∷ swatch 4 Orange ∷ meaning 4 Marking ∷ swatch 5 Green ∷ meaning 5 Sweeping
     ∷ swatch 6 Purple ∷ meaning 6 Moving
     ∷ Text 20 86 11 Start (Words PagesInUse) ∷ Text 20 276 11 Start (Words Objects)

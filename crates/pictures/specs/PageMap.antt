@@ -1,5 +1,5 @@
 -- The map of the pages of a heap: a square for each page in use, in rows, with bars of free pages between them.
-use Rattle.std.specs.Prelude.{ℕ, zero, suc, ◌+◌, ◌-◌, ◌*◌, ◌%◌, min, ◌==◌, not, ◌&&◌, if◌then◌else◌, List, [], ◌∷◌, ◌++◌, length, Option, Some, None}
+use Rattle.std.specs.Prelude.{ℕ, zero, suc, Bool, true, false, ◌+◌, ◌-◌, ◌*◌, ◌%◌, min, ◌==◌, not, ◌&&◌, if◌then◌else◌, List, [], ◌∷◌, ◌++◌, length, Option, Some, None, option_to_list}
 use Rattle.std.specs.Int.{div_ceil}
 use Rattle.size_classes.specs.Sizes.{size_of, blocks_in}
 use Rattle.heap_model.specs.Pages.{Page, page_at, is_free, free_pages}
@@ -9,12 +9,17 @@ use Rattle.pages.specs.View.{view_of}
 use Rattle.pages.specs.declared.view.PageView.{PageView}
 use Rattle.pictures.specs.declared.colour.Colour.{Colour}
 use Rattle.pictures.specs.declared.colour.Colour.TheVariants.{Pale, Blue, Yellow, Orange}
-use Rattle.pictures.specs.declared.caption.Words.TheVariants.{PagesOfTheHeap, EvacuatingPage, TargetPage, FreePage, FewAllocated, AllAllocated, NumberOfWords}
+use Rattle.pictures.specs.declared.caption.Words.{Words}
+use Rattle.pictures.specs.declared.caption.Words.TheVariants.{PagesOfTheHeap, EvacuatingPage, TargetPage, FreePage, FewAllocated, AllAllocated, NumberOfWords, NoNumbers}
 use Rattle.pictures.specs.declared.caption.Caption.TheVariants.{Number, OldCopies, Heap, Free, Page as Page_caption}
 use Rattle.pictures.specs.declared.element.Anchor.TheVariants.{Start, End}
 use Rattle.pictures.specs.declared.element.Element.{Element}
-use Rattle.pictures.specs.declared.element.Element.TheVariants.{Group, Rectangle, Veil, Text, GroupEnd, Close}
+use Rattle.pictures.specs.declared.element.Element.TheVariants.{Group, Rectangle, Veil, Text, GroupEnd, Path, VeilPath, Stroke, PathEnd, Close}
+use Rattle.pictures.specs.declared.layers.Layer.{Layer}
+use Rattle.pictures.specs.declared.layers.Layer.TheVariants.{Free as Free_layer, InUse, Target, Evacuating}
+use Rattle.pictures.specs.declared.layers.TheConstants.{LAYERS}
 use Rattle.pictures.specs.declared.squares.Squares.{Squares}
+use Rattle.pictures.specs.declared.squares.Squares.TheVariants.{Small}
 use Rattle.pictures.specs.Captions.{phase_words}
 use Rattle.pictures.specs.Elements.{svg_text}
 use Rattle.pictures.specs.Frame.{frame, swatch, meaning}
@@ -84,9 +89,78 @@ square squares number bar page =
 abbrev pub drawn_of : Squares → List (Option Page) → ℕ → List Element
 drawn_of squares pages number = square squares number (bar_length squares pages number) (view_of (page_at pages number))
 
+-- whether a layer of a map of small squares has a page in use: by how dense its colour is, or by its marks
+abbrev pub has : Layer → PageView → Bool
+has Free_layer v = false
+has (InUse density) v = density_of v == density
+has Target v = v.is_target
+has Evacuating v = v.evacuating
+
+-- whether it has free pages
+abbrev pub has_free : Layer → Bool
+has_free Free_layer = true
+has_free layer = false
+
+-- How wide the lines of a layer are: as high as a square, or as the band of a mark. They go through the middle of it,
+-- this far below the upper edge of the square.
+abbrev pub middle_of : Layer → ℕ
+middle_of Free_layer = 5
+middle_of (InUse density) = 5
+middle_of Target = 9
+middle_of Evacuating = 9
+
+-- the beginning of the path of a layer
+abbrev pub layer_path : Layer → Element
+layer_path Free_layer = Path 10 Pale
+layer_path (InUse density) = VeilPath 10 density Blue
+layer_path Target = Path 2 Yellow
+layer_path Evacuating = Path 2 Orange
+
+-- the line that a layer has of a page, if any: over a bar of free pages, or over a page in use
+abbrev pub stroke_of : Layer → ℕ → ℕ → ℕ → Option PageView → Option Element
+stroke_of layer x y bar None =
+    if has_free layer && not (bar == 0) then Some (Stroke x (y + middle_of layer) (18 * bar - 1)) else None
+stroke_of layer x y bar (Some v) = if has layer v then Some (Stroke x (y + middle_of layer) 17) else None
+
+-- the line that it has of the page of this number, of all pages
+abbrev pub stroke_at : Layer → List (Option Page) → ℕ → List Element
+stroke_at layer pages number = option_to_list (stroke_of layer (square_x Small number) (square_y Small number)
+    (bar_length Small pages number) (view_of (page_at pages number)))
+
+-- the lines that it has of all pages
+abbrev pub strokes : List (Option Page) → Layer → List Element
+strokes pages layer = each_from (λ number page. stroke_at layer pages number) 0 pages
+
+-- a layer: one path for all pages that it has
+abbrev pub layer_shown : List (Option Page) → Layer → List Element
+layer_shown pages layer = layer_path layer ∷ (strokes pages layer ++ PathEnd ∷ [])
+
+-- the numbers of the pages whose small squares are the first of a row
+abbrev pub row_numbers : List (Option Page) → List Element
+row_numbers pages =
+    each_from (λ number page. row_number (square_x Small number) (square_y Small number) 1 number) 0 pages
+
+-- these layers, one over the other
+abbrev pub layers_shown : List (Option Page) → List Layer → List Element
+layers_shown pages layers = each_from (λ place layer. layer_shown pages layer) 0 layers
+
+-- squares of all pages, each by itself
+abbrev pub each_shown : Squares → List (Option Page) → List Element
+each_shown squares pages = each_from (λ number page. drawn_of squares pages number) 0 pages
+
+-- the squares of all pages: each by itself, with its numbers; or, where they are small, layer by layer, without these
+abbrev pub squares_shown : Squares → List (Option Page) → List Element
+squares_shown Small pages = row_numbers pages ++ layers_shown pages LAYERS
+squares_shown squares pages = each_shown squares pages
+
 -- what stands around the map of pages
 abbrev pub map_frame : HeapState → List Element
 map_frame h = frame 1200 (map_height (length h.store.pages)) PagesOfTheHeap
+
+-- what is said of the numbers in squares: small ones have none
+abbrev pub number_words : Squares → Words
+number_words Small = NoNumbers
+number_words squares = NumberOfWords
 
 -- the phase, the units spent in the cycle that runs, or else in the last one, all pages, and the free ones; what
 -- the colours mean; and how many old copies there are
@@ -96,14 +170,12 @@ map_told h =
     ∷ swatch 0 Pale ∷ meaning 0 FreePage
     ∷ Veil 150 48 14 14 40 Blue ∷ meaning 1 FewAllocated ∷ Veil 280 48 14 14 85 Blue ∷ meaning 2 AllAllocated
     ∷ Rectangle 410 57 14 5 Orange ∷ meaning 3 EvacuatingPage ∷ Rectangle 540 57 14 5 Yellow ∷ meaning 4 TargetPage
-    ∷ meaning 5 NumberOfWords
+    ∷ meaning 5 (number_words (squares_for (length h.store.pages)))
     ∷ Text 1180 60 12 End (OldCopies (copies_in h.store).old) ∷ []
 
 -- the squares of all pages, as large as may be
 abbrev pub map_shown : HeapState → List Element
-map_shown h =
-    let squares = squares_for (length h.store.pages) in
-    each_from (λ number page. drawn_of squares h.store.pages number) 0 h.store.pages
+map_shown h = squares_shown (squares_for (length h.store.pages)) h.store.pages
 
 -- the elements of the picture of pages
 abbrev pub page_map : HeapState → List Element

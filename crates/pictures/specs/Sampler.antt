@@ -1,25 +1,37 @@
 -- What a sampler holds along a run.
-use Rattle.std.specs.Prelude.{◌≡◌, ℕ, ◌+◌, ◌*◌, ◌^◌, ◌<◌, ◌≤◌, List, ◌∷◌, length}
+use Rattle.std.specs.Prelude.{◌≡◌, ℕ, ◌+◌, ◌*◌, ◌/◌, ◌^◌, ◌<◌, ◌≤◌, List, ◌∷◌, ◌++◌, length, get_or}
 use Rattle.pictures.specs.declared.sample.Sample.{Sample}
 use Rattle.pictures.specs.declared.over_time.TheConstants.{MOST_SAMPLES}
 use Rattle.pictures.specs.declared.timeline.sampler.Sampler.{Sampler}
 use Rattle.player.specs.Observing.{Moment, moment, Run}
-use Rattle.pictures.specs.Samples.{AreSamples}
+use Rattle.pictures.specs.Joining.{joined}
+use Rattle.pictures.specs.Samples.{IsSampleOf, AreSamples}
 
--- These are the samples of moments, and `since` moments came after the last that was sampled. No smaller power of two
--- would do as the stride of this many moments.
-pub record AreTaken (moments : List Moment) (samples : List Sample) (stride since : ℕ) : Type 0 where
-  pub each : AreSamples moments stride samples
-  pub few : length samples ≤ MOST_SAMPLES
+-- each sample is of the moments of two
+pub record ArePairs (old new : List Sample) : Type 0 where
+  pub length_is : length new ≡ length old / 2
+  pub each : (i : ℕ) (d : Sample) → i < length new
+      → get_or new i d ≡ joined (get_or old (2 * i) d) (get_or old (2 * i + 1) d)
+
+-- These are the samples of moments, and behind them the last one, of `since` moments. No smaller power of two would do
+-- as the stride of this many moments.
+pub record AreTaken (moments : List Moment) (samples : List Sample) (last : Sample) (stride since : ℕ) : Type 0 where
+  pub before : List Moment
+  pub latest : List Moment
+  pub moments_are : moments ≡ before ++ latest
+  pub each : AreSamples before stride samples
+  pub long : length before ≡ length samples * stride
+  pub last_is : IsSampleOf latest last
+  pub count : length latest ≡ since
+  pub short : since ≤ stride
+  pub few : length samples < MOST_SAMPLES
   pub exponent : ℕ
   pub power : stride ≡ 2 ^ exponent
   pub least : (k : ℕ) → k < exponent → MOST_SAMPLES * 2 ^ k < length moments
-  pub short : since < stride
-  pub count : length moments + stride ≡ length samples * stride + since + 1
 
 -- a sampler along these moments
 abbrev pub IsAlong : List Moment → Sampler → Type 0
-IsAlong moments s = AreTaken moments s.samples.items.items s.samples.stride s.since
+IsAlong moments s = AreTaken moments s.samples.items.items s.last s.samples.stride s.since
 
 -- a sampler that has seen a run: it is along the moment before the first line and those after lines of events
 abbrev pub HasSampled : Run → Sampler → Type 0

@@ -1,15 +1,18 @@
 -- Samples of a heap along a run.
-use Rattle.std.specs.Prelude.{◌≡◌, ℕ, ◌*◌, ◌^◌, ◌<◌, ◌≤◌, max, List, ◌∷◌, slice_get, option_map, unwrap_or}
+use Rattle.std.specs.Prelude.{◌≡◌, ℕ, ◌*◌, ◌^◌, ◌<◌, ◌≤◌, max, List, [], ◌∷◌, length, take, drop, unwrap_or}
 use Rattle.std.specs.List.{fold}
 use Rattle.heap_model.specs.Phases.{is_idle}
 use Rattle.heap_model.specs.Event.{Event}
+use Rattle.heap_model.specs.State.{HeapState}
 use Rattle.trace.specs.declared.version.Version.{Version}
 use Rattle.trace.specs.LinesProcessed.{LinesDone}
+use Rattle.trace.specs.TextLine.{Text}
 use Rattle.player.specs.declared.style.Style.TheVariants.{Nothing}
 use Rattle.player.specs.Playing.{Session, PlaysLine}
 use Rattle.player.specs.Observing.{Moment, moment, moments_in, brought}
 use Rattle.pictures.specs.declared.sample.Sample.{Sample}
 use Rattle.pictures.specs.declared.over_time.TheConstants.{MOST_SAMPLES}
+use Rattle.pictures.specs.Joining.{joined}
 use Rattle.pictures.specs.OverTime.{sample_of}
 
 -- a sample of a moment: the objects are counted where no cycle runs
@@ -21,10 +24,17 @@ abbrev pub moments_along : {old new : Session} {lines : List (List ℕ)} {versio
     → LinesDone (PlaysLine Nothing) old lines version events new → List Moment
 moments_along {old} done = moment 0 old.player.course.heap ∷ brought moments_in done
 
--- sample i is of the moment at place i * stride, as far as there are moments
+-- a sample of moments, one after the other, of which there is one at least
+abbrev pub IsSampleOf : List Moment → Sample → Type 0
+IsSampleOf [] s = ⊥
+IsSampleOf (m ∷ later) s = s ≡ fold (λ so_far next. joined so_far (sampled next)) (sampled m) later
+
+-- The first sample is of as many of the first moments as the stride says, the next of as many behind these, and so on;
+-- the last may be of fewer.
 abbrev pub AreSamples : List Moment → ℕ → List Sample → Type 0
-AreSamples moments stride samples =
-    (i : ℕ) → slice_get samples i ≡ option_map sampled (slice_get moments (i * stride))
+AreSamples moments stride [] = moments ≡ []
+AreSamples moments stride (s ∷ later) =
+    IsSampleOf (take stride moments) s × AreSamples (drop stride moments) stride later
 
 -- the most objects of any sample whose objects were counted
 abbrev pub greatest_objects : List Sample → ℕ

@@ -1,7 +1,7 @@
 //! The elements of a picture. All lengths are in units of the picture, with x from the left and y from
 //! the top.
 ghost use Rattle.std.specs.Prelude.{◌≡◌, ◌≤◌, ◌<◌, ◌+◌, ◌++◌, length, take, codes, decimal};
-ghost use Rattle.pictures.specs.Elements.{colour_code, open_line, title_text, box_text, veil_line, anchor_text, point_text, text_line, element_line};
+ghost use Rattle.pictures.specs.Elements.{colour_code, open_line, title_text, box_text, veil_line, anchor_text, point_text, text_line, path_colour, path_line, veil_path_line, stroke_line, element_line};
 
 use crate::caption::{Caption, Words, put_caption};
 use crate::colour::Colour;
@@ -37,6 +37,14 @@ pub enum Element {
     Dot(u32, u32, Colour),
     /// The end of elements that belong together.
     GroupEnd,
+    /// The beginning of a path of level lines of this width, which follow.
+    Path(u32, Colour),
+    /// The same, through which one sees: behind its width stands how dense it is, in hundredths from 10 to 99.
+    VeilPath(u32, u32, Colour),
+    /// A level line of a path: its left end, and its length.
+    Stroke(u32, u32, u32),
+    /// The end of a path.
+    PathEnd,
     /// The end of a picture.
     Close,
 }
@@ -127,6 +135,48 @@ fn put_veil(
     put_colour(out, end, b"' fill='", fill)
 }
 
+/// Puts a colour after its name, and begins the lines of a path.
+fn put_path_colour(out: &mut [u8], at: usize, stroke: Colour) -> usize
+    requires { at + 40 ≤ length out.old }
+    ensures text { take result out.new ≡ take at out.old ++ path_colour stroke }
+    ensures place { result ≤ at + 40 }
+{
+    let end = put(out, at, b"' stroke='");
+    let end = put(out, end, stroke.code());
+    put(out, end, b"' d='")
+}
+
+/// Puts the beginning of a path of lines of this width.
+fn put_path(out: &mut [u8], width: u32, stroke: Colour) -> usize
+    requires { 256 ≤ length out.old }
+    ensures text { take result out.new ≡ path_line width stroke }
+    ensures place { result < 256 }
+{
+    let end = put_named(out, 0, b"<path stroke-width='", u64::from(width));
+    put_path_colour(out, end, stroke)
+}
+
+/// Puts the beginning of a path of lines of this width, through which one sees.
+fn put_veil_path(out: &mut [u8], width: u32, density: u32, stroke: Colour) -> usize
+    requires { 256 ≤ length out.old }
+    ensures text { take result out.new ≡ veil_path_line width density stroke }
+    ensures place { result < 256 }
+{
+    let end = put_named(out, 0, b"<path stroke-width='", u64::from(width));
+    let end = put_named(out, end, b"' stroke-opacity='0.", u64::from(density));
+    put_path_colour(out, end, stroke)
+}
+
+/// Puts a level line of a path.
+fn put_stroke(out: &mut [u8], x: u32, y: u32, long: u32) -> usize
+    requires { 256 ≤ length out.old }
+    ensures text { take result out.new ≡ stroke_line x y long }
+    ensures place { result < 256 }
+{
+    let end = put_two(out, 0, b"M", x, b" ", y);
+    put_named(out, end, b"h", u64::from(long))
+}
+
 /// Puts a point of the base line of a text, and the size of its letters.
 fn put_point(out: &mut [u8], x: u32, y: u32, size: u32) -> usize
     requires { 256 ≤ length out.old }
@@ -193,6 +243,12 @@ impl DocumentLine for Element {
                 put_colour(out, end, b"' r='4' shape-rendering='auto' fill='", fill)
             }
             Element::GroupEnd => put(out, 0, b"</g>"),
+            Element::Path(width, stroke) => put_path(out, width, stroke),
+            Element::VeilPath(width, density, stroke) => {
+                put_veil_path(out, width, density, stroke)
+            }
+            Element::Stroke(x, y, long) => put_stroke(out, x, y, long),
+            Element::PathEnd => put(out, 0, b"'/>"),
             Element::Close => put(out, 0, b"</svg>"),
         }
     }

@@ -5,9 +5,11 @@ mod axis;
 mod caption;
 mod colour;
 mod element;
+mod events;
 mod frame;
 pub mod graph;
 pub mod laws;
+mod layers;
 mod look;
 mod measuring;
 mod over_time;
@@ -20,11 +22,12 @@ pub mod timeline;
 mod utilisation;
 mod writing;
 
+pub use events::draw_events;
 pub use over_time::{MOST_SAMPLES, Scale, draw_time};
 pub use page_map::draw_pages;
 pub use reachability::{
     Found, Holder, Route, Search, Standing, Step, path_text, present, search, shortest_path,
 };
-pub use sample::Sample;
+pub use sample::{Phases, Sample};
 pub use share::{Share, WINDOWS};
 pub use utilisation::draw_utilisation;

@@ -1,22 +1,19 @@
-//! How phases look.
+//! How phases are named.
 ghost use Rattle.std.specs.Prelude.{◌≡◌};
 ghost use Rattle.pictures.specs.Captions.{phase_words};
-ghost use Rattle.pictures.specs.OverTime.{phase_colour};
 
 use crate::caption::Words;
-use crate::colour::Colour;
 use heap_model::phase::Phase;
 
-/// The name of a phase, and its colour.
-pub(crate) fn look_of(phase: Phase) -> (Words, Colour)
-    ensures name { result.0 ≡ phase_words phase }
-    ensures colour { result.1 ≡ phase_colour phase }
+/// The name of a phase.
+pub(crate) fn name_of(phase: Phase) -> Words
+    ensures { result ≡ phase_words phase }
 {
     match phase {
-        Phase::Idle => (Words::Idle, Colour::Pale),
-        Phase::Roots { .. } => (Words::Roots, Colour::Yellow),
-        Phase::Marking { .. } => (Words::Marking, Colour::Orange),
-        Phase::Sweeping { .. } => (Words::Sweeping, Colour::Green),
-        Phase::Moving(_) => (Words::Moving, Colour::Purple),
+        Phase::Idle => Words::Idle,
+        Phase::Roots { .. } => Words::Roots,
+        Phase::Marking { .. } => Words::Marking,
+        Phase::Sweeping { .. } => Words::Sweeping,
+        Phase::Moving(_) => Words::Moving,
     }
 }

@@ -2,6 +2,8 @@
 ghost use Rattle.std.specs.Prelude.{◌≡◌, ◌<◌, ◌≤◌, ◌+◌, ◌++◌, length, slice_get, OnOk, OnErr};
 ghost use Rattle.streams.specs.Streams.{GrowsByPart, failed};
 ghost use Rattle.pictures.specs.Elements.{svg_text};
+ghost use Rattle.pictures.specs.Lines.{present};
+ghost use Rattle.pictures.specs.OverTime as pictures;
 ghost use Rattle.pictures.specs.OverTime.{next_x, sample_marks, samples_from, time_axes, time_shown, time_chart, time_picture};
 
 use crate::axis::{Axis, height, write_axis, x_of};
@@ -9,9 +11,8 @@ use crate::caption::{Caption, Words};
 use crate::colour::Colour;
 use crate::element::{Anchor, Element};
 use crate::frame::{meaning, swatch, write_head};
-use crate::look::look_of;
 use crate::sample::Sample;
-use crate::writing::{write_line, write_lines};
+use crate::writing::{write_line, write_present};
 use streams::{Sink, WriteFailed};
 
 /// How many samples a picture has at most.
@@ -47,6 +48,60 @@ fn end_of(scale: &Scale, next: Option<Sample>) -> u32
     }
 }
 
+/// The pages in use between the least and the most, where they aren't as high.
+fn more_pages(x: u32, width: u32, low: u32, high: u32) -> Option<Element>
+    requires { high ≤ 250 }
+    ensures { result ≡ pictures.more_pages x width low high }
+{
+    if low < high {
+        Some(Element::Veil(x, 250 - high, width, high - low, 23, Colour::Blue))
+    } else {
+        None
+    }
+}
+
+/// A phase, where it was there, in a row of its own.
+fn band(x: u32, width: u32, row: u32, there: bool, colour: Colour) -> Option<Element>
+    requires { row < 4 }
+    ensures { result ≡ pictures.phase_band x width row there colour }
+{
+    if there {
+        Some(Element::Rectangle(x, 454 + 4 * row, width, 4, colour))
+    } else {
+        None
+    }
+}
+
+/// The objects, where they were counted.
+fn dash(x: u32, width: u32, greatest: u64, objects: Option<u64>) -> Option<Element>
+    ensures { result ≡ pictures.objects_dash x width greatest objects }
+{
+    match objects {
+        None => None,
+        Some(n) => Some(Element::Rectangle(x, 439 - height(n, greatest), width, 3, Colour::Blue)),
+    }
+}
+
+/// What is drawn of a sample, from its line to an end.
+fn marks(scale: &Scale, sample: &Sample, end: u32) -> [Option<Element>; 7]
+    ensures { result ≡ sample_marks scale.now sample.now end }
+{
+    let x = x_of(sample.line, scale.lines);
+    let width = end.saturating_sub(x);
+    let low = height(sample.least_pages, scale.pages);
+    let high = height(sample.most_pages, scale.pages);
+    let phases = sample.phases;
+    [
+        Some(Element::Veil(x, 250 - low, width, low, 46, Colour::Blue)),
+        more_pages(x, width, low, high),
+        band(x, width, 0, phases.roots, Colour::Yellow),
+        band(x, width, 1, phases.marking, Colour::Orange),
+        band(x, width, 2, phases.sweeping, Colour::Green),
+        band(x, width, 3, phases.moving, Colour::Purple),
+        dash(x, width, scale.objects, sample.objects),
+    ]
+}
+
 /// Writes what is drawn of a sample, before the next one.
 fn write_sample<K: Sink>(
     scale: &Scale,
@@ -55,25 +110,12 @@ fn write_sample<K: Sink>(
     sink: &mut K,
 ) -> Result<(), WriteFailed>
     ensures ok { OnOk result (K.taken sink.new
-        ≡ K.taken sink.old ++ svg_text (sample_marks scale.now sample.now (next_x scale.now.lines next))) }
+        ≡ K.taken sink.old ++ svg_text (present (sample_marks scale.now sample.now (next_x scale.now.lines next)))) }
     ensures err { OnErr result (GrowsByPart (K.taken sink.old) (K.taken sink.new)
-        (svg_text (sample_marks scale.now sample.now (next_x scale.now.lines next)))) }
+        (svg_text (present (sample_marks scale.now sample.now (next_x scale.now.lines next))))) }
     ensures cause { K.failures sink.new ≡ K.failures sink.old + failed result }
 {
-    let x = x_of(sample.line, scale.lines);
-    let width = end_of(scale, next).saturating_sub(x);
-    let high = height(sample.pages_in_use, scale.pages);
-    let pages = Element::Veil(x, 250 - high, width, high, 46, Colour::Blue);
-    let (_, colour) = look_of(sample.phase);
-    let phase = Element::Rectangle(x, 454, width, 14, colour);
-    match sample.objects {
-        None => write_lines(sink, &[pages, phase]),
-        Some(n) => {
-            let y = 439 - height(n, scale.objects);
-            let objects = Element::Rectangle(x, y, width, 3, Colour::Blue);
-            write_lines(sink, &[pages, phase, objects])
-        }
-    }
+    write_present(sink, &marks(scale, sample, end_of(scale, next)))
 }
 
 /// Writes what is drawn of samples, one beside the other.
@@ -112,11 +154,11 @@ fn axes() -> [Element; 18]
 {
     [
         swatch(0, Colour::Sky),
-        meaning(0, Words::PagesInUse),
-        Element::Rectangle(150, 54, 14, 3, Colour::Blue),
-        meaning(1, Words::Objects),
-        swatch(2, Colour::Pale),
-        meaning(2, Words::Idle),
+        meaning(0, Words::LeastPages),
+        Element::Veil(150, 48, 14, 14, 23, Colour::Blue),
+        meaning(1, Words::MostPages),
+        Element::Rectangle(280, 54, 14, 3, Colour::Blue),
+        meaning(2, Words::Objects),
         swatch(3, Colour::Yellow),
         meaning(3, Words::Roots),
         swatch(4, Colour::Orange),

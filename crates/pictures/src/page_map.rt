@@ -3,13 +3,14 @@ ghost use Rattle.std.specs.Prelude.{◌≡◌, ◌<◌, ◌≤◌, ◌+◌, ◌^
 ghost use Rattle.streams.specs.Streams.{GrowsByPart, failed};
 ghost use Rattle.pictures.specs.Elements.{svg_text};
 ghost use Rattle.pictures.specs.PageMap as maps;
-ghost use Rattle.pictures.specs.PageMap.{row_number, free_from, free_bar, density_of, mark_of, used_square, page_square, drawn_of, map_shown, map_told, pages_picture};
+ghost use Rattle.pictures.specs.PageMap.{row_number, free_from, free_bar, density_of, mark_of, used_square, page_square, drawn_of, each_shown, map_shown, map_told, pages_picture};
 
 use crate::caption::{Caption, Words};
 use crate::colour::Colour;
 use crate::element::{Anchor, Element};
 use crate::frame::{meaning, swatch, write_head};
-use crate::look::look_of;
+use crate::layers::write_small;
+use crate::look::name_of;
 use crate::squares::{Squares, height};
 use crate::writing::{write_line, write_lines};
 use machine::Heap;
@@ -17,7 +18,7 @@ use pages::PageView;
 use streams::{Sink, WriteFailed};
 
 /// Writes the number of a page that is the first of a row.
-fn write_number<K: Sink>(
+pub(crate) fn write_number<K: Sink>(
     x: u32,
     y: u32,
     scale: u32,
@@ -54,7 +55,7 @@ fn free_pages_from(heap: &Heap, number: usize, most: usize) -> usize
 }
 
 /// How many pages the bar of free pages has that begins with a page, and 0 where none begins there.
-fn bar_length(heap: &Heap, squares: Squares, number: usize) -> usize
+pub(crate) fn bar_length(heap: &Heap, squares: Squares, number: usize) -> usize
     requires { number < 1048576 }
     ensures length { result ≡ maps.bar_length squares heap.now.store.pages number }
     ensures within { result ≤ 64 }
@@ -103,7 +104,7 @@ fn write_bar<K: Sink>(
 }
 
 /// How dense the colour of a page in use is.
-fn density(page: &PageView) -> u32
+pub(crate) fn density(page: &PageView) -> u32
     requires { page.now.allocated ≤ 512 }
     ensures { result ≡ density_of page.now }
 {
@@ -199,31 +200,54 @@ fn write_square<K: Sink>(
     write_page(x, y, scale, number, bar, heap.page(number as usize), sink)
 }
 
-/// Writes the squares of all pages.
-fn write_squares<K: Sink>(heap: &Heap, sink: &mut K) -> Result<(), WriteFailed>
-    ensures ok { OnOk result (K.taken sink.new ≡ K.taken sink.old ++ svg_text (map_shown heap.now)) }
-    ensures err { OnErr result (GrowsByPart (K.taken sink.old) (K.taken sink.new) (svg_text (map_shown heap.now))) }
+/// Writes squares of all pages, each by itself.
+fn write_each<K: Sink>(heap: &Heap, squares: Squares, sink: &mut K) -> Result<(), WriteFailed>
+    ensures ok { OnOk result (K.taken sink.new
+        ≡ K.taken sink.old ++ svg_text (each_shown squares heap.now.store.pages)) }
+    ensures err { OnErr result (GrowsByPart (K.taken sink.old) (K.taken sink.new)
+        (svg_text (each_shown squares heap.now.store.pages))) }
     ensures cause { K.failures sink.new ≡ K.failures sink.old + failed result }
 {
-    let squares = Squares::for_pages(heap.pages());
     for page in 0..heap.pages() {
         write_square(heap, squares, page as u32, sink)?;
     }
     Ok(())
 }
 
+/// Writes the squares of all pages.
+fn write_squares<K: Sink>(heap: &Heap, sink: &mut K) -> Result<(), WriteFailed>
+    ensures ok { OnOk result (K.taken sink.new ≡ K.taken sink.old ++ svg_text (map_shown heap.now)) }
+    ensures err { OnErr result (GrowsByPart (K.taken sink.old) (K.taken sink.new) (svg_text (map_shown heap.now))) }
+    ensures cause { K.failures sink.new ≡ K.failures sink.old + failed result }
+{
+    match Squares::for_pages(heap.pages()) {
+        Squares::Small => write_small(heap, sink),
+        squares => write_each(heap, squares, sink),
+    }
+}
+
+/// What is said of the numbers in squares.
+fn number_words(squares: Squares) -> Words
+    ensures { result ≡ maps.number_words squares }
+{
+    match squares {
+        Squares::Small => Words::NoNumbers,
+        Squares::Large | Squares::Middle => Words::NumberOfWords,
+    }
+}
+
 /// What is said of the heap as a whole, and what the colours mean.
 fn legend(heap: &Heap) -> [Element; 13]
     ensures { result ≡ map_told heap.now }
 {
-    let (phase, _) = look_of(heap.phase());
     let summary = Caption::Heap {
-        phase,
+        phase: name_of(heap.phase()),
         units: heap.units(),
         pages: heap.pages() as u64,
         free: heap.free_pages() as u64,
     };
     let old = Caption::OldCopies(heap.copies().old as u64);
+    let numbers = number_words(Squares::for_pages(heap.pages()));
     [
         Element::Text(1180, 30, 13, Anchor::End, summary),
         swatch(0, Colour::Pale),
@@ -236,7 +260,7 @@ fn legend(heap: &Heap) -> [Element; 13]
         meaning(3, Words::EvacuatingPage),
         Element::Rectangle(540, 57, 14, 5, Colour::Yellow),
         meaning(4, Words::TargetPage),
-        meaning(5, Words::NumberOfWords),
+        meaning(5, numbers),
         Element::Text(1180, 60, 12, Anchor::End, old),
     ]
 }
@@ -248,7 +272,8 @@ fn legend(heap: &Heap) -> [Element; 13]
 /// before each row. The more of a page's blocks are allocated, the darker is its square; it tells the words of a block,
 /// and has a band of one colour where the page is evacuating, and of another where it is a target. Free pages that stand
 /// together in a row are one pale bar. Under the pointer a square shows its page's number, the words of a block, the
-/// allocated blocks of all, and its marks, and a bar the numbers of its first and its last page. It takes no memory.
+/// allocated blocks of all, and its marks, and a bar the numbers of its first and its last page. Of more than 1024 pages
+/// no square tells anything: all pages as full are one path. It takes no memory.
 /// After an error, which comes only where the sink failed, the sink has taken a beginning of the document.
 pub fn draw_pages<K: Sink>(heap: &Heap, sink: &mut K) -> Result<(), WriteFailed>
     ensures ok { OnOk result (K.taken sink.new ≡ K.taken sink.old ++ pages_picture heap.now) }

@@ -1,7 +1,7 @@
 //! Documents, written line by line.
 ghost use Rattle.std.specs.Prelude.{◌≡◌, ◌≤◌, ◌<◌, ◌+◌, ◌++◌, ◌∷◌, ℕ, List, [], length, take, OnOk, OnErr};
 ghost use Rattle.streams.specs.Streams.{GrowsByPart, failed};
-ghost use Rattle.pictures.specs.Lines.{lines_text};
+ghost use Rattle.pictures.specs.Lines.{lines_text, present};
 
 use streams::{Sink, WriteFailed};
 use trace::end_line;
@@ -41,6 +41,35 @@ pub(crate) fn write_lines<K: Sink, L: DocumentLine>(
 {
     for line in lines {
         write_line(sink, *line)?;
+    }
+    Ok(())
+}
+
+/// Writes a line, if there is one.
+fn write_if<K: Sink, L: DocumentLine>(sink: &mut K, line: Option<L>) -> Result<(), WriteFailed>
+    ensures ok { OnOk result (K.taken sink.new ≡ K.taken sink.old ++ lines_text L.line (present (line ∷ []))) }
+    ensures err { OnErr result (GrowsByPart (K.taken sink.old) (K.taken sink.new)
+        (lines_text L.line (present (line ∷ [])))) }
+    ensures cause { K.failures sink.new ≡ K.failures sink.old + failed result }
+{
+    match line {
+        Some(line) => write_line(sink, line),
+        None => Ok(()),
+    }
+}
+
+/// Writes those of some lines that are there, one after the other.
+pub(crate) fn write_present<K: Sink, L: DocumentLine>(
+    sink: &mut K,
+    lines: &[Option<L>],
+) -> Result<(), WriteFailed>
+    ensures ok { OnOk result (K.taken sink.new ≡ K.taken sink.old ++ lines_text L.line (present lines.now)) }
+    ensures err { OnErr result (GrowsByPart (K.taken sink.old) (K.taken sink.new)
+        (lines_text L.line (present lines.now))) }
+    ensures cause { K.failures sink.new ≡ K.failures sink.old + failed result }
+{
+    for line in lines {
+        write_if(sink, *line)?;
     }
     Ok(())
 }

@@ -18,7 +18,7 @@ use Rattle.trace.proofs.Handling.{Follows, AllMoved, all_moved, over_all, over_s
 use Rattle.player.specs.declared.observed.Observed.{Observed}
 use Rattle.player.specs.declared.style.Style.TheVariants.{Nothing}
 use Rattle.player.specs.New.{IsNew}
-use Rattle.player.specs.Observing.{Run, Moment, moment, moment_after, run_from, run_of, after_steps, after_line, brought, observed, LineSeen, LineObserved, TextStops, TextObserved, IsObserved, RunObserved, StopsNew}
+use Rattle.player.specs.Observing.{Run, Moment, moment, moment_after, run_from, run_of, after_steps, after_line, brought, observed, LineSeen, LineObserved, TextStops, TextObserved, IsObserved, RunObserved, RunRefused, StopsNew}
 use Rattle.player.specs.Player.{PlayerState, QuantaDue, None_yet, One_more, DoesLine, Skips, Commands, Goes_on, Spends, Ticks, entries_in}
 use Rattle.player.specs.Player as players
 use Rattle.player.specs.Playing.{Session, session, PlaysLine, StopsText, Played, is_event, says_event}
@@ -53,16 +53,25 @@ events_brought old new ls version es (One_line_more before v next es' more line 
     events_more (brought steps_in done) (steps_of text.number mid.player goes.1.0 more new'.player goes.1.2.0) ∙ ap (λ l. l ++ events_of (steps_of text.number mid.player goes.1.0 more new'.player goes.1.2.0)) (events_brought old mid before v es' done)
     ∙ ap (λ l. es' ++ l) (events_line text.number mid.player goes.1.0 more new'.player goes.1.2.0)
 
+-- another fault than want of memory is one of the text
+stops_text : (fault : PlayFault) (text : Text) (old new : PlayerState) → fault ≢ Without_memory → TextStops fault text old new → StopsText Nothing fault text (session old []) (session new [])
+stops_text fault text old new other (inl stops) = stops
+stops_text fault text old new other (inr refused) = absurd (other refused.0)
+
+-- what comes at a line
+at_line : {None There : Type 0} → (⊥ × None) ⊎ There → There
+at_line (inl none) = absurd none.0
+at_line (inr there) = there
+
 module _ {O : Type 0} (HasSeen : Run → O → Type 0) where
   -- a fault at a line that was read is one at its text
   pub text_stops : (Refuses : Type 0) (text : Text) (line : Line) (old new : Observed O) (fault : PlayFault) → LineRead text (Ok (Some line)) → LineObserved HasSeen Refuses line text.number old new (Err fault) → TextStops fault text old.player new.player
-  text_stops Refuses text line old new Without_memory read stops = tt
-  text_stops Refuses text line old new (At_line k why) read (inl stops) = inr (line, read.1, stops Nothing [])
-  text_stops Refuses text line old new Read read (inl stops) = inr (line, read.1, stops Nothing [])
-  text_stops Refuses text line old new Write read (inl stops) = inr (line, read.1, stops Nothing [])
-  text_stops Refuses text line old new (At_line k why) read (inr none) = absurd (let z = none.0 in cc)
-  text_stops Refuses text line old new Read read (inr none) = absurd (let z = none.0 in cc)
-  text_stops Refuses text line old new Write read (inr none) = absurd (let z = none.0 in cc)
+  text_stops Refuses text line old new fault read (inl stops) = inl (inr (line, read.1, stops Nothing []))
+  text_stops Refuses text line old new fault read (inr refused) = inr (refused.0, line, read.1, refused.2)
+
+  -- where memory is refused to the observer after a line, the line is done
+  pub refused_after : (text : Text) (line : Line) (old : Observed O) (p : PlayerState) (mid : O) → LineRead text (Ok (Some line)) → LineSeen HasSeen text.number line old (observed p mid) → TextStops Without_memory text old.player p
+  refused_after text line old p mid read seen = inr (refl, line, read.1, inr (seen.0, seen.1))
 
   -- no moment more, and no step
   no_moment : (run : Run) (o : O) → HasSeen run o → HasSeen (record run { moments = run.moments ++ [] }) o
@@ -154,11 +163,17 @@ module _ {O : Type 0} (HasSeen : Run → O → Type 0) where
     stops_so fault handled stops =
         ends_so (over_stopped (TextObserved HasSeen) (PlaysLine Nothing) state first Known (StopsText Nothing) (Unit {0}) given new fault (λ lines version events mid done known line stopped. stops _ mid stopped) along handled)
 
+    -- lines are done up to one at which memory was refused
+    refused_so : LinesHandled (TextObserved HasSeen) given first new (Err Without_memory) → RunRefused given first.player new.player
+    refused_so handled =
+        let o = over_stopped (TextObserved HasSeen) (PlaysLine Nothing) state first Known (λ fault text a b. TextStops fault text a.player b.player) (Unit {0}) given new Without_memory (λ lines version events mid done known line stopped. stopped) along handled in
+        record { lines = o.lines; version = o.version; events = o.events; mid = o.mid; rest = o.rest; read = o.read; done = o.done; ends = at_line o.ends }
+
     run_stops : (fault : PlayFault) → LinesHandled (TextObserved HasSeen) given first new (Err fault) → RunObserved HasSeen given first new (Err fault)
-    run_stops Without_memory handled = tt
-    run_stops (At_line k why) handled = stops_so (At_line k why) handled (λ text mid stops. stops)
-    run_stops Read handled = stops_so Read handled (λ text mid stops. stops)
-    run_stops Write handled = stops_so Write handled (λ text mid stops. stops)
+    run_stops Without_memory handled = refused_so handled
+    run_stops (At_line k why) handled = stops_so (At_line k why) handled (λ text mid stops. stops_text (At_line k why) text mid.player new.player (λ e. cc) stops)
+    run_stops Read handled = stops_so Read handled (λ text mid stops. stops_text Read text mid.player new.player (λ e. cc) stops)
+    run_stops Write handled = stops_so Write handled (λ text mid stops. stops_text Write text mid.player new.player (λ e. cc) stops)
 
     pub all_observed : (result : Result InputEnd PlayFault) → LinesHandled (TextObserved HasSeen) given first new result → RunObserved HasSeen given first new result
     all_observed (Ok end) handled = run_observed end handled
@@ -166,7 +181,7 @@ module _ {O : Type 0} (HasSeen : Run → O → Type 0) where
 
   -- a run on a new player that ends with a fault
   pub stops_new : (config : Config) (given : Given) (old new : Observed O) (fault : PlayFault) → RunObserved HasSeen given old new (Err fault) → IsNew config old.player → StopsNew config given fault
-  stops_new config given old new Without_memory stops is = tt
+  stops_new config given old new Without_memory stops is = inr (old.player, new.player, is, inl stops)
   stops_new config given old new (At_line k why) stops is = (old.player, session new.player [], stops, is)
   stops_new config given old new Read stops is = (old.player, session new.player [], stops, is)
   stops_new config given old new Write stops is = (old.player, session new.player [], stops, is)

@@ -119,6 +119,6 @@ module _ {O : Type 0} (HasSeen : Run → O → Type 0) where
   ticks_passed n old new (Err why) seen passes number = absurd (passes why refl)
 
 -- where memory can't be refused to the observer
-pub in_silence : {A B : Type 0} → A ⊎ (B × ⊥) → A
+pub in_silence : {A B C : Type 0} → A ⊎ (B × ⊥ × C) → A
 in_silence (inl a) = a
 in_silence (inr b) = absurd b.1

@@ -10,7 +10,8 @@ use Rattle.trace.specs.declared.fault.PlayFault.{PlayFault}
 use Rattle.trace.specs.declared.fault.PlayFault.TheVariants.{NoMemory as Without_memory}
 use Rattle.trace.specs.declared.line_handler.InputEnd.{InputEnd}
 use Rattle.trace.specs.declared.version.Version.{Version}
-use Rattle.trace.specs.LinesProcessed.{LinesDone, No_lines, One_line_more}
+use Rattle.trace.specs.LinesProcessed.{LinesDone, No_lines, One_line_more, LinesProcessed, NextThere}
+use Rattle.trace.specs.Spelling.{Spells}
 use Rattle.streams.specs.Streams.{Given}
 use Rattle.trace.specs.TextLine.{Text, text_after}
 use Rattle.player.specs.declared.observed.Observed.{Observed}
@@ -95,14 +96,30 @@ pub record IsMark (h : HeapState) (m : Mark) : Type 0 where
 abbrev pub observed : {O : Type 0} → PlayerState → O → Observed O
 observed player observer = record { player = player; observer = observer }
 
--- what a fault at a line's text is; or memory was refused, for the line or to the observer
+-- a line is done, or nothing has changed
+abbrev pub IsDoneOrNot : Line → PlayerState → PlayerState → Type 0
+IsDoneOrNot line old new = (new ≡ old) ⊎ ((es : List Event) × DoesLine old line es new)
+
+-- What a fault at a line's text is; or memory was refused to the observer, before the line was done or after it.
 abbrev pub TextStops : PlayFault → Text → PlayerState → PlayerState → Type 0
-TextStops Without_memory text old new = Unit {0}
 TextStops fault text old new = StopsText Nothing fault text (session old []) (session new [])
+    ⊎ ((fault ≡ Without_memory) × (line : Line) × Spells text.version text.bytes line × IsDoneOrNot line old new)
+
+-- Lines of an input are played, and memory was refused at the next.
+abbrev pub RunRefused : Given → PlayerState → PlayerState → Type 0
+RunRefused given old new = LinesProcessed (PlaysLine Nothing) given (session old [])
+    (λ reached. NextThere reached (λ text. TextStops Without_memory text reached.state.player new))
+
+-- Memory was refused: before anything was read; or lines of an input, or all of it, are played on a new player, and then
+-- it was refused.
+abbrev pub RefusedNew : Config → Given → Type 0
+RefusedNew config given = (given.after ≡ given.before)
+    ⊎ ((old : PlayerState) × (new : PlayerState) × IsNew config old
+    × (RunRefused given old new ⊎ Played Nothing given (session old []) (session new []) (Ok tt)))
 
 -- the fault is that with which playing an input on a new player ends; or memory was refused
 abbrev pub StopsNew : Config → Given → PlayFault → Type 0
-StopsNew config given Without_memory = Unit {0}
+StopsNew config given Without_memory = RefusedNew config given
 StopsNew config given fault = (old : PlayerState) × (new : Session)
     × Played Nothing given (session old []) new (Err fault) × IsNew config old
 
@@ -139,14 +156,14 @@ module _ {O : Type 0} (HasSeen : Run → O → Type 0) where
   TicksSeen n old new (Err fault) = Ticked n old.player new.player (Err fault)
 
   -- The outcome of a line of this number, whatever the style and the text before it: it may stop with a fault, or
-  -- because memory was refused to the observer, where that may be.
+  -- because memory was refused to the observer, where that may be, before it is done or after it.
   abbrev pub LineObserved :
       Type 0 → Line → ℕ → Observed O → Observed O → Result (Unit {0}) PlayFault → Type 0
   LineObserved Refuses line number old new (Ok done) = LineSeen number line old new
   LineObserved Refuses line number old new (Err fault) =
       ((style : Style) (taken : List ℕ)
       → Stops style fault line number (session old.player taken) (session new.player taken))
-      ⊎ ((fault ≡ Without_memory) × Refuses)
+      ⊎ ((fault ≡ Without_memory) × Refuses × IsDoneOrNot line old.player new.player)
 
   -- the outcome of a line, by its text: it is played, and the observer has seen its steps and its moment; or it stops
   -- with a fault
@@ -167,11 +184,11 @@ module _ {O : Type 0} (HasSeen : Run → O → Type 0) where
       (run : Run) × HasSeen run o.observer × (run.now ≡ o.player.course) × (length run.moments < number)
 
   -- The lines of an input are played, and the observer has seen the run, of so many lines; or playing them ends with
-  -- this fault; or memory was refused.
+  -- this fault; or memory was refused at a line.
   abbrev pub RunObserved : Given → Observed O → Observed O → Result InputEnd PlayFault → Type 0
   RunObserved given old new (Ok end) =
       (played : Played Nothing given (session old.player []) (session new.player []) (Ok tt))
       × HasSeen (run_by played) new.observer × (end.lines ≡ length played.over.lines)
-  RunObserved given old new (Err Without_memory) = Unit {0}
+  RunObserved given old new (Err Without_memory) = RunRefused given old.player new.player
   RunObserved given old new (Err fault) =
       Played Nothing given (session old.player []) (session new.player []) (Err fault)

@@ -1,7 +1,9 @@
 -- The list of grey parts: one comes first, one is taken, a buffer goes in.
-use Rattle.std.proofs.Common.{◌≡◌, ◌≢◌, ℕ, zero, suc, ◌+◌, ◌-◌, ◌*◌, ◌<◌, ◌≤◌, Bool, true, false, ◌==◌, ◌||◌, if◌then◌else◌, inl, inr, List, [], ◌∷◌, ◌++◌, length, get_or, set, ap, ◌∙◌, sym, subst, refl, arith, length-set}
+use Rattle.std.proofs.Common.{◌≡◌, ◌≢◌, ℕ, zero, suc, ◌+◌, ◌-◌, ◌*◌, ◌<◌, Bool, true, false, ◌==◌, ◌||◌, if◌then◌else◌, inl, inr, List, [], ◌∷◌, ◌++◌, Option, Some, None, length, get_or, set, ap, ◌∙◌, sym, subst, refl, arith, length-set}
+use Rattle.std.specs.Prelude.{slice_get}
 use Rattle.std.proofs.lemmas.Bool.{eq-eqb, cases_eq}
-use Rattle.std.proofs.lemmas.List.{get_or-set_same, get_or-set_other}
+use Rattle.std.proofs.lemmas.List.{get_or-set_same, get_or-set_other, set-get_or, length-append}
+use Rattle.std.proofs.Math.Seq.{get_or-append_seam}
 use Rattle.arrayvec.specs.ArrayVec.{ArrayVec}
 use Rattle.heap_model.specs.Action.{Relinks}
 use Rattle.heap_model.specs.Collector.{contains, Once}
@@ -11,10 +13,11 @@ use Rattle.heap_model.specs.State.{same_colour}
 use Rattle.heap_model.specs.Store.{Store, is_allocated, record_of}
 use Rattle.heap_model.proofs.State.{allocated_pages}
 use Rattle.nodes.specs.declared.heap_fields.HeapFields.{HeapFields}
-use Rattle.nodes.specs.Grey.{GreySet, grey_in, in_buffers, inserted, buffer_of, with_buffer}
+use Rattle.nodes.specs.Grey.{GreySet, grey_in, in_buffers, inserted, buffer_of, with_buffer, AreLinked}
 use Rattle.nodes.specs.HeapFields.{state_of}
-use Rattle.nodes.proofs.Sorting.{inserted_between, contains-inserted, length-inserted, once-inserted}
-use Rattle.nodes.proofs.Threading.{taken, same_buffer, buffered}
+use Rattle.nodes.proofs.Sorting.{inserted_between, contains-inserted}
+use Rattle.nodes.proofs.Threading.{taken, same_buffer, buffered, record_grey}
+use Rattle.nodes.proofs.Linking.{linked_emptied, linked_more, last_of, some, last_grey, last_linked, hung}
 
 here : (x : ℕ) (xs : List ℕ) → contains (inserted x xs) x ≡ true
 here x xs = contains-inserted x xs x ∙ ap (λ b. b || contains xs x) (eq-eqb x x refl)
@@ -39,34 +42,82 @@ set_twice [] i x y = refl
 set_twice (z ∷ zs) zero x y = refl
 set_twice (z ∷ zs) (suc i) x y = ap (λ ys. z ∷ ys) (set_twice zs i x y)
 
--- of a mutator's buffer one record after the other goes into the list, from the heap a on
-module _ (a : HeapFields) (w : AreGrey (state_of a)) (s : Store) (g : GreySet) (links : Relinks a.nodes s) (same : grey_in s g ≡ grey_in a.nodes a.grey) (m : ℕ) (within : m < length g.buffers) (rest : List ℕ) (part : ℕ) (is : buffer_of g m ≡ rest ++ part ∷ []) where
-  abbrev others : List ℕ
-  others = grey_in s (with_buffer g m rest)
+-- an empty buffer
+pub none_of : (xs : List ℕ) → slice_get xs (length xs - 1) ≡ None → xs ≡ []
+none_of [] e = refl
+none_of (x ∷ xs) e = absurd (some_at (x ∷ xs) (length xs) (omega arith) (subst (λ n. slice_get (x ∷ xs) n ≡ None) (let m : suc (length xs) - 1 ≡ length xs = omega arith in m) e))
+  where
+    some_at : (ys : List ℕ) (n : ℕ) → n < length ys → slice_get ys n ≢ None
+    some_at [] n l e = omega (arith, l)
+    some_at (y ∷ ys) zero l e = let t : Some y ≡ None = e in cc
+    some_at (y ∷ ys) (suc n) l e = some_at ys n (omega (arith, l)) e
 
-  out : grey_in a.nodes a.grey ≡ inserted part others
-  out = sym same ∙ sym (same_buffer s g m within) ∙ ap (λ items. grey_in s (with_buffer g m items)) is ∙ buffered s g m within rest part
+pub emptied_same : (g : GreySet) (m : ℕ) → buffer_of g m ≡ [] → record (with_buffer g m []) { first = g.first } ≡ g
+emptied_same g m e = ap (λ bs. record { first = g.first; buffers = bs }) (ap (λ xs. set g.buffers m (record { items = xs })) (sym e) ∙ set-get_or g.buffers m (record { items = [] }))
 
-  grey_now : contains (grey_in a.nodes a.grey) part ≡ true
-  grey_now = ap (λ xs. contains xs part) out ∙ here part others
+-- a mutator's buffer that has a last record
+module _ (s : Store) (g : GreySet) (none : contains (grey_in s g) 0 ≡ false) (once : Once (grey_in s g)) (m : ℕ) (within : m < length g.buffers) (last : ℕ) (is : slice_get (buffer_of g m) (length (buffer_of g m) - 1) ≡ Some last) where
+  q : (rest : List ℕ) × (buffer_of g m ≡ rest ++ last ∷ [])
+  q = last_of (buffer_of g m) last is
 
-  pub some : part ≢ 0
-  some e = let t : false ≡ true = sym w.some ∙ subst (λ x. contains (grey_in a.nodes a.grey) x ≡ true) e grey_now in cc
+  pub last_some : last ≢ 0
+  last_some = some s g m within q.0 last 0 q.1 none once
 
-  pub part_allocated : is_allocated s (part - 1) ≡ true
-  part_allocated = allocated_pages a.nodes s (part - 1) links.pages ∙ w.allocated part grey_now
+  last_at : (i : ℕ) → i + 1 ≡ length (buffer_of g m) → get_or (buffer_of g m) i 0 ≡ last
+  last_at i e =
+      let n = length-append q.0 (last ∷ []) in let l = ap length q.1 in let here : i ≡ length q.0 = omega (arith, e, n, l) in
+      ap (λ xs. get_or xs i 0) q.1 ∙ ap (λ j. get_or (q.0 ++ last ∷ []) j 0) here ∙ get_or-append_seam q.0 last [] 0
 
-  pub fresh : contains others part ≡ false
-  fresh = once-inserted part others (subst Once out w.once)
+  pub last_is_grey : contains (grey_in s g) last ≡ true
+  last_is_grey =
+      let n = length-append q.0 (last ∷ []) in let l = ap length q.1 in
+      ap (contains (grey_in s g)) (sym (last_at (length q.0) (omega (arith, n, l)))) ∙ record_grey s g m (length q.0) (omega (arith, n, l))
 
-  pub room : length others < 2048 * length s.pages
-  room =
-      let n : suc (length others) ≤ 512 * length a.nodes.pages = subst (λ k. k ≤ 512 * length a.nodes.pages) (ap length out ∙ length-inserted part others) w.few in
-      let p : length s.pages ≡ length a.nodes.pages = ap length links.pages in
-      omega (arith, n, p)
+  module _ (link : ℕ) (there : get_or (set s.words (last - 1 + 3) link) (last - 1 + 3) 0 ≡ link) where
+    abbrev new : Store
+    new = record s { words = set s.words (last - 1 + 3) link }
 
-  pub back_in : (xs : List ℕ) → xs ≡ inserted part others → xs ≡ grey_in a.nodes a.grey
-  back_in xs e = e ∙ sym out
+    -- a record after it, which its link names
+    pub more_grey : (after : GreySet) → after ≡ with_buffer g m (buffer_of g m ++ link ∷ []) → grey_in new after ≡ inserted link (grey_in s g)
+    more_grey after e =
+        ap (grey_in new) e ∙ buffered new g m within (buffer_of g m) link ∙ ap (inserted link) (same_buffer new g m within ∙ last_grey s g m within q.0 last link q.1 none once)
+
+    module _ (linked : AreLinked s g) where
+      still_linked : AreLinked new g
+      still_linked = last_linked s g m within q.0 last link q.1 none once linked
+
+      pub more_linked : AreLinked new (with_buffer g m (buffer_of g m ++ link ∷ []))
+      more_linked = linked_more new g m link within still_linked (λ i e. ap (λ x. get_or new.words (x - 1 + 3) 0) (last_at i e) ∙ there)
+
+      pub hung_linked : (first : ℕ) → AreLinked new (record (with_buffer g m []) { first = first })
+      hung_linked first = linked_emptied new g m first within still_linked
+
+      -- the buffer is hung into the list, whose first it names
+      pub hung_grey : link ≡ g.first → length (grey_in s g) < 2048 * length s.pages → (first : ℕ) → first ≡ get_or (buffer_of g m) 0 0 → grey_in new (record (with_buffer g m []) { first = first }) ≡ grey_in s g
+      hung_grey names few first e = by_items (buffer_of g m) refl
+        where
+          same : grey_in new (with_buffer g m (buffer_of g m)) ≡ grey_in s g
+          same = same_buffer new g m within ∙ last_grey s g m within q.0 last link q.1 none once
+
+          by_items : (items : List ℕ) → buffer_of g m ≡ items → grey_in new (record (with_buffer g m []) { first = first }) ≡ grey_in s g
+          by_items [] b = absurd (let t : None ≡ Some last = ap (λ xs. slice_get xs (length xs - 1)) (sym b) ∙ is in cc)
+          by_items (x ∷ xs) b =
+              let all : grey_in new (with_buffer g m (x ∷ xs)) ≡ grey_in s g = ap (λ items. grey_in new (with_buffer g m items)) (sym b) ∙ same in
+              let some_there : (i : ℕ) → i < length (x ∷ xs) → get_or (x ∷ xs) i 0 ≢ 0 =
+              λ i l z. absurd (
+              let t : true ≡ false =
+              sym (record_grey s g m i (subst (λ items. i < length items) (sym b) l)) ∙ ap (λ items. contains (grey_in s g) (get_or items i 0)) b ∙ ap (contains (grey_in s g)) z ∙ none in
+              cc
+              ) in
+              let next : (i : ℕ) → i < length xs → get_or new.words (get_or (x ∷ xs) i 0 - 1 + 3) 0 ≡ get_or xs i 0 =
+              λ i l.
+              subst (λ items. get_or new.words (get_or items i 0 - 1 + 3) 0 ≡ get_or items (i + 1) 0) b (still_linked m i (subst (λ items. i + 1 < length items) (sym b) (omega (arith, l))))
+              ∙ ap (λ j. get_or (x ∷ xs) j 0) (let p : i + 1 ≡ suc i = omega arith in p) in
+              let end : get_or new.words (get_or (x ∷ xs) (length xs) 0 - 1 + 3) 0 ≡ g.first =
+              ap (λ y. get_or new.words (y - 1 + 3) 0) (ap (λ items. get_or items (length xs) 0) (sym b) ∙ last_at (length xs) (let n = ap length b in omega (arith, n))) ∙ there ∙ names in
+              ap (λ y. grey_in new (record (with_buffer g m []) { first = y })) (e ∙ ap (λ items. get_or items 0 0) b)
+              ∙ hung new g m within x xs some_there next end (subst (λ ys. length ys < 2048 * length s.pages) (sym all) few)
+              ∙ all
 
 -- what a mutator's buffer holds after a write of it
 pub buffer_put : (g : GreySet) (m : ℕ) (items : List ℕ) → m < length g.buffers → buffer_of (with_buffer g m items) m ≡ items
@@ -78,20 +129,6 @@ buffer_twice g m xs ys first = ap (λ bs. record { first = first; buffers = bs }
 -- the mutator has a buffer still
 pub mutator_within : (a h : HeapFields) (m : ℕ) (items : List ℕ) → h ≡ record a { nodes = h.nodes; grey = record (with_buffer a.grey m items) { first = h.grey.first } } → m < length a.grey.buffers → m < length h.grey.buffers
 mutator_within a h m items e l = subst (λ n. m < n) (sym (ap (λ (x : HeapFields). length x.grey.buffers) e ∙ length-set a.grey.buffers m (record { items = items }))) l
-
--- a record that went into the list
-pub flushed : (a h t : HeapFields) (popped : GreySet) (m part : ℕ) (items rest : List ℕ) → m < length a.grey.buffers → h ≡ record a { nodes = h.nodes; grey = record (with_buffer a.grey m items) { first = h.grey.first } } → popped ≡ with_buffer h.grey m rest
-    → t ≡ record h { nodes = t.nodes; grey = record popped { first = part } } → t ≡ record a { nodes = t.nodes; grey = record (with_buffer a.grey m (buffer_of t.grey m)) { first = t.grey.first } }
-flushed a h t popped m part items rest l was out came =
-    let g : record popped { first = part } ≡ record (with_buffer a.grey m rest) { first = part } =
-    ap (λ (p : GreySet). record p { first = part }) out
-    ∙ ap (λ (x : HeapFields). let y : GreySet = record (with_buffer x.grey m rest) { first = part } in y) was
-    ∙ ap (λ (p : GreySet). record p { first = part }) (buffer_twice a.grey m items rest h.grey.first) in
-    let e : t ≡ record a { nodes = t.nodes; grey = record (with_buffer a.grey m rest) { first = part } } =
-    came ∙ ap (λ (x : HeapFields). record x { nodes = t.nodes; grey = record popped { first = part } }) was ∙ ap (λ (p : GreySet). record a { nodes = t.nodes; grey = p }) g in
-    e ∙ ap (λ (p : GreySet). record a { nodes = t.nodes; grey = p })
-    (ap (λ xs. record (with_buffer a.grey m xs) { first = part }) (sym (ap (λ (x : HeapFields). buffer_of x.grey m) e ∙ buffer_put a.grey m rest l))
-    ∙ ap (λ x. record (with_buffer a.grey m (buffer_of t.grey m)) { first = x }) (sym (ap (λ (x : HeapFields). x.grey.first) e)))
 
 -- the grey parts of a heap whose blocks were threaded anew
 pub are_grey_by : (a b : HeapFields) → AreGrey (state_of a) → Relinks a.nodes b.nodes → grey_in b.nodes b.grey ≡ grey_in a.nodes a.grey → b.mark_parity ≡ a.mark_parity → AreGrey (state_of b)

@@ -1,21 +1,21 @@
 -- A main copy that is shaded.
-use Rattle.std.proofs.Common.{◌≡◌, ◌≢◌, ℕ, ◌-◌, ◌*◌, ◌<◌, Bool, true, false, ◌==◌, ◌||◌, List, [], ◌∷◌, ◌++◌, length, ap, ◌∙◌, sym, subst, refl, arith}
+use Rattle.std.proofs.Common.{◌≡◌, ◌≢◌, ℕ, ◌+◌, ◌-◌, ◌*◌, ◌<◌, Bool, true, false, ◌==◌, ◌||◌, List, ◌∷◌, ◌++◌, length, set, ap, ◌∙◌, sym, subst, refl, arith}
 use Rattle.heap_model.specs.Action.{Relinks, Shades, Is_marked}
 use Rattle.heap_model.specs.Block.{BlockRecord, with_colour}
-use Rattle.heap_model.specs.Collector.{contains}
+use Rattle.heap_model.specs.Collector.{contains, Once}
 use Rattle.heap_model.specs.Grey.{AreGrey}
 use Rattle.heap_model.specs.State.{seen}
 use Rattle.heap_model.specs.Store.{Store, Writes, is_allocated, record_of}
 use Rattle.heap_model.proofs.State.{allocated_pages}
 use Rattle.nodes.specs.Links.{KeepsLinks}
 use Rattle.nodes.specs.declared.heap_fields.HeapFields.{HeapFields}
-use Rattle.nodes.specs.Grey.{GreySet, grey_in, inserted, buffer_of, with_buffer}
+use Rattle.nodes.specs.Grey.{GreySet, grey_in, inserted, with_buffer, AreLinked}
 use Rattle.nodes.specs.HeapFields.{state_of}
 use Rattle.nodes.specs.GreyAllocated.{AreAllocated}
 use Rattle.nodes.proofs.Keeping.{grey_kept, relinked_writes, writes_relinked}
+use Rattle.nodes.proofs.Linking.{linked_kept, linked_apart}
 use Rattle.nodes.proofs.Sorting.{inserted_between, contains-inserted}
-use Rattle.nodes.proofs.Representing.{still}
-use Rattle.satb_barrier.proofs.Listing.{are_grey_by, mutator_within, own_record}
+use Rattle.satb_barrier.proofs.Listing.{are_grey_by}
 
 -- the heap a, the heap mid whose blocks were threaded anew, and the main copy's colour written in that
 module _ (a mid : HeapFields) (w : AreGrey (state_of a)) (links : Relinks a.nodes mid.nodes) (same : grey_in mid.nodes mid.grey ≡ grey_in a.nodes a.grey) (rest : mid ≡ record a { nodes = mid.nodes; grey = mid.grey }) (x : ℕ)
@@ -35,7 +35,7 @@ module _ (a mid : HeapFields) (w : AreGrey (state_of a)) (links : Relinks a.node
 
   -- the same parts are grey
   pub kept : grey_in new mid.grey ≡ grey_in a.nodes a.grey
-  kept = grey_kept mid (λ y s c. (are_grey_by a mid w links same mark_parity).allocated y c) new (ap length written.pages) keeps ∙ same
+  kept = grey_kept mid (λ y c. (are_grey_by a mid w links same mark_parity).allocated y c) new (ap length written.pages) keeps ∙ same
 
   pub fresh : contains (grey_in new mid.grey) x ≡ false
   fresh = ap (λ xs. contains xs x) kept ∙ apart
@@ -64,23 +64,45 @@ module _ (a mid : HeapFields) (w : AreGrey (state_of a)) (links : Relinks a.node
       subst (λ xs. Shades (state_of a) x (record (state_of a) { store = s; grey = xs })) (sym (e ∙ q.3))
       (Is_marked s q.0 q.1 q.2 unmarked (writes_relinked a.nodes new s (x - 1) (with_colour (record_of a.nodes (x - 1)) a.mark_parity) (allocated some) whole_write more))
 
-  pub are_allocated : (g : GreySet) → grey_in new g ≡ inserted x (grey_in a.nodes a.grey) → (y : ℕ) → contains (grey_in new g) y ≡ true → is_allocated new (y - 1) ≡ true
-  are_allocated g e y c = by_case (x == y) refl (sym (contains-inserted x (grey_in a.nodes a.grey) y) ∙ ap (λ xs. contains xs y) (sym e) ∙ c)
+  pub are_allocated : (s : Store) → Relinks new s → (g : GreySet) → grey_in s g ≡ inserted x (grey_in a.nodes a.grey) → (y : ℕ) → contains (grey_in s g) y ≡ true → is_allocated s (y - 1) ≡ true
+  are_allocated s more g e y c = allocated_pages new s (y - 1) more.pages ∙ by_case (x == y) refl (sym (contains-inserted x (grey_in a.nodes a.grey) y) ∙ ap (λ xs. contains xs y) (sym e) ∙ c)
     where
       by_case : (b : Bool) → (x == y) ≡ b → (b || contains (grey_in a.nodes a.grey) y) ≡ true → is_allocated new (y - 1) ≡ true
       by_case true e c = let q : x ≡ y = grind (arith, e) in subst (λ k. is_allocated new (k - 1) ≡ true) q allocated_here
       by_case false e c = allocated_new (y - 1) (w.allocated y c)
 
+  -- the grey parts before it goes among them
+  pub none_null : contains (grey_in new mid.grey) 0 ≡ false
+  none_null = ap (λ xs. contains xs 0) kept ∙ w.some
+
+  pub each_once : Once (grey_in new mid.grey)
+  each_once = subst Once (sym kept) w.once
+
+  pub all_allocated : (y : ℕ) → contains (grey_in new mid.grey) y ≡ true → is_allocated new (y - 1) ≡ true
+  all_allocated y c = allocated_new (y - 1) (w.allocated y (ap (λ xs. contains xs y) (sym kept) ∙ c))
+
+  pub still_linked : AreLinked mid.nodes mid.grey → AreLinked new mid.grey
+  still_linked linked =
+      linked_kept mid.nodes new mid.grey linked
+      (λ y c. keeps.each (y - 1) ((are_grey_by a mid w links same mark_parity).allocated y c))
+
+  -- it goes into the list
+  pub linked_in_list : AreLinked mid.nodes mid.grey → (s : Store) → s ≡ record new { words = set new.words (x - 1 + 3) mid.grey.first } → (g : GreySet) → g ≡ record mid.grey { first = g.first } → AreLinked s g
+  linked_in_list linked s written g listed =
+      subst (λ (h : GreySet). AreLinked s h) (sym listed)
+      (subst (λ (t : Store). AreLinked t (record mid.grey { first = g.first })) (sym written) (linked_apart new mid.grey x mid.grey.first (still_linked linked) none_null some fresh))
+
 -- a record: room was made in the mutator's buffer, and the main copy was coloured and went into it
-pub recorded : (a mid : HeapFields) (m x : ℕ) (items : List ℕ) → AreGrey (state_of a) → Relinks a.nodes mid.nodes → grey_in mid.nodes mid.grey ≡ grey_in a.nodes a.grey
-    → mid ≡ record a { nodes = mid.nodes; grey = record (with_buffer a.grey m items) { first = mid.grey.first } } → m < length a.grey.buffers
+pub recorded : (a mid t : HeapFields) (m x : ℕ) (items : List ℕ) → AreGrey (state_of a) → Relinks a.nodes mid.nodes → grey_in mid.nodes mid.grey ≡ grey_in a.nodes a.grey
+    → mid ≡ record a { nodes = mid.nodes; grey = record (with_buffer a.grey m items) { first = mid.grey.first } }
     → (x ≢ 0 → is_allocated a.nodes (x - 1) ≡ true) → (seen (state_of a)).marked x ≡ false
     → (new : Store) → Writes mid.nodes new (x - 1) (with_colour (record_of mid.nodes (x - 1)) mid.mark_parity) → KeepsLinks mid.nodes new
-    → (after : GreySet) → after ≡ with_buffer mid.grey m (buffer_of mid.grey m ++ x ∷ [])
-    → Shades (state_of a) x (state_of (record mid { nodes = new; grey = after })) × AreAllocated (record mid { nodes = new; grey = after })
-recorded a mid m x items w links same made within allocated unmarked new written keeps after pushed =
+    → Relinks new t.nodes → grey_in t.nodes t.grey ≡ inserted x (grey_in new mid.grey) → t ≡ record mid { nodes = t.nodes; grey = t.grey }
+    → Shades (state_of a) x (state_of t) × AreAllocated t
+recorded a mid t m x items w links same made allocated unmarked new written keeps more pushed is =
     let rest : mid ≡ record a { nodes = mid.nodes; grey = mid.grey } = made ∙ ap (λ g. record a { nodes = mid.nodes; grey = g }) (sym (ap (λ (y : HeapFields). y.grey) made)) in
-    let more = own_record new mid.grey after m x (mutator_within a mid m items made within) pushed ∙ ap (λ xs. inserted x xs) (kept a mid w links same rest x allocated unmarked new written keeps) in (
-      subst (λ (y : HeapFields). Shades (state_of a) x (state_of (record y { nodes = new; grey = after }))) (sym rest) (shades a mid w links same rest x allocated unmarked new written keeps new still after more),
-      (λ y some e. are_allocated a mid w links same rest x allocated unmarked new written keeps after more y e),
+    let all : t ≡ record a { nodes = t.nodes; grey = t.grey } = is ∙ ap (λ (y : HeapFields). record y { nodes = t.nodes; grey = t.grey }) rest in
+    let grey = pushed ∙ ap (inserted x) (kept a mid w links same rest x allocated unmarked new written keeps) in (
+      subst (λ (y : HeapFields). Shades (state_of a) x (state_of y)) (sym all) (shades a mid w links same rest x allocated unmarked new written keeps t.nodes more t.grey grey),
+      (λ y e. are_allocated a mid w links same rest x allocated unmarked new written keeps t.nodes more t.grey grey y e),
     )

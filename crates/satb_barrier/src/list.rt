@@ -1,11 +1,12 @@
 //! The list of grey parts, threaded through their headers, and the buffers beside it.
-ghost use Rattle.std.specs.Prelude.{◌≡◌, ◌≢◌, ◌<◌, ◌-◌, ◌*◌, [], ◌∷◌, ◌++◌, List, ℕ, true, false, length, IfSome, IsNone};
+ghost use Rattle.std.specs.Prelude.{◌≡◌, ◌≢◌, ◌<◌, ◌+◌, ◌-◌, ◌*◌, [], ◌∷◌, ◌++◌, List, ℕ, true, false, length, slice_set, IfSome, IsNone};
 ghost use Rattle.heap_model.specs.Action.{Relinks};
-ghost use Rattle.heap_model.specs.Collector.{contains};
+ghost use Rattle.heap_model.specs.Collector.{contains, Once};
 ghost use Rattle.heap_model.specs.Grey.{AreGrey};
 ghost use Rattle.heap_model.specs.Store.{is_allocated};
 ghost use Rattle.heap_model.specs.Written as written;
-ghost use Rattle.nodes.specs.Grey.{grey_in, in_buffers, buffer_of, inserted, with_buffer};
+ghost use Rattle.nodes.specs.Grey.{grey_in, in_buffers, buffer_of, inserted, with_buffer, AreLinked};
+ghost use Rattle.nodes.specs.GreyAllocated.{AreAllocated};
 ghost use Rattle.nodes.specs.HeapFields.{state_of, AreHeapFields};
 ghost use Rattle.satb_barrier.specs.Recording.{with_room};
 
@@ -18,6 +19,9 @@ pub fn push_grey(heap: &mut HeapFields, part: u64)
     requires fresh { contains (grey_in heap.old.nodes heap.old.grey) part ≡ false }
     requires few { length (grey_in heap.old.nodes heap.old.grey) < 2048 * length heap.old.nodes.pages }
     ensures grey { grey_in heap.new.nodes heap.new.grey ≡ inserted part (grey_in heap.old.nodes heap.old.grey) }
+    ensures threaded { heap.new.nodes ≡ record heap.old.nodes {
+      words = slice_set heap.old.nodes.words (part - 1 + 3) heap.old.grey.first;
+    } }
     ensures links { Relinks heap.old.nodes heap.new.nodes }
     ensures same { heap.new ≡ record heap.old { nodes = heap.new.nodes; grey = record heap.old.grey { first = part } } }
 {
@@ -44,28 +48,62 @@ pub fn pop_grey(heap: &mut HeapFields) -> Option<u64>
     Some(part)
 }
 
-/// Puts the records of a mutator's buffer into the list. The same parts are grey.
+/// Adds a part that isn't grey to a mutator's buffer, and links the record before it to it.
+#[inline(always)]
+pub fn push_record(heap: &mut HeapFields, mutator: u32, part: u64)
+    requires none { contains (grey_in heap.old.nodes heap.old.grey) 0 ≡ false }
+    requires once { Once (grey_in heap.old.nodes heap.old.grey) }
+    requires allocated { AreAllocated heap.old }
+    requires linked { AreLinked heap.old.nodes heap.old.grey }
+    requires mutator { mutator < length heap.old.grey.buffers }
+    requires room { length (buffer_of heap.old.grey mutator) < 64 }
+    ensures grey { grey_in heap.new.nodes heap.new.grey ≡ inserted part (grey_in heap.old.nodes heap.old.grey) }
+    ensures links { Relinks heap.old.nodes heap.new.nodes }
+    ensures linked { AreLinked heap.new.nodes heap.new.grey }
+    ensures same { heap.new ≡ record heap.old {
+      nodes = heap.new.nodes;
+      grey = with_buffer heap.old.grey mutator (buffer_of heap.old.grey mutator ++ part ∷ []);
+    } }
+{
+    if let Some(last) = heap.grey.last_record(mutator) {
+        heap.nodes.set_link(last as usize - 1, part);
+    }
+    heap.grey.push(mutator, part);
+}
+
+/// Hangs the records of a mutator's buffer into the list, as its first: they are linked one to the next already, so one
+/// link is written. The same parts are grey.
+#[inline(never)]
 pub fn flush(heap: &mut HeapFields, mutator: u32)
     requires grey { AreGrey (state_of heap.old) }
+    requires linked { AreLinked heap.old.nodes heap.old.grey }
     requires mutator { mutator < length heap.old.grey.buffers }
     ensures grey { grey_in heap.new.nodes heap.new.grey ≡ grey_in heap.old.nodes heap.old.grey }
     ensures links { Relinks heap.old.nodes heap.new.nodes }
+    ensures linked { AreLinked heap.new.nodes heap.new.grey }
     ensures same { heap.new ≡ record heap.old {
       nodes = heap.new.nodes;
       grey = record (with_buffer heap.old.grey mutator []) { first = heap.new.grey.first };
     } }
 {
-    while let Some(part) = heap.grey.pop(mutator) {
-        push_grey(heap, part);
-    }
+    let Some(last) = heap.grey.last_record(mutator) else {
+        return;
+    };
+    let first = heap.grey.first_record(mutator);
+    heap.nodes.set_link(last as usize - 1, heap.grey.first());
+    heap.grey.set_first(first);
+    heap.grey.clear(mutator);
 }
 
 /// Makes room for a record in a mutator's buffer: a full one goes into the list. The same parts are grey.
+#[inline(always)]
 pub fn make_room(heap: &mut HeapFields, mutator: u32)
     requires grey { AreGrey (state_of heap.old) }
+    requires linked { AreLinked heap.old.nodes heap.old.grey }
     requires mutator { mutator < length heap.old.grey.buffers }
     ensures grey { grey_in heap.new.nodes heap.new.grey ≡ grey_in heap.old.nodes heap.old.grey }
     ensures links { Relinks heap.old.nodes heap.new.nodes }
+    ensures linked { AreLinked heap.new.nodes heap.new.grey }
     ensures room { length (buffer_of heap.new.grey mutator) < 64 }
     ensures same { heap.new ≡ record heap.old {
       nodes = heap.new.nodes;

@@ -7,10 +7,11 @@ ghost use Rattle.heap_model.specs.State.{seen};
 ghost use Rattle.heap_model.specs.Store.{is_allocated};
 ghost use Rattle.nodes.specs.Referent.{CanFollow};
 ghost use Rattle.nodes.specs.HeapFields.{state_of, AreHeapFields};
+ghost use Rattle.nodes.specs.Grey.{AreLinked};
 ghost use Rattle.nodes.specs.GreyAllocated.{AreAllocated};
 ghost use Rattle.satb_barrier.specs.Recording.{buffers_after};
 
-use crate::list::{make_room, push_grey};
+use crate::list::{make_room, push_grey, push_record};
 use nodes::HeapFields;
 
 /// Whether a part is marked, by reference: whether its colour is the one that means so. Null always is.
@@ -30,6 +31,7 @@ pub fn shade(heap: &mut HeapFields, reference: u64)
     requires grey { AreGrey (state_of heap.old) }
     requires allocated { reference ≢ 0 → is_allocated heap.old.nodes (reference - 1) ≡ true }
     ensures shades { Shades (state_of heap.old) reference (state_of heap.new) }
+    ensures linked { AreLinked heap.old.nodes heap.old.grey → AreLinked heap.new.nodes heap.new.grey }
     ensures same { heap.new ≡ record heap.old {
       nodes = heap.new.nodes;
       grey = record heap.old.grey { first = heap.new.grey.first };
@@ -46,12 +48,14 @@ pub fn shade(heap: &mut HeapFields, reference: u64)
 /// What a command of a mutator overwrites, in a phase that records: its main copy is shaded (Yuasa,
 /// 1990), and goes into the mutator's buffer, whose 64 records went into the list if it was full. In
 /// other phases nothing is done.
+#[inline(always)]
 pub fn record(heap: &mut HeapFields, mutator: u32, reference: u64)
     requires heap { AreHeapFields heap.old }
     requires mutator { mutator < heap.old.roots.limits.mutators }
     requires leads { CanFollow heap.old.nodes reference }
     ensures records { Records (state_of heap.old) reference (state_of heap.new) }
     ensures buffers { heap.new.grey.buffers ≡ buffers_after heap.old mutator reference }
+    ensures linked { AreLinked heap.new.nodes heap.new.grey }
     ensures allocated { AreAllocated heap.new }
     ensures same { heap.new ≡ record heap.old { nodes = heap.new.nodes; grey = heap.new.grey } }
 {
@@ -64,5 +68,5 @@ pub fn record(heap: &mut HeapFields, mutator: u32, reference: u64)
     }
     make_room(heap, mutator);
     heap.nodes.set_colour(main as usize - 1, heap.mark_parity);
-    heap.grey.push(mutator, main);
+    push_record(heap, mutator, main);
 }

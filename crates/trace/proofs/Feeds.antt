@@ -7,28 +7,28 @@ use Rattle.memchr.specs.Find.{IsFirstByte, is_byte}
 use Rattle.trace.specs.Lines.{NoLf, IsLine, Comes, FirstLf}
 use Rattle.streams.proofs.Cuts.{whole, parted}
 
--- the first LF of the first 257 bytes is the first of all
-first_in : (bytes : List ℕ) (i : ℕ) → IsFirstByte (is_byte 10) (take 257 bytes) (Some i) → FirstLf bytes i
-first_in bytes i first =
+-- the first LF of the first n bytes, which are at most 257, is the first of all
+first_in : (n : ℕ) → n ≤ 257 → (bytes : List ℕ) (i : ℕ) → IsFirstByte (is_byte 10) (take n bytes) (Some i) → FirstLf bytes i
+first_in n few bytes i first =
     let at = first.0 in
-    let near : i < 257 = omega (arith, at.high, length-take 257 bytes) in
-    let within : i < length bytes = omega (arith, at.high, length-take 257 bytes) in
+    let near : i < n = omega (arith, at.high, length-take n bytes) in
+    let within : i < length bytes = omega (arith, at.high, length-take n bytes) in
     record {
       near = omega arith;
       within = within;
-      here = parted 10 bytes i within (sym (get_or-take 257 bytes i 0 near) ∙ eqb-true _ 10 first.1);
+      here = parted 10 bytes i within (sym (get_or-take n bytes i 0 near) ∙ eqb-true _ 10 first.1);
       before = λ k d h is. let low : k < i = omega (arith, h, length-take i bytes) in
-          let small : k < 257 = omega arith in
+          let small : k < n = omega arith in
           let inside : k < length bytes = omega arith in
-          at.before k (omega arith) low (eq-eqb _ 10 (get_or-take 257 bytes k 0 small ∙ get_or_default bytes k 0 d inside ∙ sym (get_or-take i bytes k d low) ∙ is));
+          at.before k (omega arith) low (eq-eqb _ 10 (get_or-take n bytes k 0 small ∙ get_or_default bytes k 0 d inside ∙ sym (get_or-take i bytes k d low) ∙ is));
     }
 
 none_in : (xs : List ℕ) → IsFirstByte (is_byte 10) xs None → NoLf xs
 none_in xs nowhere k d h is = nowhere k (omega arith) h (eq-eqb _ 10 (get_or_default xs k 0 d h ∙ is))
 
-pub found_in : (bytes : List ℕ) (o : Option ℕ) → IsFirstByte (is_byte 10) (take 257 bytes) o → IfSome o (λ i. FirstLf bytes i)
-found_in bytes None first = tt
-found_in bytes (Some i) first = first_in bytes i first
+pub found_in : (n : ℕ) → n ≤ 257 → (bytes : List ℕ) (o : Option ℕ) → IsFirstByte (is_byte 10) (take n bytes) o → IfSome o (λ i. FirstLf bytes i)
+found_in n few bytes None first = tt
+found_in n few bytes (Some i) first = first_in n few bytes i first
 
 pub none_found : (bytes : List ℕ) (o : Option ℕ) → IsFirstByte (is_byte 10) (take 257 bytes) o → IsNone o → NoLf (take 257 bytes)
 none_found bytes None first h = none_in (take 257 bytes) first

@@ -2,6 +2,7 @@ pub mod Numbers
 pub mod Exact
 pub mod Fronts
 mod Keywords
+mod Lanes
 pub mod ReadCommands
 pub mod ReadLines
 pub mod Streaming

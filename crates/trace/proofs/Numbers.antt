@@ -1,11 +1,11 @@
 -- The number that bytes spell.
-use Rattle.std.proofs.Common.{◌≡◌, ℕ, ◌^◌, ◌<◌, Bool, true, false, ◌&&◌, cond, List, Some, None, nat_lt, Option, ap, ◌∙◌, sym, refl, subst}
+use Rattle.std.proofs.Common.{◌≡◌, ℕ, ◌+◌, ◌/◌, ◌%◌, ◌^◌, ◌<◌, ◌≤◌, Bool, true, false, ◌&&◌, cond, List, [], ◌∷◌, ◌++◌, Some, None, nat_lt, Option, ap, ◌∙◌, sym, refl, subst, append_assoc}
 use Rattle.std.specs.Prelude.{decimal}
 use Rattle.std.specs.Str.{bytes_eq}
 use Rattle.std.specs.Str.Parse.{digits_value}
 use Rattle.std.proofs.lemmas.Bool.{lt-ltb, ltb-true, and_parts}
 use Rattle.std.proofs.lemmas.Slice.Eq.{bytes_eq-Decides}
-use Rattle.std.proofs.lemmas.Fmt.{decimal_is_IsNumeral}
+use Rattle.std.proofs.lemmas.Fmt.{decimal_is_IsNumeral, decimal_step}
 use Rattle.trace.specs.Reading.{number_in}
 
 both_true : (a b : Bool) → a ≡ true → b ≡ true → (a && b) ≡ true
@@ -39,3 +39,8 @@ none_case (Some n) h = absurd (h n refl)
 
 pub number_in-None : (bits : ℕ) (bytes : List ℕ) → ((n : ℕ) → n < 2 ^ bits → bytes ≡ decimal n → ⊥) → number_in bits bytes ≡ None
 number_in-None bits bytes h = none_case (number_in bits bytes) (λ n e. let f = number_in-Some bits n bytes e in h n f.0 f.1)
+
+-- the last digit, behind the others
+pub one_digit_more : (front mid after : List ℕ) (n : ℕ) → 10 ≤ n → n < 2 ^ 64 → mid ≡ front ++ decimal (n / 10) → after ≡ mid ++ ((48 + n % 10) ∷ []) → after ≡ front ++ decimal n
+one_digit_more front mid after n some fits e is =
+    is ∙ ap (λ l. l ++ ((48 + n % 10) ∷ [])) e ∙ append_assoc front (decimal (n / 10)) ((48 + n % 10) ∷ []) ∙ ap (λ l. front ++ l) (sym (decimal_step n some fits))

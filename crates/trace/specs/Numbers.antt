@@ -1,6 +1,13 @@
 -- Numbers at the front of bytes.
-use Rattle.std.specs.Prelude.{◌≡◌, ℕ, ◌^◌, ◌<◌, ◌≤◌, List, length, take, get_or, decimal}
+use Rattle.std.specs.Prelude.{◌≡◌, ℕ, ◌-◌, ◌^◌, ◌<◌, ◌≤◌, List, length, take, get_or, decimal}
 use Rattle.std.specs.Str.Parse.{AllDigits, digits_value}
+
+-- A digit stands there (bytes 48 to 57), and writes d.
+pub record DigitAt (bytes : List ℕ) (i d : ℕ) : Type 0 where
+  pub within : i < length bytes
+  pub low : 48 ≤ get_or bytes i 0
+  pub high : get_or bytes i 0 ≤ 57
+  pub value : d ≡ get_or bytes i 0 - 48
 
 -- The first `count` bytes are digits, and this is the number that they write.
 pub record DigitsSpell (bytes : List ℕ) (n count : ℕ) : Type 0 where

@@ -2,7 +2,7 @@
 ghost use Rattle.std.specs.Prelude.{◌≡◌, ◌≤◌, ◌+◌, ◌∷◌, [], ◌++◌, codes, get_or, length, option_map, take};
 ghost use Rattle.trace.specs.Spelling.{keyword_text, command_text};
 ghost use Rattle.trace.specs.Reading.{after_in, comparing, first_keyword_in, keyword_or};
-ghost use Rattle.trace.specs.Reading.{shape_in, arguments_in, bare_in, command_in, mutator_and_command_in};
+ghost use Rattle.trace.specs.Reading.{shape_in, two_in, three_in, four_in, slot_and_shape_in, arguments_in, bare_in, command_in, mutator_and_command_in};
 
 use crate::field::{Leading, Spelled, after};
 use crate::text::{put, put_named};
@@ -93,6 +93,54 @@ impl Keyword {
     }
 }
 
+/// Two numbers. Such readers stand apart, so that each kind of command reads its numbers in one call.
+#[inline(never)]
+fn two(bytes: &[u8]) -> Option<Two>
+    ensures { result ≡ two_in 32 32 bytes.now }
+{
+    Two::read(bytes)
+}
+
+/// Three numbers.
+#[inline(never)]
+fn three(bytes: &[u8]) -> Option<Three>
+    ensures { result ≡ three_in 32 32 32 bytes.now }
+{
+    Three::read(bytes)
+}
+
+/// Four numbers.
+#[inline(never)]
+fn four(bytes: &[u8]) -> Option<Four>
+    ensures { result ≡ four_in 32 32 32 32 bytes.now }
+{
+    Four::read(bytes)
+}
+
+/// Two numbers and a word.
+#[inline(never)]
+fn two_and_word(bytes: &[u8]) -> Option<(u32, (u32, u64))>
+    ensures { result ≡ three_in 32 32 64 bytes.now }
+{
+    <(u32, (u32, u64))>::read(bytes)
+}
+
+/// Two numbers and two words.
+#[inline(never)]
+fn two_and_words(bytes: &[u8]) -> Option<(u32, (u32, (u64, u64)))>
+    ensures { result ≡ four_in 32 32 64 64 bytes.now }
+{
+    <(u32, (u32, (u64, u64)))>::read(bytes)
+}
+
+/// A slot and a shape.
+#[inline(never)]
+fn slot_and_shape(bytes: &[u8]) -> Option<(u32, Shape)>
+    ensures { result ≡ slot_and_shape_in bytes.now }
+{
+    <(u32, Shape)>::read(bytes)
+}
+
 impl Spelled for Shape {
     ghost read_in = { shape_in };
 
@@ -116,37 +164,35 @@ fn arguments(keyword: Keyword, bytes: &[u8]) -> Option<Command>
     ensures { result ≡ arguments_in keyword bytes.now }
 {
     match keyword {
-        Keyword::New => <(u32, Shape)>::read(bytes).map(|(dst, shape)| Command::New { dst, shape }),
-        Keyword::Load => Three::read(bytes).map(|(dst, (obj, i))| Command::Load { dst, obj, i }),
-        Keyword::Store => Three::read(bytes).map(|(obj, (i, src))| Command::Store { obj, i, src }),
+        Keyword::New => slot_and_shape(bytes).map(|(dst, shape)| Command::New { dst, shape }),
+        Keyword::Load => three(bytes).map(|(dst, (obj, i))| Command::Load { dst, obj, i }),
+        Keyword::Store => three(bytes).map(|(obj, (i, src))| Command::Store { obj, i, src }),
         Keyword::CompareStore => {
-            Four::read(bytes).map(|(obj, (i, (expect, new)))| Command::CompareStore {
+            four(bytes).map(|(obj, (i, (expect, new)))| Command::CompareStore {
                 obj,
                 i,
                 expect,
                 new,
             })
         }
-        Keyword::Get => Two::read(bytes).map(|(obj, i)| Command::Get { obj, i }),
-        Keyword::Put => <(u32, (u32, u64))>::read(bytes).map(|(obj, (i, word))| Command::Put {
-            obj,
-            i,
-            word,
-        }),
+        Keyword::Get => two(bytes).map(|(obj, i)| Command::Get { obj, i }),
+        Keyword::Put => two_and_word(bytes).map(|(obj, (i, word))| Command::Put { obj, i, word }),
         Keyword::ComparePut => {
-            <(u32, (u32, (u64, u64)))>::read(bytes).map(|(
+            two_and_words(bytes).map(|(obj, (i, (old, new)))| Command::ComparePut {
                 obj,
-                (i, (old, new)),
-            )| Command::ComparePut { obj, i, old, new })
+                i,
+                old,
+                new,
+            })
         }
-        Keyword::Copy => Two::read(bytes).map(|(dst, src)| Command::Copy { dst, src }),
+        Keyword::Copy => two(bytes).map(|(dst, src)| Command::Copy { dst, src }),
         Keyword::Clear => u32::read(bytes).map(|dst| Command::Clear { dst }),
-        Keyword::LoadStatic => Two::read(bytes).map(|(dst, k)| Command::LoadStatic { dst, k }),
-        Keyword::StoreStatic => Two::read(bytes).map(|(k, src)| Command::StoreStatic { k, src }),
+        Keyword::LoadStatic => two(bytes).map(|(dst, k)| Command::LoadStatic { dst, k }),
+        Keyword::StoreStatic => two(bytes).map(|(k, src)| Command::StoreStatic { k, src }),
         Keyword::CompareStatic => {
-            Three::read(bytes).map(|(k, (expect, new))| Command::CompareStatic { k, expect, new })
+            three(bytes).map(|(k, (expect, new))| Command::CompareStatic { k, expect, new })
         }
-        Keyword::Same => Two::read(bytes).map(|(a, b)| Command::Same { a, b }),
+        Keyword::Same => two(bytes).map(|(a, b)| Command::Same { a, b }),
         Keyword::Describe => u32::read(bytes).map(|a| Command::Describe { a }),
     }
 }
@@ -208,7 +254,7 @@ fn comparing_command(version: Version, bytes: &[u8]) -> Option<Command>
 
 /// A command. The first two bytes tell the kinds that it can have, so that each arm reads the arguments of these alone.
 #[tactic(auto, unfolding(crate::specs::Reading::command_in, crate::specs::Reading::front_keyword_in, crate::specs::Reading::keywords_by))]
-#[inline(never)]
+#[inline(always)]
 fn command(version: Version, bytes: &[u8]) -> Option<Command>
     ensures { result ≡ command_in version bytes.now }
 {

@@ -1,6 +1,7 @@
 //! Cutting what a source gives into lines.
 ghost use Rattle.std.specs.Prelude.{true, false, ◌⊎◌, Ok, Err, ◌∷◌, ◌++◌, ◌≡◌, ◌==◌, ◌+◌, ◌-◌, ◌<◌, ◌≤◌, ◌^◌, [], length, take, slice_range, IfOk, IfSome, IsNone, OnOk, OnErr, IsTrue};
 ghost use Rattle.streams.specs.Streams.{failed, Stays, GrowsByPart, given_by};
+ghost use Rattle.memchr.specs.Find.{IsFirstByte, is_byte};
 ghost use Rattle.trace.specs.Lines.{Comes, NoLf, IsLine, FirstLf};
 
 use crate::fault::{LineFault, PlayFault};
@@ -9,6 +10,7 @@ use crate::version::Version;
 use crate::write_buffer::WriteBuffer;
 use memchr::memchr;
 use std::marker::Model;
+use std::simd::prelude::*;
 use streams::{ReadFailed, Sink, Source, WriteFailed};
 
 /// How many bytes are read at once, at most.
@@ -17,13 +19,45 @@ const CAPACITY: usize = 65536;
 /// How many bytes a line has, at most, before its LF.
 const LONGEST: usize = 256;
 
-/// Where the first LF stands, if it is among the first 257 bytes.
+/// How many bytes are compared at once.
+const NEAR: usize = 32;
+
+/// Where the first LF stands, if it is among the first 32 bytes.
+#[inline(always)]
+fn near_line_feed(bytes: &[u8]) -> Option<usize>
+    requires { NEAR ≤ length bytes.now }
+    ensures { IsFirstByte (is_byte 10) (take 32 bytes.now) result }
+{
+    let places = u8x32::from_slice(bytes)
+        .simd_eq(u8x32::splat(b'\n'))
+        .to_bitmask();
+    if places == 0 {
+        return None;
+    }
+    Some(places.trailing_zeros() as usize)
+}
+
+/// Where the first LF stands, if it is among the first 257 bytes, by a search of all of them.
+#[inline(never)]
+fn far_line_feed(bytes: &[u8]) -> Option<usize>
+    ensures { IsFirstByte (is_byte 10) (take 257 bytes.now) result }
+{
+    let front = &bytes[..bytes.len().min(LONGEST + 1)];
+    memchr(b'\n', front)
+}
+
+/// Where the first LF stands, if it is among the first 257 bytes. Most lines end within 32, which are compared at once.
+#[inline(always)]
 fn line_feed(bytes: &[u8]) -> Option<usize>
     ensures found { IfSome result (λ i. FirstLf bytes.now i) }
     ensures none { IsNone result → NoLf (take 257 bytes.now) }
 {
-    let front = &bytes[..bytes.len().min(LONGEST + 1)];
-    memchr(b'\n', front)
+    if bytes.len() >= NEAR {
+        if let Some(at) = near_line_feed(bytes) {
+            return Some(at);
+        }
+    }
+    far_line_feed(bytes)
 }
 
 /// Brings the bytes of a range to the front of a buffer.
@@ -168,6 +202,7 @@ impl LineReader {
     }
 
     /// Hands out the line that the bytes kept begin with, if its LF is among their first 257.
+    #[inline(always)]
     fn cut_line(&mut self) -> bool
         ensures cut { IsTrue result → self.old.kept ≡ self.new.text.bytes ++ 10 ∷ self.new.kept }
         ensures line { IsTrue result → IsLine self.new.text.bytes }

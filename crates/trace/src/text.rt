@@ -30,6 +30,65 @@ fn put_digits(out: &mut [u8], at: usize, n: u64) -> usize
     put(out, at, text.as_bytes())
 }
 
+/// Writes a digit.
+#[inline(always)]
+fn put_digit(out: &mut [u8], at: usize, digit: u64) -> usize
+    requires room { at + 1 ≤ length out.old }
+    requires digit { digit < 10 }
+    ensures text { take result out.new ≡ take at out.old ++ ((48 + digit) ∷ []) }
+    ensures place { result ≡ at + 1 }
+{
+    put(out, at, &[b'0' + digit as u8])
+}
+
+/// Writes a number of up to two digits.
+#[tactic(auto, using(std::proofs::lemmas::Fmt::decimal_digit))]
+#[inline(always)]
+fn put_below_100(out: &mut [u8], at: usize, n: u64) -> usize
+    requires room { at + 2 ≤ length out.old }
+    requires few { n < 100 }
+    ensures text { take result out.new ≡ take at out.old ++ decimal n }
+    ensures place { result ≤ at + 2 }
+{
+    if n < 10 {
+        return put(out, at, &[b'0' + n as u8]);
+    }
+    let next = put_digit(out, at, n / 10);
+    put_digit(out, next, n % 10)
+}
+
+/// Writes a number of up to three digits.
+#[inline(always)]
+fn put_below_1000(out: &mut [u8], at: usize, n: u64) -> usize
+    requires room { at + 3 ≤ length out.old }
+    requires few { n < 1000 }
+    ensures text { take result out.new ≡ take at out.old ++ decimal n }
+    ensures place { result ≤ at + 3 }
+{
+    if n < 100 {
+        return put_below_100(out, at, n);
+    }
+    let next = put_below_100(out, at, n / 10);
+    put_digit(out, next, n % 10)
+}
+
+/// Writes a number, in place if it has up to four digits.
+#[inline(never)]
+fn put_some_digits(out: &mut [u8], at: usize, n: u64) -> usize
+    requires { at + 20 ≤ length out.old }
+    ensures text { take result out.new ≡ take at out.old ++ decimal n }
+    ensures place { result ≤ at + 20 }
+{
+    if n < 1000 {
+        return put_below_1000(out, at, n);
+    }
+    if n >= 10000 {
+        return put_digits(out, at, n);
+    }
+    let next = put_below_1000(out, at, n / 10);
+    put_digit(out, next, n % 10)
+}
+
 /// Writes a number. Most have one digit, which is written in place.
 #[tactic(auto, using(std::proofs::lemmas::Fmt::decimal_digit))]
 #[inline(always)]
@@ -39,9 +98,9 @@ pub(crate) fn put_number(out: &mut [u8], at: usize, n: u64) -> usize
     ensures place { result ≤ at + 20 }
 {
     if n < 10 {
-        put(out, at, &[b'0' + n as u8])
+        put_digit(out, at, n)
     } else {
-        put_digits(out, at, n)
+        put_some_digits(out, at, n)
     }
 }
 

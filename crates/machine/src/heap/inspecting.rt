@@ -5,10 +5,11 @@ ghost use Rattle.heap_model.specs.Pages as page_list;
 ghost use Rattle.pages.specs.View.{view_of};
 ghost use Rattle.roots.specs.Used.{used_in};
 ghost use Rattle.nodes.specs.Copies.{copies_in, HasBlock};
+ghost use Rattle.nodes.specs.Seen.{block_view};
 ghost use Rattle.nodes.specs.Wasted.{wasted_on};
 
 use super::Heap;
-use nodes::Copies;
+use nodes::{BlockView, Copies};
 use pages::PageView;
 
 impl Heap {
@@ -72,5 +73,13 @@ impl Heap {
         ensures { result ≡ copies_in self.now.store }
     {
         self.fields.nodes.copies()
+    }
+
+    /// What can be seen of a block of a page, by its number there, from 0. None where it isn't allocated, or where there is
+    /// no such page or block.
+    pub fn block(&self, page: usize, index: usize) -> Option<BlockView>
+        ensures { result ≡ block_view self.now.store page index }
+    {
+        self.fields.nodes.block(page, index)
     }
 }

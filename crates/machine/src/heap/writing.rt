@@ -2,6 +2,7 @@
 //! overwrites.
 ghost use Rattle.std.specs.Prelude.{◌+◌, ◌<◌, ◌≤◌, length, slice_index};
 ghost use Rattle.heap_model.specs.Change.{Clears};
+ghost use Rattle.nodes.specs.Grey.{AreLinked};
 ghost use Rattle.nodes.specs.HeapFields.{state_of, AreHeapFields};
 ghost use Rattle.machine.specs.Plan.{CanPerform, DoesEach};
 ghost use Rattle.machine.specs.Buffers.{AreOwn};
@@ -76,7 +77,8 @@ fn write_new(heap: &mut HeapFields, mutator: u32, root: usize, shape: Shape)
 }
 
 /// This many roots, from one on, get null one after the other, written by a mutator.
-fn null_roots(heap: &mut HeapFields, mutator: u32, first: usize, count: usize)
+#[inline(always)]
+pub fn null_roots(heap: &mut HeapFields, mutator: u32, first: usize, count: usize)
     requires heap { AreHeapFields heap.old }
     requires mutator { mutator < heap.old.roots.limits.mutators }
     requires within { first + count ≤ length heap.old.roots.cells }
@@ -96,6 +98,7 @@ fn write_leave(heap: &mut HeapFields, mutator: u32)
     requires write { CanPerform (state_of heap.old) (Write.Leave mutator) }
     ensures does { DoesEach (state_of heap.old) (Write.Leave mutator) (state_of heap.new) }
     ensures buffers { AreOwn mutator heap.old.grey heap.new.grey }
+    ensures linked { AreLinked heap.new.nodes heap.new.grey }
 {
     let slots = heap.roots.limits().slots as usize;
     null_roots(heap, mutator, mutator as usize * slots, slots);

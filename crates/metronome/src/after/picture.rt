@@ -6,7 +6,7 @@ ghost use Rattle.metronome.specs.Faults.{failed_reads, failed_writes};
 
 use crate::fault::{Ending, RunFault};
 use command_line::Picture;
-use pictures::{draw_pages, draw_utilisation};
+use pictures::{draw_events, draw_pages, draw_utilisation};
 use player::Player;
 use settings::Config;
 use streams::{Sink, WriteFailed};
@@ -26,6 +26,7 @@ fn draw<K: Sink>(
     match picture {
         Picture::Pages => draw_pages(player.recorded().heap(), sink),
         Picture::Utilisation => draw_utilisation(config, player.schedule(), sink),
+        Picture::Events => draw_events(player.schedule(), sink),
     }
 }
 

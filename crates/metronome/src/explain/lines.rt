@@ -26,22 +26,25 @@ pub(crate) fn explain_line<O: Opener, E: Write>(
     number: u64,
     fault: LineFault,
 ) -> Result<(), Silence> {
-    if request.file == "-" {
+    let Some(file) = request.file else {
+        return Ok(());
+    };
+    if file == "-" {
         writeln!(
             errors,
             "metronome: line {number} came from standard input, which can't be read again"
         )?;
         return tell_rule(alloc, request, opener, errors, fault);
     }
-    let name = Quoted(request.file.as_bytes());
-    if !opener.is_lasting(request.file) {
+    let name = Quoted(file.as_bytes());
+    if !opener.is_lasting(file) {
         writeln!(
             errors,
             "metronome: line {number} came from {name}, which can't be read again"
         )?;
         return tell_rule(alloc, request, opener, errors, fault);
     }
-    let line = line_of(alloc, opener, request.file, number)?;
+    let line = line_of(alloc, opener, file, number)?;
     if line.bytes.is_empty() {
         // (no line that is refused is empty, so the file isn't what it was)
         return Err(Silence);
@@ -49,7 +52,7 @@ pub(crate) fn explain_line<O: Opener, E: Write>(
     let text = Quoted(line.bytes.as_slice());
     writeln!(errors, "metronome: line {number} of {name} is {text}")?;
     tell_rule(alloc, request, opener, errors, fault)?;
-    let version = version_of(alloc, opener, request.file, number)?;
+    let version = version_of(alloc, opener, file, number)?;
     tell_wrong(alloc, errors, version, line.bytes.as_slice(), fault)
 }
 

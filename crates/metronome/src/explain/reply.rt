@@ -20,7 +20,9 @@ pub(crate) fn explain_reply<O: Opener, E: Write>(
     opener: &O,
     errors: &mut E,
 ) -> Result<(), Silence> {
-    let name = request.file;
+    let Some(name) = request.file else {
+        return Ok(());
+    };
     if name == "-" || !opener.is_lasting(name) {
         writeln!(
             errors,

@@ -21,8 +21,10 @@ pub(crate) fn explain_unread<O: Opener, E: Write>(
         }
         return Ok(());
     }
-    if request.file != "-" && tell_unread(opener, request.file, errors)? {
-        return Ok(());
+    if let Some(name) = request.file {
+        if name != "-" && tell_unread(opener, name, errors)? {
+            return Ok(());
+        }
     }
     if let Job::Pages {
         by: Sizing::Load(name),
@@ -32,7 +34,7 @@ pub(crate) fn explain_unread<O: Opener, E: Write>(
             return Ok(());
         }
     }
-    if request.file == "-" {
+    if matches!(request.file, Some("-")) {
         writeln!(errors, "metronome: a read of standard input failed")?;
     }
     Ok(())

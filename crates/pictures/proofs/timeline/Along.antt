@@ -1,91 +1,125 @@
--- Samples of moments, one after the other.
-use Rattle.std.proofs.Common.{◌≡◌, ◌≢◌, ◌⊎◌, ℕ, zero, suc, ◌+◌, ◌-◌, ◌*◌, ◌/◌, ◌^◌, ◌<◌, ◌≤◌, inl, inr, List, [], ◌∷◌, ◌++◌, length, length-append, get_or, slice_get, option_map, Some, refl, ap, ◌∙◌, sym, arith, add-mul, mul_assoc, mul_comm, mul-le-mul_right, pow_mono, pow-add}
-use Rattle.std.proofs.lemmas.Bool.{cases_order}
-use Rattle.std.proofs.lemmas.Option.{slice_get_past, slice_get_cases, slice_get-get_or}
+-- Samples of moments, as one moment after the other comes.
+use Rattle.std.proofs.Common.{◌≡◌, ◌≢◌, ℕ, zero, suc, ◌+◌, ◌-◌, ◌*◌, ◌/◌, ◌^◌, ◌<◌, ◌≤◌, List, [], ◌∷◌, ◌++◌, length, length-append, get_or, take, drop, min, max, refl, ap, ◌∙◌, sym, subst, arith, append_assoc, add-mul, mul-le-mul_right, pow_mono, pow-add, length-drop, Bool, false, Option, None, Some}
+use Rattle.std.specs.List.{fold}
+use Rattle.std.specs.Option.{option_or}
+use Rattle.std.proofs.Math.Bool.{or_assoc}
+use Rattle.std.proofs.Math.Seq.{take-add, take_all}
+use Rattle.std.proofs.Math.ListN.{drop_of_length-le}
+use Rattle.std.proofs.lemmas.List.{take-append-le, drop-append-le, drop-drop}
+use Rattle.std.proofs.lemmas.List.Sums.{fold-append}
 use Rattle.pictures.specs.declared.over_time.TheConstants.{MOST_SAMPLES}
 use Rattle.pictures.specs.declared.sample.Sample.{Sample}
 use Rattle.player.specs.Observing.{Moment}
-use Rattle.pictures.specs.Samples.{sampled, AreSamples, IsStride}
-use Rattle.pictures.specs.Sampler.{AreTaken}
+use Rattle.heap_model.specs.State.{HeapState}
+use Rattle.pictures.specs.Joining.{joined}
+use Rattle.pictures.specs.OverTime.{sample_of}
+use Rattle.pictures.specs.Samples.{sampled, IsSampleOf, AreSamples, IsStride}
+use Rattle.pictures.specs.Sampler.{ArePairs, AreTaken}
 
--- the last of a list, and those before it
-get_last : {X : Type 0} (xs : List X) (x : X) (i : ℕ) → i ≡ length xs → slice_get (xs ++ x ∷ []) i ≡ Some x
-get_last [] x zero e = refl
-get_last [] x (suc i) e = absurd (omega (arith, e))
-get_last (y ∷ ys) x zero e = absurd (omega (arith, e))
-get_last (y ∷ ys) x (suc i) e = get_last ys x i (omega (arith, e))
+-- objects that were counted aren't counted again
+pub counted_once : (s : Sample) (h : HeapState) (line n : ℕ) (counted : Bool) → s.objects ≡ Some n → joined s (sample_of h line false) ≡ joined s (sample_of h line counted)
+counted_once s h line n counted is = rw is refl
 
-get_others : {X : Type 0} (xs : List X) (x : X) (i : ℕ) → i ≢ length xs → slice_get (xs ++ x ∷ []) i ≡ slice_get xs i
-get_others [] x zero e = absurd (e refl)
-get_others [] x (suc i) e = refl
-get_others (y ∷ ys) x zero e = refl
-get_others (y ∷ ys) x (suc i) e = get_others ys x i (λ same. e (omega (arith, same)))
+-- three samples are one, whichever are joined first
+min_of_three : (a b c : ℕ) → min (min a b) c ≡ min a (min b c)
+min_of_three a b c = omega arith
 
--- every second of a list
-pub get_even : {X : Type 0} (old new : List X) → length new ≡ length old - length old / 2 → ((k : ℕ) (d : X) → k < length new → get_or new k d ≡ get_or old (2 * k) d) → (i : ℕ) → slice_get new i ≡ slice_get old (i * 2)
-get_even old new len each i = elim (slice_get_cases old (i * 2)).1 [
-  | inl h ↦
-      let within : i < length new = omega (arith, h.1, len) in
-      let same : 2 * i ≡ i * 2 = omega arith in
-      slice_get-get_or new i h.0 within ∙ ap Some (each i h.0 within ∙ ap (λ k. get_or old k h.0) same ∙ h.3) ∙ sym h.2
-  | inr h ↦ slice_get_past new i (omega (arith, h.0, len)) ∙ sym h.1
-]
+max_of_three : (a b c : ℕ) → max (max a b) c ≡ max a (max b c)
+max_of_three a b c = omega arith
 
--- one place before another is a stride before it, or more
-a_stride_less : (i n stride : ℕ) → i < n → i * stride + stride ≤ n * stride
-a_stride_less i n stride l =
-    let more : (i + 1) * stride ≤ n * stride = mul-le-mul_right stride (omega (arith, l)) in
-    omega (arith, more)
+or_of_three : (a b c : Option ℕ) → option_or (option_or a b) c ≡ option_or a (option_or b c)
+or_of_three None b c = refl
+or_of_three (Some x) b c = refl
 
-not_both : (i n : ℕ) → i ≡ n → (i < n) ⊎ (n < i) → ⊥
-not_both i n e (inl below) = omega (arith, e, below)
-not_both i n e (inr above) = omega (arith, e, above)
+joined_three : (a b c : Sample) → joined (joined a b) c ≡ joined a (joined b c)
+joined_three a b c = rw (
+  or_assoc a.phases.roots b.phases.roots c.phases.roots,
+  or_assoc a.phases.marking b.phases.marking c.phases.marking,
+  or_assoc a.phases.sweeping b.phases.sweeping c.phases.sweeping,
+  or_assoc a.phases.moving b.phases.moving c.phases.moving,
+  min_of_three a.least_pages b.least_pages c.least_pages,
+  max_of_three a.most_pages b.most_pages c.most_pages,
+  or_of_three a.objects b.objects c.objects,
+) refl
 
--- so different places are strides apart
-not_same_place : (i n stride : ℕ) → 0 < stride → (i < n) ⊎ (n < i) → i * stride ≢ n * stride
-not_same_place i n stride some (inl below) e = omega (arith, e, some, a_stride_less i n stride below)
-not_same_place i n stride some (inr above) e = omega (arith, e, some, a_stride_less n i stride above)
+-- moments that are joined to a sample
+abbrev onto : Sample → List Moment → Sample
+onto s ms = fold (λ so_far next. joined so_far (sampled next)) s ms
 
-module _ (moments : List Moment) (h : Moment) (samples : List Sample) (stride : ℕ) where
-  -- a moment that isn't sampled
-  passed : AreSamples moments stride samples → ((i : ℕ) → i * stride ≢ length moments) → AreSamples (moments ++ h ∷ []) stride samples
-  passed each apart i = each i ∙ ap (option_map sampled) (sym (get_others moments h (i * stride) (apart i)))
+joined_onto : (x s : Sample) (ms : List Moment) → joined x (onto s ms) ≡ onto (joined x s) ms
+joined_onto x s [] = refl
+joined_onto x s (m ∷ ms) = joined_onto x (joined s (sampled m)) ms ∙ ap (λ t. onto t ms) (sym (joined_three x s (sampled m)))
 
-  -- a moment that is
-  added : AreSamples moments stride samples → 0 < stride → length samples * stride ≡ length moments → AreSamples (moments ++ h ∷ []) stride (samples ++ sampled h ∷ [])
-  added each some at i = elim (cases_order i (length samples)) [
-    | inl same ↦ get_last samples (sampled h) i same ∙ ap (option_map sampled) (sym (get_last moments h (i * stride) (ap (λ n. n * stride) same ∙ at)))
-    | inr apart ↦
-        get_others samples (sampled h) i (λ e. not_both i (length samples) e apart) ∙ each i
-        ∙ ap (option_map sampled) (sym (get_others moments h (i * stride) (λ e. not_same_place i (length samples) stride some apart (e ∙ sym at))))
-  ]
+-- the sample of moments behind others
+pub sample_both : (a b : List Moment) (x y : Sample) → IsSampleOf a x → IsSampleOf b y → IsSampleOf (a ++ b) (joined x y)
+sample_both [] b x y p q = absurd p
+sample_both (m ∷ ms) [] x y p q = absurd q
+sample_both (m ∷ ms) (n ∷ ns) x y p q =
+    let step = λ (so_far : Sample) (next : Moment). joined so_far (sampled next) in
+    ap (joined x) q ∙ joined_onto x (sampled n) ns ∙ ap (λ t. onto (joined t (sampled n)) ns) p ∙ sym (fold-append step (sampled m) ms (n ∷ ns))
 
--- every second of the samples
-halved : (moments : List Moment) (stride : ℕ) (samples even : List Sample) → AreSamples moments stride samples → ((i : ℕ) → slice_get even i ≡ slice_get samples (i * 2)) → AreSamples moments (stride * 2) even
-halved moments stride samples even each evens i =
-    evens i ∙ each (i * 2) ∙ ap (λ n. option_map sampled (slice_get moments n)) (mul_assoc i 2 stride ∙ ap (λ n. i * n) (mul_comm 2 stride))
+some_moment : (a : List Moment) (x : Sample) → IsSampleOf a x → 0 < length a
+some_moment [] x p = absurd p
+some_moment (m ∷ ms) x p = omega arith
 
--- the first moment
-first_each : (h : Moment) → AreSamples (h ∷ []) 1 (sampled h ∷ [])
-first_each h zero = refl
-first_each h (suc i) = let same : suc i ≡ suc i * 1 = omega arith in ap (λ n. option_map sampled (slice_get (h ∷ []) n)) same
+-- all moments, of which the last sample may have fewer than the stride says
+pub samples_with_last : (stride : ℕ) (before latest : List Moment) (samples : List Sample) (last : Sample) → AreSamples before stride samples → length before ≡ length samples * stride → IsSampleOf latest last → length latest ≤ stride
+    → AreSamples (before ++ latest) stride (samples ++ last ∷ [])
+samples_with_last stride before latest [] last each long is short =
+    let none : before ≡ [] = each in
+    subst (λ (xs : List Moment). AreSamples (xs ++ latest) stride (last ∷ [])) (sym none)
+    (subst (λ (xs : List Moment). IsSampleOf xs last) (sym (take_all stride latest short)) is, drop_of_length-le latest short)
+samples_with_last stride before latest (s ∷ later) last each long is short =
+    let enough : stride ≤ length before = omega (arith, long, add-mul 1 (length later) stride) in
+    let behind : length (drop stride before) ≡ length later * stride = omega (arith, long, add-mul 1 (length later) stride, length-drop stride before) in (
+      subst (λ (xs : List Moment). IsSampleOf xs s) (sym (take-append-le stride before latest enough)) each.0,
+      subst (λ (xs : List Moment). AreSamples xs stride (later ++ last ∷ [])) (sym (drop-append-le stride before latest enough)) (samples_with_last stride (drop stride before) latest later last each.1 behind is short),
+    )
 
-pub first_taken : (h : Moment) → AreTaken (h ∷ []) (sampled h ∷ []) 1 0
+-- the pairs behind the first one
+pairs_behind : (x y z : Sample) (xs zs : List Sample) → ArePairs (x ∷ y ∷ xs) (z ∷ zs) → ArePairs xs zs
+pairs_behind x y z xs zs p = record {
+  length_is = omega (arith, p.length_is);
+  each = λ i d l.
+      let even : 2 * (i + 1) ≡ suc (suc (2 * i)) = omega arith in
+      let odd : 2 * (i + 1) + 1 ≡ suc (suc (2 * i + 1)) = omega arith in
+      let next : i + 1 ≡ suc i = omega arith in
+      ap (λ n. get_or (z ∷ zs) n d) (sym next) ∙ p.each (i + 1) d (omega (arith, l)) ∙ ap (λ n. joined (get_or (x ∷ y ∷ xs) n d) (get_or (x ∷ y ∷ xs) (2 * (i + 1) + 1) d)) even ∙ ap (λ n. joined (get_or xs (2 * i) d) (get_or (x ∷ y ∷ xs) n d)) odd;
+}
+
+-- samples of twice as many moments
+pub samples_of_pairs : (stride : ℕ) (moments : List Moment) (old new : List Sample) → AreSamples moments stride old → ArePairs old new → length moments ≡ length old * stride → length old ≡ 2 * length new → AreSamples moments (stride * 2) new
+samples_of_pairs stride moments [] [] each p long even = each
+samples_of_pairs stride moments [] (z ∷ zs) each p long even = absurd (omega (arith, even))
+samples_of_pairs stride moments (x ∷ []) new each p long even = absurd (omega (arith, even))
+samples_of_pairs stride moments (x ∷ y ∷ xs) [] each p long even = absurd (omega (arith, even))
+samples_of_pairs stride moments (x ∷ y ∷ xs) (z ∷ zs) each p long even =
+    let twice : stride * 2 ≡ stride + stride = omega arith in
+    let front : take (stride * 2) moments ≡ take stride moments ++ take stride (drop stride moments) = ap (λ n. take n moments) twice ∙ take-add stride stride moments in
+    let back : drop (stride * 2) moments ≡ drop stride (drop stride moments) = ap (λ n. drop n moments) twice ∙ sym (drop-drop stride stride moments) in
+    let first : z ≡ joined x y = p.each 0 z (omega arith) in
+    let behind : length (drop stride (drop stride moments)) ≡ length xs * stride = omega (arith, long, add-mul 2 (length xs) stride, length-drop stride moments, length-drop stride (drop stride moments)) in (
+      subst (λ (ms : List Moment). IsSampleOf ms z) (sym front)
+          (subst (IsSampleOf (take stride moments ++ take stride (drop stride moments))) (sym first) (sample_both (take stride moments) (take stride (drop stride moments)) x y each.0 each.1.0)),
+      subst (λ (ms : List Moment). AreSamples ms (stride * 2) zs) (sym back)
+          (samples_of_pairs stride (drop stride (drop stride moments)) xs zs each.1.1 (pairs_behind x y z xs zs p) behind (omega (arith, even))),
+    )
+
+pub first_taken : (h : Moment) → AreTaken (h ∷ []) [] (sampled h) 1 1
 first_taken h = record {
-  each = first_each h;
+  before = [];
+  latest = h ∷ [];
+  moments_are = refl;
+  each = refl;
+  long = refl;
+  last_is = refl;
+  count = refl;
+  short = omega arith;
   few = omega arith;
   exponent = 0;
   power = refl;
   least = λ k none. absurd (omega (arith, none));
-  short = omega arith;
-  count = refl;
 }
-
--- between two that are sampled
-between : (i n stride since moments : ℕ) → moments + stride ≡ n * stride + since + 1 → since + 1 < stride → (i ≡ n) ⊎ ((i < n) ⊎ (n < i)) → i * stride ≢ moments
-between i n stride since moments count l (inl same) e = omega (arith, e, count, l, ap (λ m. m * stride) same)
-between i n stride since moments count l (inr (inl below)) e = omega (arith, e, count, l, a_stride_less i n stride below)
-between i n stride since moments count l (inr (inr above)) e = omega (arith, e, count, l, a_stride_less n i stride above)
 
 -- twice the stride
 doubled : (stride exponent : ℕ) → stride ≡ 2 ^ exponent → stride * 2 ≡ 2 ^ (exponent + 1)
@@ -97,69 +131,108 @@ doubled_least stride exponent moments k power long below =
     let less : 2 ^ k ≤ 2 ^ exponent = pow_mono (omega (arith, below)) in
     omega (arith, power, long, less)
 
-module _ (moments : List Moment) (h : Moment) (samples : List Sample) (stride since : ℕ) (t : AreTaken moments samples stride since) where
+-- how many moments there are
+in_all : (moments : List Moment) (samples : List Sample) (last : Sample) (stride since : ℕ) → AreTaken moments samples last stride since → length moments ≡ length samples * stride + since
+in_all moments samples last stride since t = omega (arith, ap length t.moments_are, length-append t.before t.latest, t.long, t.count)
+
+module _ (moments : List Moment) (h : Moment) (samples : List Sample) (last : Sample) (stride since : ℕ) (t : AreTaken moments samples last stride since) where
   longer : length (moments ++ h ∷ []) ≡ length moments + 1
   longer = length-append moments (h ∷ [])
 
   -- the stride isn't full
-  pub one_passed : since + 1 < stride → AreTaken (moments ++ h ∷ []) samples stride (since + 1)
-  one_passed l = record {
-    each = passed moments h samples stride t.each (λ i. between i (length samples) stride since (length moments) t.count l (cases_order i (length samples)));
+  pub one_more : since < stride → AreTaken (moments ++ h ∷ []) samples (joined last (sampled h)) stride (since + 1)
+  one_more l = record {
+    before = t.before;
+    latest = t.latest ++ h ∷ [];
+    moments_are = ap (λ xs. xs ++ h ∷ []) t.moments_are ∙ append_assoc t.before t.latest (h ∷ []);
+    each = t.each;
+    long = t.long;
+    last_is = sample_both t.latest (h ∷ []) last (sampled h) t.last_is refl;
+    count = omega (arith, t.count, length-append t.latest (h ∷ []));
+    short = omega (arith, l);
     few = t.few;
     exponent = t.exponent;
     power = t.power;
     least = λ k below. omega (arith, t.least k below, longer);
-    short = l;
-    count = omega (arith, t.count, longer);
   }
 
-  module _ (full : since + 1 ≡ stride) where
-    at : length samples * stride ≡ length moments
-    at = omega (arith, full, t.count)
+  module _ (full : stride ≤ since) where
+    is_full : since ≡ stride
+    is_full = omega (arith, full, t.short)
+
+    some : 0 < stride
+    some = omega (arith, is_full, t.count, some_moment t.latest last t.last_is)
+
+    with_last : AreSamples (t.before ++ t.latest) stride (samples ++ last ∷ [])
+    with_last = samples_with_last stride t.before t.latest samples last t.each t.long t.last_is (omega (arith, t.count, is_full))
+
+    number : length (samples ++ last ∷ []) ≡ length samples + 1
+    number = length-append samples (last ∷ [])
+
+    long : length (t.before ++ t.latest) ≡ length (samples ++ last ∷ []) * stride
+    long = omega (arith, length-append t.before t.latest, t.long, t.count, is_full, ap (λ n. n * stride) number, add-mul (length samples) 1 stride)
 
     -- it is full, and there is room
-    pub one_taken : length samples ≢ MOST_SAMPLES → AreTaken (moments ++ h ∷ []) (samples ++ sampled h ∷ []) stride 0
-    one_taken room = record {
-      each = added moments h samples stride t.each (omega (arith, full)) at;
-      few = omega (arith, t.few, room, length-append samples (sampled h ∷ []));
+    pub one_new : length (samples ++ last ∷ []) ≢ MOST_SAMPLES → AreTaken (moments ++ h ∷ []) (samples ++ last ∷ []) (sampled h) stride 1
+    one_new room = record {
+      before = t.before ++ t.latest;
+      latest = h ∷ [];
+      moments_are = ap (λ xs. xs ++ h ∷ []) t.moments_are;
+      each = with_last;
+      long = long;
+      last_is = refl;
+      count = refl;
+      short = some;
+      few = omega (arith, t.few, room, number);
       exponent = t.exponent;
       power = t.power;
       least = λ k below. omega (arith, t.least k below, longer);
-      short = omega (arith, full);
-      count = omega (arith, at, longer, ap (λ n. n * stride) (length-append samples (sampled h ∷ [])), add-mul (length samples) 1 stride);
     }
 
-    -- there is none, and every second sample is kept
-    module _ (even : List Sample) (most : length samples ≡ MOST_SAMPLES) (evens : (i : ℕ) → slice_get even i ≡ slice_get samples (i * 2)) (kept : length even ≡ length samples - length samples / 2) where
-      few : length even ≡ 500
-      few = omega (arith, most, kept)
+    pub new_one : (items : List Sample) → items ≡ samples ++ last ∷ [] → length items ≢ MOST_SAMPLES → AreTaken (moments ++ h ∷ []) items (sampled h) stride 1
+    new_one items is room = subst (λ (xs : List Sample). AreTaken (moments ++ h ∷ []) xs (sampled h) stride 1) (sym is) (one_new (λ e. room (ap length is ∙ e)))
 
-      long : length moments ≡ 1000 * stride
-      long = sym at ∙ ap (λ n. n * stride) most
+    -- there is none, and each two samples become one
+    module _ (items : List Sample) (is : items ≡ samples ++ last ∷ []) (most : length items ≡ MOST_SAMPLES) where
+      many : length (samples ++ last ∷ []) ≡ MOST_SAMPLES
+      many = sym (ap length is) ∙ most
 
-      half : length even * (stride * 2) ≡ length moments
-      half = let same : length even * (stride * 2) ≡ 500 * (stride * 2) = ap (λ n. n * (stride * 2)) few in omega (arith, same, long)
+      all : length moments ≡ 1000 * stride
+      all = omega (arith, in_all moments samples last stride since t, is_full, ap (λ n. n * stride) many, ap (λ n. n * stride) number, add-mul (length samples) 1 stride)
 
-      pub one_thinned : AreTaken (moments ++ h ∷ []) (even ++ sampled h ∷ []) (stride * 2) 0
-      one_thinned = record {
-        each = added moments h even (stride * 2) (halved moments stride samples even t.each evens) (omega (arith, full)) half;
-        few = omega (arith, few, length-append even (sampled h ∷ []));
-        exponent = t.exponent + 1;
-        power = doubled stride t.exponent t.power;
-        least = λ k below. doubled_least stride t.exponent (length (moments ++ h ∷ [])) k t.power (omega (arith, long, longer)) below;
-        short = omega (arith, full);
-        count = omega (arith, half, longer, ap (λ n. n * (stride * 2)) (length-append even (sampled h ∷ [])), add-mul (length even) 1 (stride * 2));
-      }
+      -- the doubled stride is a number of 64 bits
+      pub thin_fits : length moments < 2 ^ 64 → stride * 2 < 2 ^ 64
+      thin_fits l = omega (arith, l, all)
+
+      pub one_thinned : (new : List Sample) → ArePairs items new → AreTaken (moments ++ h ∷ []) new (sampled h) (stride * 2) 1
+      one_thinned new paired =
+          let pairs : ArePairs (samples ++ last ∷ []) new = subst (λ (xs : List Sample). ArePairs xs new) is paired in
+          let few : length new ≡ 500 = omega (arith, many, pairs.length_is) in record {
+            before = t.before ++ t.latest;
+            latest = h ∷ [];
+            moments_are = ap (λ xs. xs ++ h ∷ []) t.moments_are;
+            each = samples_of_pairs stride (t.before ++ t.latest) (samples ++ last ∷ []) new with_last pairs long (omega (arith, few, many));
+            long = omega (arith, long, ap (λ n. n * stride) many, ap (λ n. n * (stride * 2)) few);
+            last_is = refl;
+            count = refl;
+            short = omega (arith, some);
+            few = omega (arith, few);
+            exponent = t.exponent + 1;
+            power = doubled stride t.exponent t.power;
+            least = λ k below. doubled_least stride t.exponent (length (moments ++ h ∷ [])) k t.power (omega (arith, all, longer)) below;
+          }
 
 -- the stride is that of this many moments
-pub is_stride : (moments : List Moment) (samples : List Sample) (stride since : ℕ) → AreTaken moments samples stride since → IsStride (length moments) stride
-is_stride moments samples stride since t = record {
+pub is_stride : (moments : List Moment) (samples : List Sample) (last : Sample) (stride since : ℕ) → AreTaken moments samples last stride since → IsStride (length moments) stride
+is_stride moments samples last stride since t = record {
   exponent = t.exponent;
   power = t.power;
-  enough = omega (arith, t.count, t.short, mul-le-mul_right {m = length samples} {n = MOST_SAMPLES} stride t.few);
+  enough = omega (arith, in_all moments samples last stride since t, t.short, mul-le-mul_right {m = length samples + 1} {n = MOST_SAMPLES} stride (omega (arith, t.few)), add-mul (length samples) 1 stride);
   least = t.least;
 }
 
--- the same of a list that was pushed
-pub pushed : (moments : List Moment) (h : Moment) (samples new : List Sample) (s : Sample) (stride stride' since : ℕ) → new ≡ samples ++ s ∷ [] → s ≡ sampled h → stride' ≡ stride → AreTaken moments (samples ++ sampled h ∷ []) stride since → AreTaken moments new stride' since
-pushed moments h samples new s stride stride' since e is same t = rw (e, is, same) t
+-- all samples, and the last one behind them
+pub all_taken : (moments : List Moment) (samples : List Sample) (last : Sample) (stride since : ℕ) → AreTaken moments samples last stride since → AreSamples moments stride (samples ++ last ∷ [])
+all_taken moments samples last stride since t =
+    subst (λ (ms : List Moment). AreSamples ms stride (samples ++ last ∷ [])) (sym t.moments_are)
+    (samples_with_last stride t.before t.latest samples last t.each t.long t.last_is (omega (arith, t.count, t.short)))

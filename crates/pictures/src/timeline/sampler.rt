@@ -1,6 +1,7 @@
 //! Taking samples at even distances.
 ghost use Rattle.std.specs.Prelude.{◌≡◌, ◌<◌, ◌^◌, ◌++◌, ◌∷◌, [], List, length, IfOk, OnOk};
 ghost use Rattle.player.specs.Observing.{Moment, moment};
+ghost use Rattle.pictures.specs.Joining.{joined};
 ghost use Rattle.pictures.specs.Samples.{sampled};
 ghost use Rattle.pictures.specs.Sampler.{IsAlong};
 
@@ -10,10 +11,11 @@ use graph_heap::NoMemory;
 use machine::Heap;
 use std::alloc::Global;
 
-/// Samples of a run so far, and how many events were done since the last of them.
+/// Samples of a run so far, the last of them, which may get further moments, and of how many moments it is.
 #[derive(Drop)]
 pub struct Sampler {
     pub(crate) samples: Samples,
+    pub(crate) last: Sample,
     since: u64,
 }
 
@@ -24,38 +26,50 @@ fn sample(line: u64, heap: &Heap) -> Sample
     Sample::from_heap(heap, line, heap.phase().is_idle())
 }
 
+/// A sample with one moment more, of a heap after this many lines. Its objects are counted once.
+fn extended(so_far: Sample, line: u64, heap: &Heap) -> Sample
+    ensures { result ≡ joined so_far (sampled (moment line heap.now)) }
+{
+    match so_far.objects {
+        Some(_) => so_far.with(Sample::from_heap(heap, line, false)),
+        None => so_far.with(sample(line, heap)),
+    }
+}
+
 impl Sampler {
     /// A sample of a heap before the first line.
     pub(crate) fn new(alloc: Global, heap: &Heap) -> Result<Sampler, NoMemory>
         ensures { IfOk result (IsAlong (moment 0 heap.now ∷ [])) }
     {
-        let mut items = Vec::new(alloc);
-        items.push(sample(0, heap))?;
         Ok(Sampler {
             samples: Samples {
                 stride: 1,
-                items,
+                items: Vec::new(alloc),
                 lines: 0,
             },
-            since: 0,
+            last: sample(0, heap),
+            since: 1,
         })
     }
 
-    /// The event of this line led to this heap: a sample of it is taken where the stride is full.
+    /// The event of this line led to this heap: the last sample is of this moment too, or, where its stride is full, a
+    /// new one is.
     pub(crate) fn event(&mut self, line: u64, heap: &Heap) -> Result<(), NoMemory>
         requires { (moments : List Moment) × IsAlong moments self.old × (length moments < 2 ^ 64) }
         ensures { OnOk result ((moments : List Moment) → IsAlong moments self.old
             → IsAlong (moments ++ moment line heap.now ∷ []) self.new) }
     {
-        self.since += 1;
         if self.since < self.samples.stride {
+            self.since += 1;
+            self.last = extended(self.last, line, heap);
             return Ok(());
         }
-        self.since = 0;
+        self.samples.items.push(self.last)?;
         if self.samples.items.len() == MOST_SAMPLES {
             self.samples.thin();
         }
-        self.samples.items.push(sample(line, heap))?;
+        self.last = sample(line, heap);
+        self.since = 1;
         Ok(())
     }
 }

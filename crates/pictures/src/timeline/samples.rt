@@ -1,5 +1,6 @@
 //! Samples of a heap along a run.
-ghost use Rattle.std.specs.Prelude.{◌≡◌, ◌-◌, ◌*◌, ◌/◌, ◌<◌, ◌^◌, ℕ, length, slice_get};
+ghost use Rattle.std.specs.Prelude.{◌≡◌, ◌*◌, ◌<◌, ◌^◌, List, length};
+ghost use Rattle.pictures.specs.Sampler.{ArePairs};
 ghost use Rattle.pictures.specs.Samples.{greatest_objects};
 
 use crate::Sample;
@@ -7,24 +8,23 @@ use crate::Sample;
 /// Samples of a heap along a run, at even distances.
 #[derive(Debug, Drop)]
 pub struct Samples {
-    /// How many events lie between two samples.
+    /// How many moments a sample has: that of the new heap, and one after each event. The last may have fewer.
     pub stride: u64,
-    /// Sample i, from 0, is of the heap after the first i * stride events.
+    /// Sample i, from 0, is of the heap after the first i * stride events, and after those behind them up to the next.
     pub items: Vec<Sample>,
     /// How many lines the trace has.
     pub lines: u64,
 }
 
-/// Keeps every second sample, the first one among them.
-fn keep_even(items: &mut Vec<Sample>)
-    ensures each { (i : ℕ) → slice_get items.new.items i ≡ slice_get items.old.items (i * 2) }
-    ensures length { length items.new.items ≡ length items.old.items - length items.old.items / 2 }
+/// Makes one sample of each two. Where their number is odd, the last is left out.
+fn join_pairs(items: &mut Vec<Sample>)
+    ensures { ArePairs items.old.items items.new.items }
 {
-    let kept = items.len() - items.len() / 2;
-    for place in 0..kept {
-        items[place] = items[2 * place];
+    let pairs = items.len() / 2;
+    for place in 0..pairs {
+        items[place] = items[2 * place].with(items[2 * place + 1]);
     }
-    items.truncate(kept);
+    items.truncate(pairs);
 }
 
 impl Samples {
@@ -36,14 +36,13 @@ impl Samples {
         counts.max().unwrap_or(0)
     }
 
-    /// Keeps every second sample, the first one among them, and so doubles the stride.
+    /// Makes one sample of each two, and so doubles the stride. Where their number is odd, the last is left out.
     pub(crate) fn thin(&mut self)
         requires { self.old.stride * 2 < 2 ^ 64 }
         ensures stride { self.new.stride ≡ self.old.stride * 2 }
-        ensures each { (i : ℕ) → slice_get self.new.items.items i ≡ slice_get self.old.items.items (i * 2) }
-        ensures length { length self.new.items.items ≡ length self.old.items.items - length self.old.items.items / 2 }
+        ensures pairs { ArePairs self.old.items.items self.new.items.items }
     {
-        keep_even(&mut self.items);
+        join_pairs(&mut self.items);
         self.stride *= 2;
     }
 }

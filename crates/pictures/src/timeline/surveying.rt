@@ -8,10 +8,10 @@ use player::{Player, Survey};
 use settings::Config;
 use std::alloc::Global;
 
-/// It takes samples of the heap: the first of the new heap, and then one after each stride of events. Commands,
-/// beginnings, quanta and ticks are events; lines that are skipped, and that of the version, aren't. The stride is the
-/// least power of two with which there are at most `MOST_SAMPLES` samples. In a sample of a heap without a running
-/// cycle, the objects are counted, and each tells how many lines were done.
+/// It takes samples of the heap, of the new one and of those after each event, as many moments for each sample as the
+/// stride says. Commands, beginnings, quanta and ticks are events; lines that are skipped, and that of the version,
+/// aren't. The stride is the least power of two with which there are at most `MOST_SAMPLES` samples. In a sample the
+/// objects are counted at the first moment without a running cycle, and each tells how many lines were done at its first.
 impl Survey for Sampler {
     type Findings = Samples;
 
@@ -23,6 +23,7 @@ impl Survey for Sampler {
 
     fn finish(self, _player: &Player, lines: u64) -> Result<Samples, NoMemory> {
         let mut samples = self.samples;
+        samples.items.push(self.last)?;
         samples.lines = lines;
         Ok(samples)
     }

@@ -29,10 +29,10 @@ overflow_add-stored c =
 pub behind-requires-2 : goal.behind-requires-2
 behind-requires-2 c =
     let few = stores_within c.make.new.self c.store_slots-stored.new.heap c.args.mutator c.args.dst c.args.refs.now c.store_slots-stored.result c.store_slots-stored.ensures in
-    let more = puts_within c.store_slots-stored.new.heap c.put_words.new.heap c.args.mutator c.args.dst 0 c.args.words.now c.put_words.result c.put_words.ensures in
+    let more = puts_within c.store_slots-stored.new.heap c.fill_words.new.heap c.args.mutator c.args.dst 0 c.args.words.now c.fill_words.result c.fill_words.ensures in
     omega (arith, few, more)
 
 pub returns : goal.returns
 returns c =
     filled c.args.heap.now c.make.new.self c.store_slots-stored.new.heap c.args.mutator c.args.dst c.args.shape c.args.refs.now c.args.words.now c.make.result c.make.ensures (sym c.refusal_in.ensures ∙ c.in_default.is)
-    c.store_slots-stored.result c.store_slots-stored.ensures c.put_words.new.heap c.put_words.result c.behind-2.result (sym c.is_some.ensures ∙ c.if-is_some.false) c.put_words.ensures c.behind-2.ensures
+    c.store_slots-stored.result c.store_slots-stored.ensures c.fill_words.new.heap c.fill_words.result c.behind-2.result (sym c.is_some.ensures ∙ c.if-is_some.false) c.fill_words.ensures c.behind-2.ensures

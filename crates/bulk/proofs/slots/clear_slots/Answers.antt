@@ -1,27 +1,24 @@
-use Rattle.std.proofs.Common.{◌≡◌, ◌∙◌, ℕ, sym, ap, subst, arith}
-use Rattle.std.specs.Prelude.{None}
+use Rattle.std.proofs.Common.{◌∙◌, ◌+◌, ◌^◌, ◌<◌, ap, refl, arith}
 use Rattle.graph_heap.specs.declared.command.Command.TheVariants as commands
-use Rattle.bulk.specs.InOrder.{DoesFront}
-use Rattle.bulk.specs.Lists.{clears}
-use Rattle.bulk.proofs.InOrder.{none_done}
+use Rattle.graph_heap.specs.declared.command.Reply.TheVariants as replies
+use Rattle.bulk.specs.Lists.{number_after}
 use Rattle.bulk.proofs.Lists.{clear_at}
-use Rattle.bulk.proofs.Rows.{goes_on, ends}
+use Rattle.bulk.proofs.Rows.{ends}
+use Rattle.bulk.proofs.Runs.{number_in, number_first, does_on}
 use Rattle.bulk.proofs.slots.clear_slots.Goals as goal
 
-pub loop-i-init : goal.loop-i-init
-loop-i-init c = none_done c.args.heap.now c.args.mutator
+pub loop-done-preserved : goal.loop-done-preserved
+loop-done-preserved c =
+    let i = c.loop-done.done in let n = c.in-Ok.more in
+    let fits = c.in-Ok.ensures.numbers in let sum = c.saturating_add.ensures in
+    let few : number_after c.args.first i + n < 2 ^ 32 = omega (arith, fits, sum) in (
+      omega (arith, fits),
+      does_on (clear_at c.args.first) c.args.heap.now c.loop-done.heap c.args.mutator i (λ k. commands.Clear (c.saturating_add.result + k)) n c.clear_run.new.self
+          (λ k b. ap (λ z. commands.Clear z) (ap (λ z. z + k) sum ∙ number_in c.args.first i n k few b)) c.loop-done.invariant.1 c.in-Ok.ensures.clears,
+    )
 
-pub loop-i-preserved : goal.loop-i-preserved
-loop-i-preserved c =
-    goes_on (clear_at c.args.first) c.args.heap.now c.loop-i.heap c.clear.new.self c.args.mutator c.loop-i.i (commands.Clear c.saturating_add.result) c.clear.result
-    (ap (λ n. commands.Clear n) c.saturating_add.ensures) c.clear.ensures c.loop-i.invariant (sym c.refusal_in.ensures ∙ c.in_default.is)
-
-pub returns-in-Some : goal.returns-in-Some
-returns-in-Some c =
-    ends (clear_at c.args.first) c.args.heap.now c.loop-i.heap c.clear.new.self c.args.mutator c.loop-i.i (commands.Clear c.saturating_add.result) c.clear.result
-    (ap (λ n. commands.Clear n) c.saturating_add.ensures) c.clear.ensures c.args.count c.in-Some.refusal c.loop-i-test.true c.loop-i.invariant (sym c.refusal_in.ensures ∙ c.in-Some.is)
-
-pub returns : goal.returns
-returns c =
-    let all : c.loop-i.i ≡ c.args.count = omega arith in
-    subst (λ (n : ℕ). DoesFront c.args.heap.now c.args.mutator (clears c.args.first n) (record { done = n; refused = None }) c.loop-i.heap) all c.loop-i.invariant
+pub returns-in-Err : goal.returns-in-Err
+returns-in-Err c =
+    let i = c.loop-done.done in
+    ends (clear_at c.args.first) c.args.heap.now c.loop-done.heap c.clear_run.new.self c.args.mutator i (commands.Clear (c.saturating_add.result + 0)) (replies.Refused c.in-Err.refusal)
+    (ap (λ z. commands.Clear z) (ap (λ z. z + 0) c.saturating_add.ensures ∙ number_first c.args.first i)) c.in-Err.ensures.clears c.args.count c.in-Err.refusal (omega arith) c.loop-done.invariant.1 refl

@@ -17,7 +17,7 @@ overflow_add-cell c =
 pub scan_run-scanned-requires-clause-heap : goal.scan_run-scanned-requires-clause-heap
 scan_run-scanned-requires-clause-heap c =
     let i = c.loop-scanned.invariant in
-    still_scanning c.args.heap.now c.loop-scanned.heap c.args.part c.args.cell c.args.part (c.args.cell + c.loop-scanned.scanned) c.loop-scanned.scanned c.requires.heap i.0 i.2
+    still_scanning c.args.heap.now c.loop-scanned.heap c.args.part c.args.cell c.args.part (c.args.cell + c.loop-scanned.scanned) c.loop-scanned.scanned c.requires.heap i.0 i.2 c.requires.buffers
 
 pub scan_run-scanned-requires-clause-within : goal.scan_run-scanned-requires-clause-within
 scan_run-scanned-requires-clause-within c = let i = c.loop-scanned.invariant in omega (arith, i.1, c.requires.within, c.loop-scanned-test.true)

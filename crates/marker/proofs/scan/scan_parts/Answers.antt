@@ -6,6 +6,7 @@ use Rattle.nodes.specs.declared.heap_fields.HeapFields.{HeapFields}
 use Rattle.nodes.specs.Grey.{in_buffers}
 use Rattle.nodes.specs.HeapFields.{state_of}
 use Rattle.nodes.proofs.Chains.{heap_after_chain}
+use Rattle.nodes.proofs.Linking.{none_linked}
 use Rattle.nodes.proofs.Representing.{units_small}
 use Rattle.marker.specs.declared.scan.Scan.{Scan}
 use Rattle.marker.specs.Scanning.{scanning}
@@ -29,7 +30,7 @@ loop-units-init c =
 pub scan_next-requires-clause-heap : goal.scan_next-requires-clause-heap
 scan_next-requires-clause-heap c =
     let i = c.loop-units.invariant in let a = c.args.heap.now in let n = c.loop-units.units in
-    (a.units + n, heap_after_chain a (scanning c.loop-units.heap c.loop-units.scan.part c.loop-units.scan.cell (a.units + n)) c.requires.heap n i.0 (ap length i.2))
+    (a.units + n, heap_after_chain a (scanning c.loop-units.heap c.loop-units.scan.part c.loop-units.scan.cell (a.units + n)) c.requires.heap n i.0 (ap length i.2) (none_linked c.loop-units.heap.nodes c.loop-units.heap.grey (ap in_buffers i.2 ∙ c.requires.buffers)))
 
 pub scan_next-requires-clause-buffers : goal.scan_next-requires-clause-buffers
 scan_next-requires-clause-buffers c = ap in_buffers c.loop-units.invariant.2 ∙ c.requires.buffers
@@ -66,7 +67,7 @@ pub overflow_cast-cell-2 : goal.overflow_cast-cell-2
 overflow_cast-cell-2 c =
     let i = c.loop-units.invariant in let a = c.args.heap.now in let at = c.loop-units.scan in
     let place = scanning c.loop-units.heap at.part at.cell (a.units + c.loop-units.units) in
-    let s = place_small c.loop-units.heap at.part at.cell (a.units + c.loop-units.units, heap_after_chain a place c.requires.heap c.loop-units.units i.0 (ap length i.2)) in omega (arith, s)
+    let s = place_small c.loop-units.heap at.part at.cell (a.units + c.loop-units.units, heap_after_chain a place c.requires.heap c.loop-units.units i.0 (ap length i.2) (none_linked c.loop-units.heap.nodes c.loop-units.heap.grey (ap in_buffers i.2 ∙ c.requires.buffers))) in omega (arith, s)
 
 pub charge-requires-2 : goal.charge-requires-2
 charge-requires-2 c =

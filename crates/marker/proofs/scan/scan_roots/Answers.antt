@@ -20,11 +20,12 @@ loop-scanned-init c = (
   refl,
   refl,
   omega arith,
+  c.requires.heap.linked,
 )
 
 pub scan_root-requires-clause-heap : goal.scan_root-requires-clause-heap
 scan_root-requires-clause-heap c =
-    let i = c.loop-scanned.invariant in heap_after_chain c.args.heap.now c.loop-scanned.heap c.requires.heap c.loop-scanned.scanned i.0 (ap length i.2)
+    let i = c.loop-scanned.invariant in heap_after_chain c.args.heap.now c.loop-scanned.heap c.requires.heap c.loop-scanned.scanned i.0 (ap length i.2) i.5
 
 pub scan_root-requires-clause-within : goal.scan_root-requires-clause-within
 scan_root-requires-clause-within c =
@@ -38,4 +39,5 @@ loop-scanned-preserved c =
       e.buffers ∙ i.2,
       e.cells ∙ i.3,
       omega (arith, c.loop-scanned-test.true),
+      e.linked,
     )

@@ -4,4 +4,4 @@ use Rattle.metronome_c.proofs.Beginning.{begins_open}
 use Rattle.metronome_c.proofs.collector.metronome_begin.Goals as goal
 
 pub returns : goal.returns
-returns c = begins_open _ _ _ _ (asks_so _ _ (λ h a k met. search rules) _ _ _ c.ask.ensures) (search rules)
+returns c = begins_open _ _ _ _ (asks_so _ _ (λ h a k met. search rules) _ _ _ c.ask_held.ensures) (search rules)

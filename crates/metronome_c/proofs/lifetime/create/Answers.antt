@@ -1,4 +1,4 @@
-use Rattle.std.proofs.Common.{rules, ◌≡◌, ◌∙◌, sym, ap}
+use Rattle.std.proofs.Common.{rules, ◌≡◌, ◌∙◌, sym, ap, refl}
 use Rattle.std.specs.Prelude.{Some, None}
 use Rattle.std.specs.Result.{result_err}
 use Rattle.settings.specs.declared.ranges.Ranges.TheVariants.{Library}
@@ -24,4 +24,4 @@ pub returns : goal.returns
 returns c =
     let s = c.args.settings.now in
     let f : None ≡ fault_of Library s = ap result_err (sym c.in-Ok.is) ∙ c.check.ensures.fault in
-    creates_one IsMadeOf _ _ _ _ c.in-Ok-new.made s _ (sym c.is_open.ensures ∙ c.if-is_open.false) (sym c.is_closed.ensures ∙ c.if-not-is_closed.false) f (c.put.ensures ∙ ap Some c.in-Ok-new-2.ensures.ok) (search rules) (c.in-Ok.config, c.in-Ok-new.ensures.opening, c.in-Ok.ensures.values, c.in-Ok-new.ensures.settings)
+    creates_one IsMadeOf _ _ _ _ (record { heap = c.in-Ok-new.made; config = c.in-Ok.config; pacer = None }) s _ (sym c.is_open.ensures ∙ c.if-is_open.false) (sym c.is_closed.ensures ∙ c.if-not-is_closed.false) f (c.put.ensures ∙ ap Some c.in-Ok-new-2.ensures.ok) (search rules) (c.in-Ok-new.ensures.opening, c.in-Ok.ensures.values, c.in-Ok-new.ensures.settings, refl)

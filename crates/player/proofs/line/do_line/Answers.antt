@@ -1,6 +1,9 @@
-use Rattle.std.proofs.Common.{sym, subst, refl}
+use Rattle.std.proofs.Common.{[], ◌∷◌, inl, inr, sym, subst, refl}
+use Rattle.std.proofs.lemmas.Result.{err_from_is_err_and}
+use Rattle.heap_model.specs.Event.{Command_done}
 use Rattle.trace.specs.declared.line.Line.{Line}
 use Rattle.player.specs.Observing.{observed, LineSeen}
+use Rattle.player.specs.Player.{DoesLine}
 use Rattle.player.proofs.Seeing.{skip_seen, command_seen, quantum_seen, ticks_passed}
 use Rattle.player.proofs.line.do_line.Goals as goal
 
@@ -17,6 +20,20 @@ returns-in_ok-command_done-in-Command-clause-done g c =
     subst (λ (line : Line). LineSeen g.O.Observer.has_seen c.args.number line old new) (sym c.in-Command.is)
     (command_seen g.O.Observer.has_seen c.args.number old new c.in-Command.mutator c.in-Command.command c.in_ok-receipt-in-Command.receipt.entry c.entry.result.now c.entry.ensures call.does call.entry.0 call.entry.1
     c.in_ok-command_done-in-Command.ensures.seen)
+
+pub returns-in_err-command_done-in-Command-clause-done : goal.returns-in_err-command_done-in-Command-clause-done
+returns-in_err-command_done-in-Command-clause-done g c =
+    let p = err_from_is_err_and c.from_residual-in_err-command_done-in-Command.result c.from_residual-in_err-command_done-in-Command.ensures.1 in
+    let call = c.in_ok-receipt-in-Command.ensures in
+    let es = Command_done c.in-Command.mutator c.in-Command.command c.in_ok-receipt-in-Command.receipt.entry.reply ∷ [] in
+    let does = subst (λ (line : Line). DoesLine c.args.player.now line es c.call.new.self) (sym c.in-Command.is) call.does in
+    rw (p.1, p.2) (inr (refl, c.in_err-command_done-in-Command.ensures.err, inr (es, does)))
+
+pub returns-in_err-begin-in-Begin-clause-done : goal.returns-in_err-begin-in-Begin-clause-done
+returns-in_err-begin-in-Begin-clause-done g c =
+    let p = err_from_is_err_and c.from_residual-in_err-begin-in-Begin.result c.from_residual-in_err-begin-in-Begin.ensures.1 in
+    let begin = c.in_err-begin-in-Begin.ensures in
+    rw (p.1, p.2) (inr (refl, begin.err, inl begin.same))
 
 pub returns-in_ok-begin-in-Begin-clause-done : goal.returns-in_ok-begin-in-Begin-clause-done
 returns-in_ok-begin-in-Begin-clause-done g c =

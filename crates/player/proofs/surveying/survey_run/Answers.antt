@@ -1,10 +1,25 @@
-use Rattle.std.proofs.Common.{[], refl, sym}
+use Rattle.std.proofs.Common.{[], inl, inr, refl, sym}
 use Rattle.std.proofs.lemmas.Result.{err_from_is_err_and}
 use Rattle.player.specs.Observing.{observed, run_by}
 use Rattle.player.specs.Playing.{session}
 use Rattle.player.specs.Surveying.{NewRun}
 use Rattle.player.proofs.LinesSeen.{stops_new}
 use Rattle.player.proofs.surveying.survey_run.Goals as goal
+
+pub returns-in_err-player-clause-surveyed : goal.returns-in_err-player-clause-surveyed
+returns-in_err-player-clause-surveyed g c =
+    let p = err_from_is_err_and c.from_residual.result c.from_residual.ensures.1 in
+    rw (p.1, p.2) (inl refl)
+
+pub returns-in_err-observer-clause-surveyed : goal.returns-in_err-observer-clause-surveyed
+returns-in_err-observer-clause-surveyed g c =
+    let p = err_from_is_err_and c.from_residual-in_err-observer.result c.from_residual-in_err-observer.ensures.1 in
+    rw (p.1, p.2) (inl refl)
+
+pub returns-in_err-finish-clause-surveyed : goal.returns-in_err-finish-clause-surveyed
+returns-in_err-finish-clause-surveyed g c =
+    let p = err_from_is_err_and c.from_residual-in_err-finish.result c.from_residual-in_err-finish.ensures.1 in
+    rw (p.1, p.2) (inr (c.in_ok-player.player, c.observe.new.run.player, c.in_ok-player.ensures, inr c.in_ok-end.ensures.observed.0))
 
 pub returns-in_err-end-clause-surveyed : goal.returns-in_err-end-clause-surveyed
 returns-in_err-end-clause-surveyed g c =

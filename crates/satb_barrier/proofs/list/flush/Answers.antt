@@ -1,38 +1,46 @@
-use Rattle.std.proofs.Common.{◌*◌, ◌<◌, length, ap, ◌∙◌, sym, subst}
-use Rattle.heap_model.specs.Collector.{contains}
-use Rattle.nodes.specs.Grey.{GreySet, grey_in, inserted, buffer_of}
-use Rattle.nodes.proofs.Keeping.{relinked_twice}
-use Rattle.satb_barrier.proofs.Listing.{some, part_allocated, fresh, room, back_in, flushed, mutator_within}
+use Rattle.std.proofs.Common.{◌≡◌, ◌+◌, ◌-◌, [], List, ℕ, get_or, set, ap, ◌∙◌, sym, subst, arith}
+use Rattle.heap_model.specs.Store.{Store}
+use Rattle.nodes.specs.declared.heap_fields.HeapFields.{HeapFields}
+use Rattle.nodes.specs.Grey.{GreySet, grey_in, with_buffer, AreLinked}
+use Rattle.satb_barrier.proofs.Listing.{few, none_of, emptied_same, last_some, last_is_grey, hung_grey, hung_linked}
+use Rattle.satb_barrier.proofs.list.flush.Goals.{After-clear}
 use Rattle.satb_barrier.proofs.list.flush.Goals as goal
 
-pub push_grey-requires-clause-some : goal.push_grey-requires-clause-some
-push_grey-requires-clause-some c =
-    let i = c.loop-part.invariant in let p = c.in-Some.ensures.some in
-    some c.args.heap.now c.requires.grey c.loop-part.heap.nodes c.loop-part.heap.grey i.1 i.0 c.args.mutator (mutator_within c.args.heap.now c.loop-part.heap c.args.mutator _ i.2 c.requires.mutator) p.0 c.in-Some.part p.1
+pub returns-in_default-clause-same : goal.returns-in_default-clause-same
+returns-in_default-clause-same c =
+    let a = c.args.heap.now in
+    ap (λ (g : GreySet). record a { grey = g }) (sym (emptied_same a.grey c.args.mutator (none_of _ (sym c.last_record.ensures ∙ c.in_default.is))))
 
-pub push_grey-requires-clause-allocated : goal.push_grey-requires-clause-allocated
-push_grey-requires-clause-allocated c =
-    let i = c.loop-part.invariant in let p = c.in-Some.ensures.some in
-    part_allocated c.args.heap.now c.requires.grey c.loop-part.heap.nodes c.loop-part.heap.grey i.1 i.0 c.args.mutator (mutator_within c.args.heap.now c.loop-part.heap c.args.mutator _ i.2 c.requires.mutator) p.0 c.in-Some.part p.1
+pub overflow_sub-last : goal.overflow_sub-last
+overflow_sub-last c =
+    let a = c.args.heap.now in
+    let some = last_some a.nodes a.grey c.requires.grey.some c.requires.grey.once c.args.mutator c.requires.mutator c.in-Some.last (sym c.last_record.ensures ∙ c.in-Some.is) in omega (arith, some)
 
-pub push_grey-requires-clause-fresh : goal.push_grey-requires-clause-fresh
-push_grey-requires-clause-fresh c =
-    let i = c.loop-part.invariant in let p = c.in-Some.ensures.some in
-    ap (λ (g : GreySet). contains (grey_in c.loop-part.heap.nodes g) c.in-Some.part) p.2
-    ∙ fresh c.args.heap.now c.requires.grey c.loop-part.heap.nodes c.loop-part.heap.grey i.1 i.0 c.args.mutator (mutator_within c.args.heap.now c.loop-part.heap c.args.mutator _ i.2 c.requires.mutator) p.0 c.in-Some.part p.1
+pub set_link-requires : goal.set_link-requires
+set_link-requires c =
+    let a = c.args.heap.now in
+    c.requires.grey.allocated c.in-Some.last (last_is_grey a.nodes a.grey c.requires.grey.some c.requires.grey.once c.args.mutator c.requires.mutator c.in-Some.last (sym c.last_record.ensures ∙ c.in-Some.is))
 
-pub push_grey-requires-clause-few : goal.push_grey-requires-clause-few
-push_grey-requires-clause-few c =
-    let i = c.loop-part.invariant in let p = c.in-Some.ensures.some in
-    subst (λ (g : GreySet). length (grey_in c.loop-part.heap.nodes g) < 2048 * length c.loop-part.heap.nodes.pages) (sym p.2)
-    (room c.args.heap.now c.requires.grey c.loop-part.heap.nodes c.loop-part.heap.grey i.1 i.0 c.args.mutator (mutator_within c.args.heap.now c.loop-part.heap c.args.mutator _ i.2 c.requires.mutator) p.0 c.in-Some.part p.1)
+-- the link of the last record names what was the list's first
+named : (s new : Store) (last link : ℕ) → new ≡ record s { words = set s.words (last - 1 + 3) link } → get_or new.words (last - 1 + 3) 0 ≡ link → get_or (set s.words (last - 1 + 3) link) (last - 1 + 3) 0 ≡ link
+named s new last link is there = ap (λ (t : Store). get_or t.words (last - 1 + 3) 0) (sym is) ∙ there
 
-pub loop-part-preserved : goal.loop-part-preserved
-loop-part-preserved c =
-    let i = c.loop-part.invariant in let p = c.in-Some.ensures.some in
-    let a = c.args.heap.now in let h = c.loop-part.heap in let m = c.args.mutator in (
-      back_in a c.requires.grey h.nodes h.grey i.1 i.0 m (mutator_within a h m _ i.2 c.requires.mutator) p.0 c.in-Some.part p.1 _
-          (c.push_grey.ensures.grey ∙ ap (λ (g : GreySet). inserted c.in-Some.part (grey_in h.nodes g)) p.2),
-      relinked_twice a.nodes h.nodes c.push_grey.new.heap.nodes i.1 c.push_grey.ensures.links,
-      flushed a h c.push_grey.new.heap c.pop.new.self m c.in-Some.part (buffer_of h.grey m) p.0 c.requires.mutator i.2 p.2 c.push_grey.ensures.same,
-    )
+-- what the grey set is then
+emptied : (c : After-clear) → c.clear.new.self ≡ record (with_buffer c.args.heap.now.grey c.args.mutator []) { first = c.first_record-first.result }
+emptied c = c.clear.ensures ∙ ap (λ (g : GreySet). with_buffer g c.args.mutator []) c.set_first.ensures
+
+pub returns-clause-grey : goal.returns-clause-grey
+returns-clause-grey c =
+    let a = c.args.heap.now in let link = c.set_link.ensures in
+    ap (grey_in c.set_link.new.self) (emptied (goal.at.returns-clause-grey c).After-clear)
+    ∙ ap (λ (s : Store). grey_in s (record (with_buffer a.grey c.args.mutator []) { first = c.first_record-first.result })) link.linked
+    ∙ hung_grey a.nodes a.grey c.requires.grey.some c.requires.grey.once c.args.mutator c.requires.mutator c.in-Some.last (sym c.last_record.ensures ∙ c.in-Some.is) c.first.result
+    (named a.nodes c.set_link.new.self c.in-Some.last c.first.result link.linked link.there) c.requires.linked c.first.ensures (few a c.requires.grey) c.first_record-first.result c.first_record-first.ensures
+
+pub returns-clause-linked : goal.returns-clause-linked
+returns-clause-linked c =
+    let a = c.args.heap.now in let link = c.set_link.ensures in
+    subst (AreLinked c.set_link.new.self) (sym (emptied (goal.at.returns-clause-linked c).After-clear))
+    (subst (λ (s : Store). AreLinked s (record (with_buffer a.grey c.args.mutator []) { first = c.first_record-first.result })) (sym link.linked)
+    (hung_linked a.nodes a.grey c.requires.grey.some c.requires.grey.once c.args.mutator c.requires.mutator c.in-Some.last (sym c.last_record.ensures ∙ c.in-Some.is) c.first.result
+    (named a.nodes c.set_link.new.self c.in-Some.last c.first.result link.linked link.there) c.requires.linked c.first_record-first.result))

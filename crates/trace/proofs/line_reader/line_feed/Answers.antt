@@ -1,14 +1,12 @@
-use Rattle.std.proofs.Common.{take, subst}
-use Rattle.memchr.specs.Find.{IsFirstByte, is_byte}
-use Rattle.trace.proofs.Feeds.{front_is, found_in, none_found}
+use Rattle.std.proofs.Common.{Some, arith}
+use Rattle.trace.proofs.Feeds.{found_in, none_found}
 use Rattle.trace.proofs.line_reader.line_feed.Goals as goal
 
--- the bytes that are searched are the first 257
-searched : (c : goal.After-memchr) → IsFirstByte (is_byte 10) (take 257 c.args.bytes.now) c.memchr.result
-searched c = subst (λ l. IsFirstByte (is_byte 10) l c.memchr.result) (front_is c.args.bytes.now c.min.result c.min.ensures) c.memchr.ensures
+pub returns-in-Some-clause-found : goal.returns-in-Some-clause-found
+returns-in-Some-clause-found c = found_in 32 (omega arith) c.args.bytes.now (Some _) c.in-Some.ensures
 
 pub returns-clause-found : goal.returns-clause-found
-returns-clause-found c = found_in c.args.bytes.now c.memchr.result (searched c)
+returns-clause-found c = found_in 257 (omega arith) c.args.bytes.now c.far_line_feed.result c.far_line_feed.ensures
 
 pub returns-clause-none : goal.returns-clause-none
-returns-clause-none c = none_found c.args.bytes.now c.memchr.result (searched c)
+returns-clause-none c = none_found c.args.bytes.now c.far_line_feed.result c.far_line_feed.ensures

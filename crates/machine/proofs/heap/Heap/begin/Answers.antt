@@ -23,6 +23,7 @@ invariant_of-self c =
     record {
       heap = subst (λ xs. IsHeap (record (begun h) { grey = xs })) (sym (none c)) (begun_heap h c.self.invariant.heap (idle c));
       buffers = c.self.invariant.buffers;
+      linked = c.self.invariant.linked;
       empty = λ off. none c;
     }
 

@@ -20,7 +20,7 @@ pub invariant_of-self : goal.invariant_of-self
 invariant_of-self c =
     written_heap c.self.inside.fields c.do_write.new.heap c.self.invariant c.in-Ok.planned.write
     (subst (λ (x : HeapState). CanPerform x c.in-Ok.planned.write) (sym c.self.view_is) (can_write c.args.self.now c.in-Ok.planned (subst (CanCommit c.args.self.now) c.in-Ok.is c.requires.planned)))
-    c.do_write.ensures.does (count_by c.self.inside.fields c.args.mutator c.in-Ok.planned.write c.do_write.new.heap.grey c.do_write.ensures.buffers)
+    c.do_write.ensures.does (count_by c.self.inside.fields c.args.mutator c.in-Ok.planned.write c.do_write.new.heap.grey c.do_write.ensures.buffers) c.do_write.ensures.linked
 
 pub returns-in-Ok : goal.returns-in-Ok
 returns-in-Ok c =

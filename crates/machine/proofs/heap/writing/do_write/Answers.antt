@@ -10,14 +10,14 @@ use Rattle.machine.proofs.Doing.{present_agrees}
 use Rattle.machine.proofs.Finding.{word_allocated}
 use Rattle.machine.proofs.Live.{join_does}
 use Rattle.machine.proofs.Writing.{word_does}
-use Rattle.nodes.proofs.Keeping.{are_allocated, store_kept}
+use Rattle.nodes.proofs.Keeping.{are_allocated, store_kept, linked_still}
 use Rattle.machine.proofs.heap.writing.do_write.Goals as goal
 
 pub returns-in-Nothing : goal.returns-in-Nothing
 returns-in-Nothing c =
     let a = c.args.heap.now in let h = state_of a in
     subst (λ (w : Write). IsWritten a c.args.mutator w a) (sym c.in-Nothing.is)
-    (record { does = λ g x is p. subst (λ (y : Change). DoesChange h g y h) (sym p) Does_nothing; buffers = refl })
+    (record { does = λ g x is p. subst (λ (y : Change). DoesChange h g y h) (sym p) Does_nothing; buffers = refl; linked = c.requires.heap.linked })
 
 pub set_cell-requires-clause-allocated : goal.set_cell-requires-clause-allocated
 set_cell-requires-clause-allocated c =
@@ -39,6 +39,7 @@ returns-in-Word c =
           subst (DoesEach h (writes.Word c.in-Word.at c.in-Word.word)) (sym (store_kept a (are_allocated a c.requires.heap) c.set_cell.new.self (ap length c.set_cell.ensures.written.pages) c.set_cell.ensures.links))
           (word_does h c.in-Word.at c.in-Word.word _ c.set_cell.ensures.written);
       buffers = refl;
+      linked = linked_still a c.set_cell.new.self c.requires.heap.linked (are_allocated a c.requires.heap) c.set_cell.ensures.links;
     })
 
 pub set_live-requires : goal.set_live-requires
@@ -50,14 +51,14 @@ pub returns-in-Join : goal.returns-in-Join
 returns-in-Join c =
     let a = c.args.heap.now in
     subst (λ (w : Write). IsWritten a c.args.mutator w (record a { roots = c.set_live.new.self })) (sym c.in-Join.is)
-    (record { does = rw c.set_live.ensures (join_does (state_of a) c.in-Join.joiner); buffers = refl })
+    (record { does = rw c.set_live.ensures (join_does (state_of a) c.in-Join.joiner); buffers = refl; linked = c.requires.heap.linked })
 
 pub write_leave-requires-clause-write : goal.write_leave-requires-clause-write
 write_leave-requires-clause-write c = subst (CanPerform (state_of c.args.heap.now)) c.in-Leave.is c.requires.write
 
 pub returns-in-Leave : goal.returns-in-Leave
 returns-in-Leave c =
-    subst (λ (w : Write). IsWritten c.args.heap.now c.args.mutator w c.write_leave.new.heap) (sym c.in-Leave.is) (record { does = c.write_leave.ensures.does; buffers = c.write_leave.ensures.buffers })
+    subst (λ (w : Write). IsWritten c.args.heap.now c.args.mutator w c.write_leave.new.heap) (sym c.in-Leave.is) (record { does = c.write_leave.ensures.does; buffers = c.write_leave.ensures.buffers; linked = c.write_leave.ensures.linked })
 
 pub write_root-requires : goal.write_root-requires
 write_root-requires c = subst (CanWrite c.args.heap.now c.args.mutator) c.in-Root.is c.requires

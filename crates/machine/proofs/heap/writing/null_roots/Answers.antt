@@ -22,7 +22,7 @@ loop-i-preserved c =
     let i = c.loop-i.invariant in let old = c.loop-i.heap in let new = c.write_root.new.heap in let cell = c.args.first + c.loop-i.i in
     let l = next_within (state_of c.args.heap.now) (state_of old) c.args.first c.loop-i.i c.args.count i.1 c.requires.within c.loop-i-test.true in
     let own = own_after old c.args.mutator _ new.grey c.write_root.ensures.buffers in (
-      written_heap old new i.0 (writes.Root cell 0) (null_can (state_of old) cell l) c.write_root.ensures.does own.0,
+      written_heap old new i.0 (writes.Root cell 0) (null_can (state_of old) cell l) c.write_root.ensures.does own.0 c.write_root.ensures.linked,
       clears_step (state_of c.args.heap.now) (state_of old) (state_of new) c.args.first c.loop-i.i i.1 i.0.heap l c.write_root.ensures.does,
       own_then c.args.mutator c.args.heap.now.grey old.grey new.grey i.2 own,
     )

@@ -10,4 +10,4 @@ record-requires-clause-leads c = root_follows (state_of c.args.heap.now) c.requi
 pub returns : goal.returns
 returns c =
     let done = c.record.ensures in
-    subst (λ x. IsRecorded c.args.heap.now c.args.mutator x c.record.new.heap) c.get-before.ensures (record { records = done.records; buffers = done.buffers; allocated = done.allocated; same = done.same })
+    subst (λ x. IsRecorded c.args.heap.now c.args.mutator x c.record.new.heap) c.get-before.ensures (record { records = done.records; buffers = done.buffers; linked = done.linked; allocated = done.allocated; same = done.same })

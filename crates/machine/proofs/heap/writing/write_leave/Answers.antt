@@ -23,3 +23,6 @@ pub returns-clause-does : goal.returns-clause-does
 returns-clause-does c =
     let h = state_of c.args.heap.now in let k = state_of c.null_roots.new.heap in
     rw c.set_live.ensures (leave_does h k c.args.mutator (slots_cleared h k c.limits-slots.result c.args.mutator c.limits-slots.ensures.limits c.null_roots.ensures.clears))
+
+pub returns-clause-linked : goal.returns-clause-linked
+returns-clause-linked c = c.null_roots.ensures.heap.linked

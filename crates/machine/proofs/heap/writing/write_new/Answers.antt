@@ -11,7 +11,7 @@ use Rattle.heap_model.proofs.Taking.{takes_count}
 use Rattle.size_classes.specs.Parts.{cells_of, parts_in}
 use Rattle.machine.specs.Plan.{DoesEach}
 use Rattle.machine.specs.declared.plan.Write.TheVariants as writes
-use Rattle.nodes.proofs.Keeping.{store_kept}
+use Rattle.nodes.proofs.Keeping.{store_kept, linked_still}
 use Rattle.machine.proofs.heap.writing.write_new.Goals as goal
 
 pub record_root-requires-clause-root : goal.record_root-requires-clause-root
@@ -45,4 +45,5 @@ returns c =
           (sym (store_kept rec c.record_root.ensures.allocated new count c.new_object-block.ensures.links))
           (new_does (state_of a) (state_of rec) _ c.record_root.ensures.records c.args.root c.new_object-block.result c.args.shape new refl made));
       buffers = c.record_root.ensures.buffers;
+      linked = linked_still rec new c.record_root.ensures.linked c.record_root.ensures.allocated c.new_object-block.ensures.links;
     }

@@ -6,7 +6,7 @@ use Rattle.machine.proofs.Finding.{ref_allocated, ref_follows}
 use Rattle.machine.proofs.Writing.{ref_does}
 use Rattle.machine.specs.Plan.{DoesEach}
 use Rattle.machine.specs.declared.plan.Write.TheVariants as writes
-use Rattle.nodes.proofs.Keeping.{store_kept}
+use Rattle.nodes.proofs.Keeping.{store_kept, linked_still}
 use Rattle.satb_barrier.specs.Recording.{buffers_after}
 use Rattle.machine.proofs.heap.writing.write_ref.Goals as goal
 
@@ -46,4 +46,5 @@ returns c =
           subst (DoesEach (state_of a) (writes.Ref c.args.at c.args.reference)) (sym (store_kept rec c.record.ensures.allocated c.set_cell.new.self (ap length c.set_cell.ensures.written.pages) c.set_cell.ensures.links))
           (ref_does (state_of a) (state_of rec) c.cell-before.result c.record.ensures.records c.args.at c.args.reference _ c.cell-before.ensures c.set_cell.ensures.written);
       buffers = c.record.ensures.buffers ∙ ap (buffers_after a c.args.mutator) c.cell-before.ensures;
+      linked = linked_still rec c.set_cell.new.self c.record.ensures.linked c.record.ensures.allocated c.set_cell.ensures.links;
     }

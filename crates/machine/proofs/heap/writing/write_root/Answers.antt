@@ -16,4 +16,5 @@ pub returns : goal.returns
 returns c = record {
   does = rw c.set.ensures (root_does (state_of c.args.heap.now) (state_of c.record_root.new.heap) _ c.record_root.ensures.records c.args.cell c.args.reference refl);
   buffers = c.record_root.ensures.buffers;
+  linked = c.record_root.ensures.linked;
 }

@@ -4,7 +4,7 @@ use Rattle.trace.specs.declared.line.Line.{Line}
 use Rattle.trace.specs.Numbered.{LineRead}
 use Rattle.trace.specs.TextLine.{text_in}
 use Rattle.player.specs.Observing.{observed}
-use Rattle.player.proofs.LinesSeen.{text_stops, version_observed, skip_observed, event_observed, ready_within, ready_next}
+use Rattle.player.proofs.LinesSeen.{text_stops, refused_after, version_observed, skip_observed, event_observed, ready_within, ready_next}
 use Rattle.player.proofs.observing.ObservedLineHandler.handle.Goals as goal
 
 pub returns-in_default-clause-handles : goal.returns-in_default-clause-handles
@@ -16,6 +16,12 @@ returns-in_err-do_line-clause-handles g c =
     let p = err_from_is_err_and c.from_residual-in_err-do_line.result c.from_residual-in_err-do_line.ensures.1 in
     let read = subst (λ (o : Option Line). LineRead (text_in c.args.text) (Ok o)) c.in-Some.is c.in_ok-line.ensures in
     rw (p.1, p.2) (text_stops g.O.Observer.has_seen g.O.Observer.may_be_refused (text_in c.args.text) c.in-Some.line c.args.self.now (observed c.do_line.new.player c.do_line.new.observer) c.in_err-do_line.field-0.0 read c.in_err-do_line.ensures.done)
+
+pub returns-in_err-line_done-clause-handles : goal.returns-in_err-line_done-clause-handles
+returns-in_err-line_done-clause-handles g c =
+    let p = err_from_is_err_and c.from_residual-in_err-line_done.result c.from_residual-in_err-line_done.ensures.1 in
+    let read = subst (λ (o : Option Line). LineRead (text_in c.args.text) (Ok o)) c.in-Some.is c.in_ok-line.ensures in
+    rw (p.1, p.2) (refused_after g.O.Observer.has_seen (text_in c.args.text) c.in-Some.line c.args.self.now c.do_line.new.player c.do_line.new.observer read c.in_ok-do_line.ensures.done)
 
 pub returns-in_ok-line_done-clause-handles : goal.returns-in_ok-line_done-clause-handles
 returns-in_ok-line_done-clause-handles g c =

@@ -1,0 +1,50 @@
+//! A walk over the objects that lie in a heap.
+use crate::calls::{self, BlockTold};
+use crate::heap::Heap;
+use crate::root::{Description, Shape};
+
+/// The words of a page.
+const PAGE_WORDS: u32 = 2048;
+
+/// The objects that lie in a heap, each once: all that can be reached, and garbage that isn't freed yet.
+pub struct Objects<'h> {
+    heap: &'h Heap,
+    pages: usize,
+    page: usize,
+    number: u32,
+}
+
+impl Heap {
+    /// A walk over the objects that lie in the heap. It looks at each block, and so takes time by the heap's size. What is done
+    /// on the heap during the walk may hide an object from it, or show one twice.
+    pub fn objects(&self) -> Objects<'_> {
+        Objects { heap: self, pages: self.count().pages as usize, page: 0, number: 0 }
+    }
+
+    fn block(&self, page: usize, number: u32) -> BlockTold {
+        let mut block = BlockTold::default();
+        // SAFETY: the heap is open, and both live through the call.
+        unsafe { calls::metronome_block(self.handle(), page, number as usize, &mut block) };
+        block
+    }
+}
+
+impl Iterator for Objects<'_> {
+    type Item = Description;
+
+    fn next(&mut self) -> Option<Description> {
+        while self.page < self.pages {
+            let blocks = PAGE_WORDS.checked_div(self.heap.page(self.page).size).unwrap_or(0);
+            while self.number < blocks {
+                let block = self.heap.block(self.page, self.number);
+                self.number += 1;
+                if block.held == 1 && block.old == 0 && block.part == 0 {
+                    return Some(Description { identity: block.identity, shape: Shape::of(&block.shape) });
+                }
+            }
+            self.page += 1;
+            self.number = 0;
+        }
+        None
+    }
+}

@@ -1,0 +1,37 @@
+//! Telling of the plans by which a heap paces itself.
+ghost use Rattle.std.specs.Prelude.{◌≡◌, ◌+◌, IfOk, string_bytes};
+ghost use Rattle.streams.specs.Streams.{taken_by};
+ghost use Rattle.plans.specs.Report.{IsPlansReport};
+ghost use Rattle.metronome.specs.Faults.{failed_reads, failed_writes};
+ghost use Rattle.metronome.specs.Told.{ReportTold};
+
+use crate::fault::{Ending, RunFault};
+use graph_heap::NoMemory;
+use plans::plans_report;
+use settings::Config;
+use std::alloc::Global;
+use streams::{Sink, write_all};
+
+/// What is told of the plans for so many live words.
+fn plans_text(alloc: Global, config: &Config, live: u64) -> Result<String, NoMemory>
+    ensures { IfOk result (λ text. IsPlansReport config.now live (string_bytes text)) }
+{
+    Ok(plans_report(alloc, config, live)?)
+}
+
+/// Tells of the plans by which a heap paces itself, where so many words are live: on how few pages there is one, and what
+/// it is on some numbers of pages.
+pub fn plan_job<K: Sink>(
+    alloc: Global,
+    config: &Config,
+    live: u64,
+    sink: &mut K,
+) -> Result<Ending, RunFault>
+    ensures told { ReportTold (IsPlansReport config.now live) (taken_by K.taken sink.old sink.new) result }
+    ensures reads { failed_reads result ≡ 0 }
+    ensures writes { K.failures sink.new ≡ K.failures sink.old + failed_writes result }
+{
+    let text = plans_text(alloc, config, live)?;
+    write_all(sink, text.as_bytes())?;
+    Ok(Ending::Done)
+}

@@ -1,0 +1,111 @@
+-- A plan of settings is one of each heap that is made of them.
+use Rattle.std.proofs.Common.{Bool, cond, ◌≡◌, ◌∙◌, ℕ, ◌+◌, ◌*◌, ◌/◌, ◌≤◌, ap, sym, subst, arith, refl}
+use Rattle.std.specs.Prelude.{Option, Some, None, length, pos, nat_abs}
+use Rattle.std.proofs.lemmas.List.Folds.{sum_by-replicate}
+use Rattle.std.proofs.Math.Nat.{mul-one}
+use Rattle.size_classes.specs.declared.class.TheConstants.{PAGE_WORDS}
+use Rattle.size_classes.specs.Sizes.{blocks_in}
+use Rattle.settings.specs.declared.settings.Settings.{Settings}
+use Rattle.settings.specs.declared.config.Config.{Config}
+use Rattle.settings.specs.declared.fault.ConfigFault.{ConfigFault}
+use Rattle.settings.specs.declared.fault.ConfigFault.TheVariants as faults
+use Rattle.settings.specs.declared.ranges.Ranges.TheVariants.{Library}
+use Rattle.settings.specs.Config.{fault_of, IsOf}
+use Rattle.heap_model.specs.Opening.{IsOpening}
+use Rattle.heap_model.specs.Pages.{Page, is_free, free_pages}
+use Rattle.heap_model.specs.State.{HeapState}
+use Rattle.space.specs.Fitting.{swept_at, unmoved_quanta_at}
+use Rattle.fragmentation.specs.Configured.{MovesAll, FlowFitsIn}
+use Rattle.fragmentation.specs.Flow.{Flow, flow_pages, traced_words}
+use Rattle.paced.specs.declared.plan.Plan.{Plan}
+use Rattle.paced.specs.Planning.{IsFastest, IsLeastPages}
+use Rattle.paced.specs.Rooms.{planned_flow}
+use Rattle.metronome_c.specs.declared.held.Held.{Held}
+use Rattle.metronome_c.specs.declared.planning.MetronomeFlow.{MetronomeFlow}
+use Rattle.metronome_c.specs.declared.status.Status.TheVariants.{Done}
+use Rattle.metronome_c.specs.Keeping.{IsUnused, CanKeep}
+use Rattle.metronome_c.specs.Lifetime.{IsMadeOf}
+use Rattle.metronome_c.specs.Planning.{flow_told, IsPlanned, plan_status, PlansUnless, TellsPlan}
+use Rattle.metronome_c.specs.Status.{status_number, fault_status}
+
+abbrev one_if : Bool → ℕ
+one_if b = cond b 1 0
+
+same : {m n : ℕ} → pos m ≡ pos n → m ≡ n
+same e = ap nat_abs e
+
+-- a heap from which histories start is unused
+pub unused : (h : HeapState) → IsOpening h → IsUnused h
+unused h o = record {
+  idle = o.phase;
+  units = o.units;
+  free = ap free_pages o.pages ∙ sum_by-replicate (λ (z : Option Page). one_if (is_free z)) (length h.store.pages) None ∙ mul-one (length h.store.pages);
+}
+
+-- a fault has a status of its own
+no_fault : (fault : ConfigFault) → status_number (fault_status fault) ≡ status_number Done → ⊥
+no_fault (faults.OutOfRange key) e = omega (arith, e)
+no_fault fault e = omega (arith, e)
+
+-- the fastest plan fits
+even_fits : (c : Config) (live : ℕ) (plan : Plan) → IsFastest c live (Some plan) → FlowFitsIn c (planned_flow live plan)
+even_fits c live plan f = subst (λ (w : ℕ). FlowFitsIn c (planned_flow live (record { quantum_words = plan.quantum_words; cycle_words = w }))) (sym f.1) f.2
+
+module _ (s : Settings) (c d : Config) (of : IsOf s c) (is : IsOf s d) where
+  -- two configurations of the same settings have the same numbers
+  pages : c.pages ≡ d.pages
+  pages = same (of.pages ∙ sym is.pages)
+
+  budget : c.collector_ticks * c.rate ≡ d.collector_ticks * d.rate
+  budget = ap (λ z. z * c.rate) (same (of.collector_ticks ∙ sym is.collector_ticks)) ∙ ap (λ z. d.collector_ticks * z) (same (of.rate ∙ sym is.rate))
+
+  roots : c.mutators * c.slots + c.statics ≡ d.mutators * d.slots + d.statics
+  roots = ap (λ z. z * c.slots + c.statics) (same (of.mutators ∙ sym is.mutators))
+      ∙ ap (λ z. d.mutators * z + c.statics) (same (of.slots ∙ sym is.slots))
+      ∙ ap (λ z. d.mutators * d.slots + z) (same (of.statics ∙ sym is.statics))
+
+  swept : swept_at c c.pages ≡ swept_at d d.pages
+  swept = ap (λ z. z + PAGE_WORDS * c.pages + (blocks_in 0 + 1) * c.pages + (blocks_in 0 + 4)) roots
+      ∙ ap (λ z. d.mutators * d.slots + d.statics + PAGE_WORDS * z + (blocks_in 0 + 1) * z + (blocks_in 0 + 4)) pages
+
+  quanta : unmoved_quanta_at c c.pages ≡ unmoved_quanta_at d d.pages
+  quanta = ap (λ z. z / (c.collector_ticks * c.rate) + 1) swept ∙ ap (λ z. swept_at d d.pages / z + 1) budget
+
+  moves : MovesAll c → MovesAll d
+  moves m = record {
+    always = (let e = pages in let b = same (of.defrag_below ∙ sym is.defrag_below) in let l = m.always in omega (arith, e, b, l));
+    all = (let e = pages in let b = same (of.defrag_pages ∙ sym is.defrag_pages) in let l = m.all in omega (arith, e, b, l));
+  }
+
+  fits : (f : Flow) → FlowFitsIn c f → FlowFitsIn d f
+  fits f w = record {
+    traced = subst (λ q. traced_words f q ≤ f.cycle_words) quanta w.traced;
+    enough = subst (λ q. flow_pages f q ≤ d.pages) quanta (subst (λ p. flow_pages f (unmoved_quanta_at c c.pages) ≤ p) pages w.enough);
+  }
+
+module _ (s : Settings) (h : Held) (made : IsMadeOf s h) (told live : ℕ) (before flow : MetronomeFlow) where
+  -- where a plan was told
+  by_plan : (c : Config) (least : Option ℕ) (plan : Option Plan) → IsOf s c → IsPlanned c live plan → flow ≡ flow_told c live least plan → told ≡ status_number (plan_status plan) → told ≡ status_number Done → CanKeep h flow
+  by_plan c least None of planned is status done = absurd (omega (arith, status, done))
+  by_plan c least (Some plan) of planned is status done =
+      subst (λ (f : MetronomeFlow). CanKeep h f) (sym is) (record {
+        unused = unused h.heap made.0;
+        budget = budget s c h.config of made.1;
+        moves = moves s c h.config of made.1 planned.0;
+        fits = fits s c h.config of made.1 (planned_flow live plan) (even_fits c live plan planned.1);
+      })
+
+  by_fault : (fault : Option ConfigFault) → PlansUnless fault s live before flow told → told ≡ status_number Done → CanKeep h flow
+  by_fault (Some fault) tells done = absurd (no_fault fault (sym tells.1 ∙ done))
+  by_fault None tells done = by_plan tells.0 tells.1 tells.2 tells.3 tells.5 tells.6 tells.7 done
+
+  pub plan_kept : TellsPlan s live before flow told → told ≡ status_number Done → CanKeep h flow
+  plan_kept tells done = by_fault (fault_of Library s) tells done
+
+-- C is told a plan, or the first fault of the settings
+pub plan_told : (s : Settings) (c : Config) (live : ℕ) (least : Option ℕ) (plan : Option Plan) (before after : MetronomeFlow) (n : ℕ) → None ≡ fault_of Library s → IsOf s c → IsLeastPages c live least → IsPlanned c live plan
+    → after ≡ flow_told c live least plan → n ≡ status_number (plan_status plan) → TellsPlan s live before after n
+plan_told s c live least plan before after n e of least_is planned is told = subst (λ (f : Option ConfigFault). PlansUnless f s live before after n) e (c, least, plan, of, least_is, planned, is, told)
+
+pub plan_refused : (s : Settings) (fault : ConfigFault) (live : ℕ) (before : MetronomeFlow) (n : ℕ) → Some fault ≡ fault_of Library s → n ≡ status_number (fault_status fault) → TellsPlan s live before before n
+plan_refused s fault live before n e told = subst (λ (f : Option ConfigFault). PlansUnless f s live before before n) e (refl, told)

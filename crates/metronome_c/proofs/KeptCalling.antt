@@ -1,0 +1,273 @@
+-- The calls of a program on a handle whose heap keeps a plan.
+use Rattle.std.proofs.Common.{◌≡◌, ◌∙◌, ℕ, List, [], ◌∷◌, ◌++◌, Ok, Err, Result, Bool, true, false, refl, ap, sym, subst, inl, inr, arith}
+use Rattle.std.specs.Prelude.{Option, Some, None}
+use Rattle.graph_heap.specs.declared.command.Command.{Command}
+use Rattle.graph_heap.specs.declared.command.Command.TheVariants as commands
+use Rattle.graph_heap.specs.declared.command.Shape.{Shape}
+use Rattle.graph_heap.specs.declared.command.Refusal.{Refusal}
+use Rattle.graph_heap.specs.declared.command.Reply.{Reply}
+use Rattle.graph_heap.specs.declared.command.Reply.TheVariants as replies
+use Rattle.settings.specs.declared.settings.Settings.{Settings}
+use Rattle.settings.specs.declared.config.Config.{Config}
+use Rattle.heap_model.specs.State.{HeapState}
+use Rattle.heap_model.specs.Event.{Event, Command_done, Cycle_begun, Begin_refused, Quantum_done, Quantum_refused}
+use Rattle.heap_model.specs.ReachedFrom.{opened}
+use Rattle.heap_model.proofs.Event.Kept.{runs_course}
+use Rattle.space.specs.Room.{asks}
+use Rattle.fragmentation.specs.Flow.{words_of}
+use Rattle.machine.specs.Plan as calls
+use Rattle.machine.specs.Recorded.{begin_done, quantum_done}
+use Rattle.machine.proofs.Headline.{course_holds}
+use Rattle.paced.specs.Pacing.{PacerView, PacedState, PacedView, paced_by, state_of, shape_words, counted, Path, KeepsPlan, MakesNothing, WorksFor, Pays}
+use Rattle.paced.specs.Rooms.{IsJustPaced, first_counts, first_pacer}
+use Rattle.paced.proofs.Opened.{finds_room}
+use Rattle.paced.proofs.Paths.{path_then, call_path, paid_path, begin_path, quantum_path, other_path}
+use Rattle.bulk.specs.declared.progress.Progress.{Progress}
+use Rattle.bulk.specs.InOrder.{InOrder, DoesFront, events_of, with_refusal}
+use Rattle.metronome_c.specs.declared.answer.Answer.{Answer}
+use Rattle.metronome_c.specs.declared.bulk_calls.MetronomeProgress.{MetronomeProgress}
+use Rattle.metronome_c.specs.declared.collector.QuantumSpent.{QuantumSpent}
+use Rattle.metronome_c.specs.declared.held.Held.{Held}
+use Rattle.metronome_c.specs.declared.planning.MetronomeFlow.{MetronomeFlow}
+use Rattle.metronome_c.specs.declared.status.Status.{Status}
+use Rattle.metronome_c.specs.declared.status.Status.TheVariants.{Done}
+use Rattle.metronome_c.specs.Answer.{answered, refused}
+use Rattle.metronome_c.specs.Asking.{AsksPaying}
+use Rattle.metronome_c.specs.BulkCalls.{progress_told, DoesList}
+use Rattle.metronome_c.specs.Calls.{Call, Command_called, Begin_called, Quantum_called, TellsEvent}
+use Rattle.metronome_c.specs.Collecting.{BeginsOpen, SpendsOpen}
+use Rattle.metronome_c.specs.Keeping.{kept, CanKeep, KeepsHeld, keep_status, Keeps}
+use Rattle.metronome_c.specs.KeptCalls.{KeptCall, Called, List_called, MakeNothing, DoesCommands, DoesKept, KeptCalls, AreWork, WasOne, WasEvents, WereEvents, KeepsRoom}
+use Rattle.metronome_c.specs.Lifetime.{IsMadeOf}
+use Rattle.metronome_c.specs.Planning.{plan_in}
+use Rattle.metronome_c.specs.Status.{status_number}
+use Rattle.metronome_c.specs.Steps.{Steps, DoesCommand}
+use Rattle.metronome_c.proofs.Calling.{is_course}
+use Rattle.metronome_c.proofs.Outcomes.{begin_told, quantum_told}
+
+-- no event is left where no reply is
+none_left : (m : ℕ) (cs : List Command) → events_of m cs [] ≡ []
+none_left m [] = refl
+none_left m (c ∷ cs) = refl
+
+-- a list of commands of which none makes an object keeps the plan
+list_path : (m : ℕ) (cs : List Command) (rs : List Reply) (why : Option Refusal) (v : PacedState) (after : HeapState) → MakeNothing cs → InOrder m v.heap cs rs why after
+    → Path KeepsPlan v (events_of m cs (with_refusal rs why)) (record v { heap = after })
+list_path m [] [] None v after n i = ap (λ (x : HeapState). record v { heap = x }) i
+list_path m [] [] (Some why) v after n i = absurd i
+list_path m [] (q ∷ qs) why v after n i = absurd i
+list_path m (c ∷ cs) [] None v after n i = absurd i
+list_path m (c ∷ cs) [] (Some why) v after n i =
+    subst (λ (es : List Event). Path KeepsPlan v (Command_done m c (replies.Refused why) ∷ es) (record v { heap = after })) (sym (none_left m cs)) (other_path v m c (replies.Refused why) after n.0 i)
+list_path m (c ∷ cs) (q ∷ qs) None v after n i =
+    path_then KeepsPlan (Command_done m c q ∷ []) (events_of m cs qs) v (record v { heap = i.0 }) (record v { heap = after }) (other_path v m c q i.0 n.0 i.1) (list_path m cs qs None (record v { heap = i.0 }) after n.1 i.3)
+list_path m (c ∷ cs) (q ∷ qs) (Some why) v after n i =
+    path_then KeepsPlan (Command_done m c q ∷ []) (events_of m cs (with_refusal qs (Some why))) v (record v { heap = i.0 }) (record v { heap = after }) (other_path v m c q i.0 n.0 i.1) (list_path m cs qs (Some why) (record v { heap = i.0 }) after n.1 i.3)
+
+-- a list that makes an object first, once that was paid for
+first_path : (old mid : PacedView) (m : ℕ) (c : Command) (cs : List Command) (rs : List Reply) (why : Option Refusal) (after : HeapState) (w : Pays old (words_of (asks c)) mid) → MakeNothing cs → InOrder m mid.heap (c ∷ cs) rs why after
+    → Path KeepsPlan (state_of old) (w.work ++ events_of m (c ∷ cs) (with_refusal rs why)) (record { heap = after; counts = mid.pacer.counts })
+first_path old mid m c cs [] None after w n i = absurd i
+first_path old mid m c cs [] (Some why) after w n i =
+    subst (λ (es : List Event). Path KeepsPlan (state_of old) (w.work ++ Command_done m c (replies.Refused why) ∷ es) (record { heap = after; counts = mid.pacer.counts })) (sym (none_left m cs))
+    (paid_path old mid m c (replies.Refused why) after [] (record { heap = after; counts = mid.pacer.counts }) w i refl)
+first_path old mid m c cs (q ∷ qs) None after w n i =
+    paid_path old mid m c q i.0 (events_of m cs qs) (record { heap = after; counts = mid.pacer.counts }) w i.1 (list_path m cs qs None (record { heap = i.0; counts = mid.pacer.counts }) after n i.3)
+first_path old mid m c cs (q ∷ qs) (Some why) after w n i =
+    paid_path old mid m c q i.0 (events_of m cs (with_refusal qs (Some why))) (record { heap = after; counts = mid.pacer.counts }) w i.1 (list_path m cs qs (Some why) (record { heap = i.0; counts = mid.pacer.counts }) after n i.3)
+
+-- what the collector does for words is its own work
+works : (words : ℕ) (es : List Event) (old new : PacedState) → Path (WorksFor words) old es new → AreWork es
+works words [] old new p = tt
+works words (Command_done m c reply ∷ es) old new p = absurd p.1
+works words (Cycle_begun ∷ es) old new p = (tt, works words es p.0 new p.4)
+works words (Begin_refused ∷ es) old new p = absurd p.1
+works words (Quantum_done budget units phase ∷ es) old new p = (tt, works words es p.0 new p.4)
+works words (Quantum_refused budget ∷ es) old new p = absurd p.1
+
+module _ (config : Config) where
+  -- a heap that keeps a plan
+  abbrev held : PacerView → HeapState → Held
+  held p x = record { heap = x; config = config; pacer = Some p }
+
+  -- a call is events that keep the plan
+  record WasKept (p : PacerView) (h : HeapState) (call : KeptCall) (next : Result Held Status) : Type 0 where
+    pub events : List Event
+    pub pacer : PacerView
+    pub heap : HeapState
+    pub left : next ≡ Ok (held pacer heap)
+    pub path : Path KeepsPlan (state_of (paced_by p h)) events (state_of (paced_by pacer heap))
+    pub was : WasEvents events call
+
+  -- one event alone
+  alone : (e : Event) (call : Call) → TellsEvent e call → WasOne (e ∷ []) call
+  alone e call told = inr ([], e, refl, tt, told)
+
+  step_kept : (p : PacerView) (h : HeapState) (m : ℕ) (c : Command) (answer : Answer) (next : Result Held Status) → MakesNothing c → Steps (Ok (held p h)) m c next answer → WasKept p h (Called (Command_called m c answer)) next
+  step_kept p h m c answer next none s =
+      let asked = s.1 in
+      record {
+        events = Command_done m c asked.0 ∷ [];
+        pacer = p;
+        heap = asked.1.heap;
+        left = asked.3 ∙ ap Ok asked.4.0;
+        path = other_path (state_of (paced_by p h)) m c asked.0 asked.1.heap none asked.4.1;
+        was = alone (Command_done m c asked.0) (Command_called m c answer) (ap (Command_called m c) (s.2 ∙ ap answered asked.2));
+      }
+
+  make_kept : (p : PacerView) (h : HeapState) (m dst : ℕ) (shape : Shape) (answer : Answer) (next : Result Held Status) (reply : Result Reply Status)
+      → AsksPaying (words_of (asks (commands.New dst shape))) (λ x a k. calls.Steps x m (commands.New dst shape) a k) (Ok (held p h)) reply next → answer ≡ answered reply → WasKept p h (Called (Command_called m (commands.New dst shape) answer)) next
+  make_kept p h m dst shape answer next (Err why) a told = record {
+    events = [];
+    pacer = p;
+    heap = h;
+    left = a.1 ∙ ap Ok a.2.1.1;
+    path = refl;
+    was = inl (refl, (m, dst, shape, ap (Command_called m (commands.New dst shape)) (told ∙ ap refused a.2.0)));
+  }
+  make_kept p h m dst shape answer next (Ok reply) a told =
+      let c = commands.New dst shape in
+      let paid = a.2.1 in
+      let q = paid.0 in
+      let same : a.2.0 ≡ held q a.2.0.heap = paid.1 in
+      let e = Command_done m c reply in
+      let steps : calls.Steps a.2.0.heap m c reply a.0.heap = a.2.2.1 in
+      record {
+        events = paid.3.work ++ e ∷ [];
+        pacer = q;
+        heap = a.0.heap;
+        left = a.1 ∙ ap Ok (a.2.2.0 ∙ ap (λ (x : Held). record x { heap = a.0.heap }) same);
+        path = call_path (paced_by p h) (paced_by q a.0.heap) m c reply (paid.2, paced_by q a.2.0.heap, paid.3, steps, refl);
+        was = inr (paid.3.work, e, refl, works (words_of (asks c)) paid.3.work (state_of (paced_by p h)) (record { heap = a.2.0.heap; counts = paid.3.before }) paid.3.works, ap (Command_called m c) told);
+      }
+
+  command_kept : (p : PacerView) (h : HeapState) (m : ℕ) (c : Command) (answer : Answer) (next : Result Held Status) → DoesCommand (Ok (held p h)) m c next answer → WasKept p h (Called (Command_called m c answer)) next
+  command_kept p h m (commands.New dst shape) answer next d = make_kept p h m dst shape answer next d.0 d.1 d.2
+  command_kept p h m c answer next d = step_kept p h m c answer next tt d
+
+  begin_kept : (p : PacerView) (h : HeapState) (status : ℕ) (next : Result Held Status) → BeginsOpen (Ok (held p h)) next status → WasKept p h (Called (Begin_called status)) next
+  begin_kept p h status next d =
+      let e = begin_done d.1 in
+      let q : PacerView = record p { counts = counted p.counts e } in
+      record {
+        events = e ∷ [];
+        pacer = q;
+        heap = d.0.heap;
+        left = d.2 ∙ ap Ok d.3.0;
+        path = begin_path p q h d.0.heap d.1 d.3.2 refl;
+        was = alone e (Begin_called status) (begin_told d.1 status d.4);
+      }
+
+  quantum_kept : (p : PacerView) (h : HeapState) (budget : ℕ) (before after : QuantumSpent) (status : ℕ) (next : Result Held Status) → SpendsOpen (Ok (held p h)) budget next before after status → WasKept p h (Called (Quantum_called budget before after status)) next
+  quantum_kept p h budget before after status next d =
+      let e = quantum_done budget d.1 in
+      let q : PacerView = record p { counts = counted p.counts e } in
+      record {
+        events = e ∷ [];
+        pacer = q;
+        heap = d.0.heap;
+        left = d.2 ∙ ap Ok d.3.0;
+        path = quantum_path p q h d.0.heap budget d.1 d.3.2 refl;
+        was = alone e (Quantum_called budget before after status) (quantum_told budget d.1 before after status d.4 d.5);
+      }
+
+  list_kept : (p : PacerView) (h : HeapState) (m : ℕ) (cs : List Command) (told : MetronomeProgress) (next : Result Held Status) → MakeNothing cs → DoesList (Ok (held p h)) m cs next told → WasKept p h (List_called m cs told) next
+  list_kept p h m cs told next none d =
+      let asked = d.1 in
+      let done = asked.4.1 in
+      record {
+        events = events_of m cs (with_refusal done.0 asked.0.refused);
+        pacer = p;
+        heap = asked.1.heap;
+        left = asked.3 ∙ ap Ok asked.4.0;
+        path = list_path m cs done.0 asked.0.refused (state_of (paced_by p h)) asked.1.heap none done.1.order;
+        was = inr ([], done.0, asked.0, refl, tt, done.1.done, d.2 ∙ ap progress_told asked.2);
+      }
+
+  made_kept : (p : PacerView) (h : HeapState) (m dst : ℕ) (shape : Shape) (cs : List Command) (told : MetronomeProgress) (next : Result Held Status) (progress : Result Progress Status) → MakeNothing cs
+      → AsksPaying (shape_words shape) (λ x a k. DoesFront x m (commands.New dst shape ∷ cs) a k) (Ok (held p h)) progress next → told ≡ progress_told progress → WasKept p h (List_called m (commands.New dst shape ∷ cs) told) next
+  made_kept p h m dst shape cs told next (Err why) none a is = record {
+    events = [];
+    pacer = p;
+    heap = h;
+    left = a.1 ∙ ap Ok a.2.1.1;
+    path = refl;
+    was = inl (refl, is ∙ ap (λ (w : Status). progress_told (Err w)) a.2.0);
+  }
+  made_kept p h m dst shape cs told next (Ok progress) none a is =
+      let c = commands.New dst shape in
+      let paid = a.2.1 in
+      let q = paid.0 in
+      let same : a.2.0 ≡ held q a.2.0.heap = paid.1 in
+      let done : DoesFront a.2.0.heap m (c ∷ cs) progress a.0.heap = a.2.2.1 in
+      record {
+        events = paid.3.work ++ events_of m (c ∷ cs) (with_refusal done.0 progress.refused);
+        pacer = q;
+        heap = a.0.heap;
+        left = a.1 ∙ ap Ok (a.2.2.0 ∙ ap (λ (x : Held). record x { heap = a.0.heap }) same);
+        path = first_path (paced_by p h) (paced_by q a.2.0.heap) m c cs done.0 progress.refused a.0.heap paid.3 none done.1.order;
+        was = inr (paid.3.work, done.0, progress, refl, works (words_of (asks c)) paid.3.work (state_of (paced_by p h)) (record { heap = a.2.0.heap; counts = paid.3.before }) paid.3.works, done.1.done, is);
+      }
+
+  commands_kept : (p : PacerView) (h : HeapState) (m : ℕ) (cs : List Command) (told : MetronomeProgress) (next : Result Held Status) → DoesCommands (Ok (held p h)) m cs next told → WasKept p h (List_called m cs told) next
+  commands_kept p h m (commands.New dst shape ∷ cs) told next d = made_kept p h m dst shape cs told next d.1.0 d.0 d.1.1 d.1.2
+  commands_kept p h m cs told next d = list_kept p h m cs told next d.0 d.1
+
+  call_kept : (p : PacerView) (h : HeapState) (call : KeptCall) (next : Result Held Status) → DoesKept (Ok (held p h)) call next → WasKept p h call next
+  call_kept p h (Called (Command_called m c answer)) next d = command_kept p h m c answer next d
+  call_kept p h (Called (Begin_called status)) next d = begin_kept p h status next d
+  call_kept p h (Called (Quantum_called budget before after status)) next d = quantum_kept p h budget before after status next d
+  call_kept p h (List_called m cs told) next d = commands_kept p h m cs told next d
+
+  -- calls are events that keep the plan, one call after the other
+  pub record WereKept (p : PacerView) (h : HeapState) (calls : List KeptCall) (new : Result Held Status) : Type 0 where
+    pub events : List Event
+    pub pacer : PacerView
+    pub heap : HeapState
+    pub left : new ≡ Ok (held pacer heap)
+    pub path : Path KeepsPlan (state_of (paced_by p h)) events (state_of (paced_by pacer heap))
+    pub were : WereEvents events calls
+
+  pub were_kept : (calls : List KeptCall) (p : PacerView) (h : HeapState) (new : Result Held Status) → KeptCalls (Ok (held p h)) calls new → WereKept p h calls new
+  were_kept [] p h new d = record { events = []; pacer = p; heap = h; left = d; path = refl; were = refl }
+  were_kept (call ∷ calls) p h new d =
+      let one = call_kept p h call d.0 d.1 in
+      let rest = were_kept calls one.pacer one.heap new (subst (λ (x : Result Held Status). KeptCalls x calls new) one.left d.2) in
+      record {
+        events = one.events ++ rest.events;
+        pacer = rest.pacer;
+        heap = rest.heap;
+        left = rest.left;
+        path = path_then KeepsPlan one.events rest.events (state_of (paced_by p h)) (state_of (paced_by one.pacer one.heap)) (state_of (paced_by rest.pacer rest.heap)) one.path rest.path;
+        were = (one.events, rest.events, refl, one.was, rest.were);
+      }
+
+module _ (s : Settings) (h : Held) (made : IsMadeOf s h) (flow : MetronomeFlow) (calls : List KeptCall) (new : Result Held Status) where
+  -- with a plan that can be kept
+  room_kept : CanKeep h flow → KeptCalls (Ok (kept h flow)) calls new → KeepsRoom h flow calls new
+  room_kept can d =
+      let p : PacerView = first_pacer flow.budget (plan_in flow) in
+      let all = were_kept h.config calls p h.heap new d in
+      let old : PacedState = state_of (paced_by p h.heap) in
+      let just : IsJustPaced h.config (plan_in flow) old = record {
+        heap = made.0;
+        settings = made.2;
+        counts = ap (λ (b : ℕ). first_counts b (plan_in flow)) can.budget;
+      } in
+      let found = finds_room h.config (plan_in flow) flow.live_words old (state_of (paced_by all.pacer all.heap)) all.events just can.moves can.fits all.path in
+      record {
+        events = all.events;
+        left = held h.config all.pacer all.heap;
+        is_left = all.left;
+        were = all.were;
+        room = found;
+        holds = course_holds found.course (runs_course all.events (opened h.heap) found.course (is_course s h made) found.runs);
+      }
+
+  by_keeping : (k now : Held) (is : Bool) (status : ℕ) → ◌≡◌ {A = Result Held Status} (Ok k) (Ok now) → KeepsHeld h flow is now → status ≡ status_number (keep_status is) → status ≡ status_number Done
+      → KeptCalls (Ok k) calls new → KeepsRoom h flow calls new
+  by_keeping k now true status at keeps told done d = room_kept keeps.0 (subst (λ (x : Result Held Status). KeptCalls x calls new) (at ∙ ap Ok keeps.1) d)
+  by_keeping k now false status at keeps told done d = absurd (omega (arith, told, done))
+
+  pub keeps_room : (k : Held) (status : ℕ) → Keeps (Ok h) flow (Ok k) status → status ≡ status_number Done → KeptCalls (Ok k) calls new → KeepsRoom h flow calls new
+  keeps_room k status keeps done d = by_keeping k keeps.0 keeps.1 status keeps.2 keeps.3 keeps.4 done d

@@ -1,0 +1,39 @@
+-- What the box of a handle holds, and what is done with it: a `Held` is a heap, the configuration that it was made of, and its
+-- pacer, where a plan is kept.
+use Rattle.std.specs.Prelude.{◌≡◌, ℕ, ◌<◌, ◌≤◌, Bool, true, false, Option, Some, None, is_some, Result, Ok, Err}
+use Rattle.heap_model.specs.State.{HeapState}
+use Rattle.paced.specs.Pacing.{PacerView, paced_by, Pays}
+use Rattle.metronome_c.specs.declared.held.Held.{Held}
+use Rattle.metronome_c.specs.declared.status.Status.{Status}
+use Rattle.metronome_c.specs.declared.status.Status.TheVariants.{AbovePlan}
+
+-- something is done by the heap, and nothing else changes
+abbrev pub OnHeap : {A : Type 0} → (HeapState → A → HeapState → Type 0) → Held → A → Held → Type 0
+OnHeap call h a k = (k ≡ record h { heap = k.heap }) × call h.heap a k.heap
+
+-- words are paid for by a pacer, where there is one: the collector works as much as its plan wants
+abbrev pub PaysBy : Option PacerView → Held → ℕ → Held → Type 0
+PaysBy None old words new = new ≡ old
+PaysBy (Some p) old words new = (q : PacerView) × (new ≡ record old { heap = new.heap; pacer = Some q })
+    × (words ≤ p.counts.plan.cycle_words) × Pays (paced_by p old.heap) words (paced_by q new.heap)
+
+-- words are more than a plan that is kept has for a whole cycle
+abbrev pub IsAbove : Option PacerView → ℕ → Type 0
+IsAbove None words = ⊥
+IsAbove (Some p) words = p.counts.plan.cycle_words < words
+
+-- words are paid for, unless they are more than the plan has for a whole cycle: then nothing is done
+abbrev pub PaysHeld : Held → ℕ → Bool → Held → Type 0
+PaysHeld old words true new = PaysBy old.pacer old words new
+PaysHeld old words false new = IsAbove old.pacer words × (new ≡ old)
+
+-- what a handle holds keeps a plan
+abbrev pub is_kept : Result Held Status → Bool
+is_kept (Ok h) = is_some h.pacer
+is_kept (Err why) = false
+
+-- something is done by the heap once words were paid for; where they can't be, that is told, and nothing is done
+abbrev pub AfterPaying : {A : Type 0} → ℕ → (HeapState → A → HeapState → Type 0) → Held → Result A Status → Held
+    → Type 0
+AfterPaying words call old (Err why) new = (why ≡ AbovePlan) × PaysHeld old words false new
+AfterPaying words call old (Ok a) new = (mid : Held) × PaysHeld old words true mid × OnHeap call mid a new

@@ -1,0 +1,99 @@
+-- The calls of a program on a handle whose heap keeps a plan.
+use Rattle.std.specs.Prelude.{◌≡◌, ◌⊎◌, ℕ, List, [], ◌∷◌, ◌++◌, length, Result, Ok, Err}
+use Rattle.graph_heap.specs.declared.command.Command.{Command}
+use Rattle.graph_heap.specs.declared.command.Command.TheVariants as commands
+use Rattle.graph_heap.specs.declared.command.Reply.{Reply}
+use Rattle.graph_heap.specs.declared.command.Shape.{Shape}
+use Rattle.heap_model.specs.Event.{Event, Cycle_begun, Quantum_done}
+use Rattle.machine.specs.Headline.{Holds}
+use Rattle.paced.specs.Pacing.{shape_words, MakesNothing}
+use Rattle.paced.specs.Rooms.{FindsRoom}
+use Rattle.bulk.specs.declared.progress.Progress.{Progress}
+use Rattle.bulk.specs.InOrder.{events_of, with_refusal}
+use Rattle.metronome_c.specs.declared.bulk_calls.MetronomeProgress.{MetronomeProgress}
+use Rattle.metronome_c.specs.declared.held.Held.{Held}
+use Rattle.metronome_c.specs.declared.planning.MetronomeFlow.{MetronomeFlow}
+use Rattle.metronome_c.specs.declared.status.Status.{Status}
+use Rattle.metronome_c.specs.declared.status.Status.TheVariants.{AbovePlan}
+use Rattle.metronome_c.specs.Answer.{refused}
+use Rattle.metronome_c.specs.BulkCalls.{progress_told, DoesList, MakesList}
+use Rattle.metronome_c.specs.Calls.{Call, Command_called, DoesCall, TellsEvent}
+use Rattle.metronome_c.specs.Keeping.{flow_of}
+
+-- A call that may change the heap: one as without a plan; or one that does a list of commands of a mutator, with how far it
+-- was done.
+pub data KeptCall : Type 0 where
+  Called : Call → KeptCall
+  List_called : ℕ → List Command → MetronomeProgress → KeptCall
+
+-- no command of a list makes an object
+abbrev pub MakeNothing : List Command → Type 0
+MakeNothing [] = Unit {0}
+MakeNothing (c ∷ cs) = MakesNothing c × MakeNothing cs
+
+-- A list of commands is done as the contract of an export says: it makes an object first, or none.
+abbrev pub DoesCommands : Result Held Status → ℕ → List Command → Result Held Status → MetronomeProgress → Type 0
+DoesCommands old m (commands.New dst shape ∷ cs) new told =
+    MakeNothing cs × MakesList old (shape_words shape) m (commands.New dst shape ∷ cs) new told
+DoesCommands old m cs new told = MakeNothing cs × DoesList old m cs new told
+
+-- what a call does to what the handle holds, as the contract of its export says
+abbrev pub DoesKept : Result Held Status → KeptCall → Result Held Status → Type 0
+DoesKept old (Called call) new = DoesCall old call new
+DoesKept old (List_called m cs told) new = DoesCommands old m cs new told
+
+-- such calls one after the other
+abbrev pub KeptCalls : Result Held Status → List KeptCall → Result Held Status → Type 0
+KeptCalls old [] new = new ≡ old
+KeptCalls old (call ∷ calls) new = (next : Result Held Status) × DoesKept old call next × KeptCalls next calls new
+
+-- what the collector does of itself: a cycle begins, or a quantum is done
+abbrev pub IsWork : Event → Type 0
+IsWork Cycle_begun = Unit {0}
+IsWork (Quantum_done budget units phase) = Unit {0}
+IsWork e = ⊥
+
+-- each event is such work
+abbrev pub AreWork : List Event → Type 0
+AreWork [] = Unit {0}
+AreWork (e ∷ es) = IsWork e × AreWork es
+
+-- the call asked for an object above the plan, and was told so
+abbrev pub IsRefusedAbove : Call → Type 0
+IsRefusedAbove call = (m : ℕ) × (dst : ℕ) × (shape : Shape)
+    × (call ≡ Command_called m (commands.New dst shape) (refused AbovePlan))
+
+-- A call was these events: one, of which it told the outcome, with the collector's own work before it; or none, where it
+-- asked for an object above the plan.
+abbrev pub WasOne : List Event → Call → Type 0
+WasOne es call = ((es ≡ []) × IsRefusedAbove call)
+    ⊎ ((work : List Event) × (e : Event) × (es ≡ work ++ e ∷ []) × AreWork work × TellsEvent e call)
+
+-- A list of commands of mutator m was these events: its commands, as far as it told, with the collector's own work before
+-- them; or none, where its object was above the plan.
+abbrev pub WasList : List Event → ℕ → List Command → MetronomeProgress → Type 0
+WasList es m cs told = ((es ≡ []) × (told ≡ progress_told (Err AbovePlan)))
+    ⊎ ((work : List Event) × (rs : List Reply) × (p : Progress) × (es ≡ work ++ events_of m cs (with_refusal rs p.refused))
+    × AreWork work × (p.done ≡ length rs) × (told ≡ progress_told (Ok p)))
+
+-- a call was these events, whichever it was
+abbrev pub WasEvents : List Event → KeptCall → Type 0
+WasEvents es (Called call) = WasOne es call
+WasEvents es (List_called m cs told) = WasList es m cs told
+
+-- the calls were these events, one call after the other
+abbrev pub WereEvents : List Event → List KeptCall → Type 0
+WereEvents es [] = es ≡ []
+WereEvents es (call ∷ calls) = (first : List Event) × (rest : List Event) × (es ≡ first ++ rest) × WasEvents first call
+    × WereEvents rest calls
+
+-- The calls were events, which lead from the heap that keeps a plan to the one that the handle holds: if what is live is
+-- within the plan wherever one of them begins a cycle, no reply is the refusal for lack of space. And all that is
+-- promised of a heap with its history holds there.
+pub record KeepsRoom (h : Held) (flow : MetronomeFlow) (calls : List KeptCall) (new : Result Held Status) : Type 0 where
+  pub events : List Event
+  pub left : Held
+  pub is_left : new ≡ Ok left
+  pub were : WereEvents events calls
+  pub room : FindsRoom h.config (flow_of flow) h.heap left.heap events
+  pub holds : Holds room.course

@@ -1,0 +1,59 @@
+-- A plan is told.
+use Rattle.std.specs.Prelude.{◌≡◌, ℕ, ◌*◌, Option, Some, None}
+use Rattle.settings.specs.declared.settings.Settings.{Settings}
+use Rattle.settings.specs.declared.config.Config.{Config}
+use Rattle.settings.specs.declared.fault.ConfigFault.{ConfigFault}
+use Rattle.settings.specs.declared.ranges.Ranges.TheVariants.{Library}
+use Rattle.settings.specs.Config.{fault_of, IsOf}
+use Rattle.fragmentation.specs.Configured.{MovesAll}
+use Rattle.paced.specs.declared.plan.Plan.{Plan}
+use Rattle.paced.specs.Planning.{IsFastest, IsLeastPages}
+use Rattle.metronome_c.specs.declared.planning.MetronomeFlow.{MetronomeFlow}
+use Rattle.metronome_c.specs.declared.status.Status.{Status}
+use Rattle.metronome_c.specs.declared.status.Status.TheVariants.{Done, NoPlan}
+use Rattle.metronome_c.specs.Status.{status_number, fault_status}
+
+-- the plan that C gives
+abbrev pub plan_in : MetronomeFlow → Plan
+plan_in f = record { quantum_words = f.quantum_words; cycle_words = f.cycle_words }
+
+-- the words of a plan; none where there is none
+abbrev pub words_told : Option Plan → Plan
+words_told (Some p) = p
+words_told None = record { quantum_words = 0; cycle_words = 0 }
+
+-- the least number of pages on which there is a plan; 0 where there is one on no number of pages
+abbrev pub pages_told : Option ℕ → ℕ
+pages_told (Some pages) = pages
+pages_told None = 0
+
+-- what C is told of a plan of a configuration, or of there being none
+abbrev pub flow_told : Config → ℕ → Option ℕ → Option Plan → MetronomeFlow
+flow_told c live least plan = record {
+  live_words = live;
+  quantum_words = (words_told plan).quantum_words;
+  cycle_words = (words_told plan).cycle_words;
+  least_pages = pages_told least;
+  budget = c.collector_ticks * c.rate;
+}
+
+-- the plan of the most words for each quantum that fits in a heap of a configuration, where it moves all
+abbrev pub IsPlanned : Config → ℕ → Option Plan → Type 0
+IsPlanned c live None = MovesAll c → IsFastest c live None
+IsPlanned c live (Some plan) = MovesAll c × IsFastest c live (Some plan)
+
+-- the status of a call that tells a plan
+abbrev pub plan_status : Option Plan → Status
+plan_status (Some plan) = Done
+plan_status None = NoPlan
+
+-- C is told the plan, and the least number of pages, where the settings have no fault
+abbrev pub PlansUnless : Option ConfigFault → Settings → ℕ → MetronomeFlow → MetronomeFlow → ℕ → Type 0
+PlansUnless (Some fault) s live before after status = (after ≡ before) × (status ≡ status_number (fault_status fault))
+PlansUnless None s live before after status = (c : Config) × (least : Option ℕ) × (plan : Option Plan) × IsOf s c
+    × IsLeastPages c live least × IsPlanned c live plan × (after ≡ flow_told c live least plan)
+    × (status ≡ status_number (plan_status plan))
+
+-- the plan of the settings that C gives, or their first fault
+abbrev pub TellsPlan : Settings → ℕ → MetronomeFlow → MetronomeFlow → ℕ → Type 0
+TellsPlan s live before after status = PlansUnless (fault_of Library s) s live before after status

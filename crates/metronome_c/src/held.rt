@@ -1,0 +1,112 @@
+//! What the box of a handle holds.
+ghost use Rattle.std.specs.Prelude.{◌≡◌, ◌↔◌, IsTrue};
+ghost use Rattle.std.specs.Option.{option_map};
+ghost use Rattle.paced.specs.Pacing.{shape_words};
+ghost use Rattle.metronome_c.specs.Held.{PaysHeld};
+ghost use Rattle.metronome_c.specs.Collecting.{BeginsHeld, SpendsHeld};
+ghost use Rattle.metronome_c.specs.Keeping.{IsUnused, KeepsHeld};
+
+use crate::planning::MetronomeFlow;
+use graph_heap::Shape;
+use machine::{BudgetOutOfRange, Busy, Heap, Spent};
+use paced::{Figures, Pacer, flow_fits, moves_all};
+use settings::Config;
+
+/// A heap, the configuration that it was made of, and its pacer, where the program keeps a plan.
+pub struct Held {
+    pub heap: Heap,
+    pub config: Config,
+    pub pacer: Option<Pacer>,
+}
+
+impl Drop for Held {
+    // One call, as of a heap.
+    fn drop(self) {
+        let Held {
+            heap: _,
+            config: _,
+            pacer: _,
+        } = self;
+    }
+}
+
+impl Held {
+    /// Where a plan is kept the collector works first as much as it wants for a new object of this shape, and the object's
+    /// words are counted. False where they are more than the plan has for a whole cycle: then nothing is done.
+    #[inline(always)]
+    pub(crate) fn pays(&mut self, shape: Shape) -> bool
+        ensures { PaysHeld self.old (shape_words shape) result self.new }
+    {
+        if self.pacer.is_none() {
+            return true;
+        }
+        self.pays_plan(shape)
+    }
+
+    /// The same, out of the way of heaps that keep no plan.
+    #[inline(never)]
+    fn pays_plan(&mut self, shape: Shape) -> bool
+        ensures { PaysHeld self.old (shape_words shape) result self.new }
+    {
+        match &mut self.pacer {
+            Some(pacer) => pacer.pay_for(&mut self.heap, shape).is_ok(),
+            None => true,
+        }
+    }
+
+    /// Begins a cycle.
+    pub(crate) fn begin(&mut self) -> Result<(), Busy>
+        ensures { BeginsHeld self.old result self.new }
+    {
+        match &mut self.pacer {
+            Some(pacer) => pacer.begin(&mut self.heap),
+            None => self.heap.begin(),
+        }
+    }
+
+    /// Spends units of a budget on the cycle that is running.
+    pub(crate) fn quantum(&mut self, budget: u32) -> Result<Spent, BudgetOutOfRange>
+        ensures { SpendsHeld self.old budget result self.new }
+    {
+        match &mut self.pacer {
+            Some(pacer) => pacer.quantum(&mut self.heap, budget),
+            None => self.heap.quantum(budget),
+        }
+    }
+
+    /// The figures of the pacer, where there is one.
+    pub(crate) fn figures(&self) -> Option<Figures>
+        ensures { result ≡ option_map (λ p. p.figures) self.now.pacer }
+    {
+        match &self.pacer {
+            Some(pacer) => Some(pacer.figures()),
+            None => None,
+        }
+    }
+
+    /// Whether no page of the heap was used yet, and no cycle begun.
+    fn is_unused(&self) -> bool
+        ensures { IsTrue result ↔ IsUnused self.now.heap }
+    {
+        self.heap.phase().is_idle()
+            && self.heap.units() == 0
+            && self.heap.free_pages() == self.heap.pages()
+    }
+
+    /// Keeps a flow from here on, where it is one of the heap's configuration, and the heap is unused. False where it isn't:
+    /// then nothing is done.
+    pub(crate) fn keep(&mut self, flow: &MetronomeFlow) -> bool
+        ensures { KeepsHeld self.old flow.now result self.new }
+    {
+        let plan = flow.plan();
+        if !self.is_unused()
+            || flow.budget != self.config.budget()
+            || !moves_all(&self.config)
+            || !flow_fits(&self.config, flow.live_words, &plan)
+        {
+            return false;
+        }
+        self.pacer = Some(Pacer::new(&self.config, plan));
+        true
+    }
+}

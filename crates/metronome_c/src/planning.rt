@@ -1,0 +1,88 @@
+//! Plans: how many words of objects a heap of some settings lets be made while its collector works.
+ghost use Rattle.std.specs.Prelude.{◌≡◌, ℕ, Option};
+ghost use Rattle.paced.specs.Planning.{IsLeastPages};
+ghost use Rattle.metronome_c.specs.Planning.{plan_in, flow_told, IsPlanned, TellsPlan};
+
+use crate::status::Status;
+use paced::{Plan, least_pages, moves_all, planned};
+use settings::{Config, Ranges, Settings};
+
+/// A plan, for what is live at most: how many words of blocks are made at most for each quantum of a budget, and in a whole
+/// cycle; and the least number of pages on which there is one, or 0.
+#[repr(C)]
+#[derive(Clone, Copy, Debug, PartialEq, Eq)]
+pub struct MetronomeFlow {
+    pub live_words: u64,
+    pub quantum_words: u64,
+    pub cycle_words: u64,
+    pub least_pages: u64,
+    pub budget: u32,
+}
+
+impl MetronomeFlow {
+    /// What C is told of a plan of a configuration, or of there being none: then its words are none.
+    fn of_plan(config: &Config, live_words: u64, plan: Option<Plan>) -> MetronomeFlow
+        ensures { (least : Option ℕ) × IsLeastPages config.now live_words least
+            × (result ≡ flow_told config.now live_words least plan) }
+    {
+        let least = match least_pages(config, live_words) {
+            Some(pages) => u64::from(pages),
+            None => 0,
+        };
+        let (quantum_words, cycle_words) = match plan {
+            Some(plan) => (plan.quantum_words, plan.cycle_words),
+            None => (0, 0),
+        };
+        MetronomeFlow {
+            live_words,
+            quantum_words,
+            cycle_words,
+            least_pages: least,
+            budget: config.budget(),
+        }
+    }
+
+    /// Its plan.
+    pub(crate) fn plan(&self) -> Plan
+        ensures { result ≡ plan_in self.now }
+    {
+        Plan {
+            quantum_words: self.quantum_words,
+            cycle_words: self.cycle_words,
+        }
+    }
+}
+
+/// The plan of the most words for each quantum that fits in a heap of a configuration, where it moves all.
+fn planned_in(config: &Config, live_words: u64) -> Option<Plan>
+    ensures { IsPlanned config.now live_words result }
+{
+    if moves_all(config) {
+        planned(config, live_words)
+    } else {
+        None
+    }
+}
+
+/// Tells the plan of the most words for each quantum that fits in a heap of these settings, where the blocks of live objects
+/// have at most so many words whenever a cycle begins; or that there is none. No heap is made. It takes time by the pages.
+#[unsafe(no_mangle)]
+pub extern "C" fn metronome_plan(
+    settings: &Settings,
+    live_words: u64,
+    flow: &mut MetronomeFlow,
+) -> u32
+    ensures { TellsPlan settings.now live_words flow.old flow.new result }
+{
+    let config = match Config::check(Ranges::Library, settings) {
+        Ok(config) => config,
+        Err(fault) => return Status::of_fault(fault).number(),
+    };
+    let plan = planned_in(&config, live_words);
+    *flow = MetronomeFlow::of_plan(&config, live_words, plan);
+    let status = match plan {
+        Some(_) => Status::Done,
+        None => Status::NoPlan,
+    };
+    status.number()
+}

@@ -1,0 +1,9 @@
+use Rattle.std.proofs.Common.{sym, subst}
+use Rattle.std.specs.Prelude.{IfOk, string_bytes}
+use Rattle.plans.specs.Report.{numbers_told, IsTable}
+use Rattle.plans.proofs.report.plans.Goals as goal
+
+pub returns-in-Some : goal.returns-in-Some
+returns-in-Some c =
+    let config = c.args.config.now in
+    subst (λ least. IfOk c.table-in-Some.result (λ text. IsTable config c.args.live_words (numbers_told config least) (string_bytes text))) (sym c.in-Some.is) c.table-in-Some.ensures

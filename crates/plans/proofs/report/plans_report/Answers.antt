@@ -1,0 +1,8 @@
+use Rattle.plans.proofs.Rows.{least_within}
+use Rattle.plans.proofs.report.plans_report.Goals as goal
+
+pub fewest_line-requires : goal.fewest_line-requires
+fewest_line-requires c = least_within c.args.config.now c.args.live_words c.least_pages-least.result c.least_pages-least.ensures
+
+pub plans-requires : goal.plans-requires
+plans-requires c = least_within c.args.config.now c.args.live_words c.least_pages-least.result c.least_pages-least.ensures

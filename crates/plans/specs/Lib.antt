@@ -1,0 +1,3 @@
+pub mod OnPages
+pub mod Order
+pub mod Report

@@ -1,0 +1,66 @@
+-- What is told of the plans for a number of live words: lines of text.
+use Rattle.std.specs.Prelude.{◌≡◌, ℕ, ◌+◌, ◌-◌, ◌*◌, ◌/◌, nat_lt, if◌then◌else◌, List, [], ◌∷◌, ◌++◌, Option, Some, None, codes, decimal}
+use Rattle.std.specs.List.{AllZip, concat}
+use Rattle.settings.specs.declared.config.Config.{Config}
+use Rattle.settings.specs.declared.config.TheConstants.{MOST_PAGES}
+use Rattle.paced.specs.declared.plan.Plan.{Plan}
+use Rattle.paced.specs.Planning.{cycle_quanta, IsFastest, IsLeastPages}
+use Rattle.plans.specs.OnPages.{IsOnPages}
+use Rattle.plans.specs.Order.{AreInOrder}
+
+-- how many words are live, and the units of a quantum
+abbrev pub live_line : Config → ℕ → List ℕ
+live_line c live =
+    codes "live " ++ (decimal live ++ (codes " units " ++ (decimal (c.collector_ticks * c.rate) ++ codes "\n")))
+
+-- the fewest pages on which there is a plan, with the keys to set for them
+abbrev pub fewest_line : Option ℕ → List ℕ
+fewest_line None = codes "no number of pages up to 1048576 has a plan\n"
+fewest_line (Some pages) = codes "fewest " ++ (decimal pages ++ (
+    if nat_lt MOST_PAGES pages then codes ": more than a file may ask for\n"
+    else codes ": pages = " ++ (decimal pages ++ (codes ", defrag_below = " ++ (decimal (pages + 1)
+    ++ (codes ", defrag_pages = " ++ (decimal pages ++ codes "\n")))))))
+
+-- tenths of a unit for each of these words, which cost so many units together, rounded up
+abbrev pub tenths_of : ℕ → ℕ → ℕ
+tenths_of units words = (10 * units + (words - 1)) / words
+
+-- a plan on a configuration's pages: the quanta that a cycle takes at most, the words that may be asked for at each of
+-- them and in a whole cycle, and the tenths of a unit that the collector spends for each word
+abbrev pub plan_line : Config → Option Plan → List ℕ
+plan_line c None = codes "pages " ++ (decimal c.pages ++ codes ": no plan\n")
+plan_line c (Some plan) = codes "pages " ++ (decimal c.pages
+    ++ (codes " quanta " ++ (decimal (cycle_quanta c)
+    ++ (codes " words " ++ (decimal plan.quantum_words
+    ++ (codes " cycle " ++ (decimal plan.cycle_words
+    ++ (codes " tenths " ++ (decimal (tenths_of (c.collector_ticks * c.rate) plan.quantum_words)
+    ++ codes "\n")))))))))
+
+-- the line of a number of pages: of the fastest plan on as many, where every cycle moves and may empty all of them
+pub record IsRow (c : Config) (live pages : ℕ) (line : List ℕ) : Type 0 where
+  pub on : Config
+  pub is_on : IsOnPages c pages on
+  pub plan : Option Plan
+  pub fastest : IsFastest on live plan
+  pub told : line ≡ plan_line on plan
+
+-- a line for each of some numbers of pages that a heap may have, in rising order, each once
+pub record IsTable (c : Config) (live : ℕ) (numbers text : List ℕ) : Type 0 where
+  pub shown : List ℕ
+  pub in_order : AreInOrder numbers 0 shown
+  pub lines : List (List ℕ)
+  pub each : AllZip (IsRow c live) shown lines
+  pub told : text ≡ concat lines
+
+-- of how many pages the plans are told: the configuration's own, the fewest, and some more
+abbrev pub numbers_told : Config → Option ℕ → List ℕ
+numbers_told c None = c.pages ∷ []
+numbers_told c (Some few) = c.pages ∷ few ∷ (few + few / 4) ∷ (few + few / 2) ∷ (2 * few) ∷ (3 * few) ∷ []
+
+-- all that is told of the plans where so many words are live
+pub record IsPlansReport (c : Config) (live : ℕ) (text : List ℕ) : Type 0 where
+  pub least : Option ℕ
+  pub is_least : IsLeastPages c live least
+  pub rows : List ℕ
+  pub table : IsTable c live (numbers_told c least) rows
+  pub told : text ≡ live_line c live ++ (fewest_line least ++ rows)

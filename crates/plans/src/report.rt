@@ -1,0 +1,72 @@
+//! What is told of the plans for a number of live words.
+ghost use Rattle.std.specs.Prelude.{◌≡◌, ◌≤◌, IfOk, IfSome, string_bytes};
+ghost use Rattle.settings.specs.declared.config.TheConstants.{MOST_HEAP_PAGES};
+ghost use Rattle.plans.specs.Report.{live_line, fewest_line, numbers_told, IsTable, IsPlansReport};
+
+use crate::table::table;
+use paced::least_pages;
+use settings::{Config, MOST_PAGES};
+use std::alloc::{AllocError, Global};
+
+/// How many words are live, and the units of a quantum.
+fn live_line(alloc: Global, config: &Config, live_words: u64) -> Result<String, AllocError>
+    ensures { IfOk result (λ line. string_bytes line ≡ live_line config.now live_words) }
+{
+    let units = config.budget();
+    format!(in alloc; "live {live_words} units {units}\n")
+}
+
+/// The fewest pages on which there is a plan, with the keys to set for them; or that there is one on no number of
+/// pages.
+fn fewest_line(alloc: Global, least: Option<u32>) -> Result<String, AllocError>
+    requires { IfSome least (λ pages. pages ≤ MOST_HEAP_PAGES) }
+    ensures { IfOk result (λ line. string_bytes line ≡ fewest_line least) }
+{
+    let Some(pages) = least else {
+        return format!(in alloc; "no number of pages up to 1048576 has a plan\n");
+    };
+    if MOST_PAGES < pages {
+        return format!(in alloc; "fewest {pages}: more than a file may ask for\n");
+    }
+    let below = pages + 1;
+    format!(in alloc;
+        "fewest {pages}: pages = {pages}, defrag_below = {below}, defrag_pages = {pages}\n"
+    )
+}
+
+/// The plans on the configuration's own pages, the fewest, and some more.
+fn plans(
+    alloc: Global,
+    config: &Config,
+    live_words: u64,
+    least: Option<u32>,
+) -> Result<String, AllocError>
+    requires { IfSome least (λ pages. pages ≤ MOST_HEAP_PAGES) }
+    ensures { IfOk result (λ text. IsTable config.now live_words (numbers_told config.now least) (string_bytes text)) }
+{
+    let own = config.pages;
+    match least {
+        None => table(alloc, config, live_words, &[own]),
+        Some(few) => {
+            let numbers = [own, few, few + few / 4, few + few / 2, 2 * few, 3 * few];
+            table(alloc, config, live_words, &numbers)
+        }
+    }
+}
+
+/// What is told of the plans by which a heap of a configuration paces itself, where live objects have blocks of so many
+/// words at most whenever a cycle begins, headers included: the units of a quantum; the fewest pages on which there is a
+/// plan, with the keys to set for them, or that there is one on no number of pages; and a line for each of some numbers
+/// of pages, in rising order: the configuration's own, the fewest, and 5/4, 3/2, 2 and 3 times as many, as far as a heap
+/// may have them. All else than the pages, and the moving that a plan wants, is as the configuration has it.
+pub fn plans_report(alloc: Global, config: &Config, live_words: u64) -> Result<String, AllocError>
+    ensures { IfOk result (λ text. IsPlansReport config.now live_words (string_bytes text)) }
+{
+    let least = least_pages(config, live_words);
+    [
+        live_line(alloc, config, live_words)?,
+        fewest_line(alloc, least)?,
+        plans(alloc, config, live_words, least)?,
+    ]
+    .concat(alloc)
+}

@@ -1,0 +1,57 @@
+//! The plan on a number of pages, as a line.
+ghost use Rattle.std.specs.Prelude.{◌≡◌, ◌≤◌, IfOk, IfSome, string_bytes};
+ghost use Rattle.settings.specs.declared.config.TheConstants.{MOST_HEAP_PAGES};
+ghost use Rattle.paced.specs.Planning.{cycle_quanta};
+ghost use Rattle.plans.specs.Report.{tenths_of, plan_line, IsRow};
+
+use crate::on_pages::on_pages;
+use paced::{Plan, planned};
+use settings::{Config, LEAST_BUDGET};
+use std::alloc::{AllocError, Global};
+
+/// The quanta of the configuration's budget that a whole cycle takes at most.
+fn cycle_quanta(config: &Config) -> u64
+    ensures { result ≡ cycle_quanta config.now }
+{
+    config.cycle_limit() / u64::from(config.budget() - (LEAST_BUDGET - 1)) + 1
+}
+
+/// Tenths of a unit for each word, where so many words are asked for at a quantum of so many units, rounded up.
+fn tenths(units: u32, words: u64) -> u128
+    requires { 1 ≤ words }
+    ensures { result ≡ tenths_of units words }
+{
+    let words = u128::from(words);
+    (10 * u128::from(units) + (words - 1)) / words
+}
+
+/// The line of the plan on a configuration's pages, or of no plan.
+fn plan_line(alloc: Global, config: &Config, plan: Option<Plan>) -> Result<String, AllocError>
+    requires { IfSome plan (λ plan. 1 ≤ plan.quantum_words) }
+    ensures { IfOk result (λ line. string_bytes line ≡ plan_line config.now plan) }
+{
+    let pages = config.pages;
+    let Some(plan) = plan else {
+        return format!(in alloc; "pages {pages}: no plan\n");
+    };
+    let quanta = cycle_quanta(config);
+    let (words, cycle) = (plan.quantum_words, plan.cycle_words);
+    let tenths = tenths(config.budget(), words);
+    format!(in alloc; "pages {pages} quanta {quanta} words {words} cycle {cycle} tenths {tenths}\n")
+}
+
+/// The line of the plan on this many pages, where moving follows each sweep and may empty all of them: the number of
+/// pages, the quanta that a cycle takes at most, the words of a quantum and of a cycle, and tenths of a unit for each
+/// word; or that there is no plan.
+pub(crate) fn row(
+    alloc: Global,
+    config: &Config,
+    live_words: u64,
+    pages: u32,
+) -> Result<String, AllocError>
+    requires { (1 ≤ pages) × (pages ≤ MOST_HEAP_PAGES) }
+    ensures { IfOk result (λ line. IsRow config.now live_words pages (string_bytes line)) }
+{
+    let on = on_pages(config, pages);
+    plan_line(alloc, &on, planned(&on, live_words))
+}

@@ -1,5 +1,5 @@
 -- A main copy that is shaded.
-use Rattle.std.proofs.Common.{◌≡◌, ◌≢◌, ℕ, ◌+◌, ◌-◌, ◌*◌, ◌<◌, Bool, true, false, ◌==◌, ◌||◌, List, ◌∷◌, ◌++◌, length, set, ap, ◌∙◌, sym, subst, refl, arith}
+use Rattle.std.proofs.Common.{◌≡◌, ◌≢◌, ℕ, ◌+◌, ◌-◌, ◌*◌, ◌<◌, Bool, true, false, ◌==◌, ◌||◌, List, length, set, ap, ◌∙◌, sym, subst, refl, arith}
 use Rattle.heap_model.specs.Action.{Relinks, Shades, Is_marked}
 use Rattle.heap_model.specs.Block.{BlockRecord, with_colour}
 use Rattle.heap_model.specs.Collector.{contains, Once}

@@ -133,6 +133,8 @@ pub fn flush_all(heap: &mut HeapFields)
         return;
     }
     for mutator in 0..heap.roots.limits().mutators {
-        flush(heap, mutator);
+        if heap.grey.last_record(mutator).is_some() {
+            flush(heap, mutator);
+        }
     }
 }

@@ -1,6 +1,5 @@
-use Rattle.std.proofs.Common.{◌≡◌, ◌+◌, ◌-◌, [], List, ℕ, get_or, set, ap, ◌∙◌, sym, subst, arith}
+use Rattle.std.proofs.Common.{◌≡◌, ◌+◌, ◌-◌, [], ℕ, get_or, set, ap, ◌∙◌, sym, subst, arith}
 use Rattle.heap_model.specs.Store.{Store}
-use Rattle.nodes.specs.declared.heap_fields.HeapFields.{HeapFields}
 use Rattle.nodes.specs.Grey.{GreySet, grey_in, with_buffer, AreLinked}
 use Rattle.satb_barrier.proofs.Listing.{few, none_of, emptied_same, last_some, last_is_grey, hung_grey, hung_linked}
 use Rattle.satb_barrier.proofs.list.flush.Goals.{After-clear}

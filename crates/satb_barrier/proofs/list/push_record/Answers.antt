@@ -1,7 +1,7 @@
-use Rattle.std.proofs.Common.{◌≡◌, ◌+◌, ◌-◌, ◌<◌, ◌*◌, [], ◌∷◌, ◌++◌, ℕ, get_or, set, length, ap, ◌∙◌, sym, subst, arith}
+use Rattle.std.proofs.Common.{◌≡◌, ◌+◌, ◌-◌, [], ◌∷◌, ◌++◌, ℕ, get_or, set, length, ap, ◌∙◌, sym, subst, arith}
 use Rattle.heap_model.specs.Store.{Store}
 use Rattle.nodes.specs.declared.heap_fields.HeapFields.{HeapFields}
-use Rattle.nodes.specs.Grey.{GreySet, grey_in, inserted, buffer_of, with_buffer, AreLinked}
+use Rattle.nodes.specs.Grey.{GreySet, grey_in, buffer_of, with_buffer, AreLinked}
 use Rattle.nodes.proofs.Linking.{linked_more}
 use Rattle.satb_barrier.proofs.Listing.{none_of, own_record, last_some, last_is_grey, more_grey, more_linked}
 use Rattle.satb_barrier.proofs.list.push_record.Goals.{in-Some, in_default}

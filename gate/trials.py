@@ -221,7 +221,7 @@ def tried(trial, threads=1):
     told = verdicts.told(said)
     others = {name: it for name, it in told.items() if not any(verdicts.is_within(name, path) for path in trial.asked)}
     wrong = [name for name, it in others.items() if it.fails_by_itself]
-    if wrong or not verdicts.ended(said) or all(it.state != "proved" for it in others.values()):
+    if wrong or not verdicts.ended(said) or not any(it.stands for it in others.values()):
         print(f"{trial.crate.name}: {len(trial.edits)} at once came to no verdict: {first_fault(said)}", flush=True)
         return [], parted(trial, said), wrong
     results, again = [], []

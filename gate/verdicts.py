@@ -43,18 +43,24 @@ ENDED = re.compile(r"^only=\d+ proved=\d+$", re.M)
 
 @dataclass
 class Function:
-    """What the prover said of a function: its state, the goals that it didn't prove, those whose proof by hand no longer fits, and
-    those whose proof names what went."""
+    """What the prover said of a function: its state, the goals that it didn't prove, those whose proof by hand no longer fits, those
+    whose proof names what went, and whether it is wanting in nothing but that others aren't proved."""
 
     state: str
     left: list
     unfit: list
     went: list
+    rests: bool
 
     @property
     def fails_by_itself(self):
         """Whether it isn't proved for what it does itself, and not only since another function isn't proved."""
         return self.state != "proved" and bool(self.left or self.unfit or self.went)
+
+    @property
+    def stands(self):
+        """Whether what it does itself is proved."""
+        return self.state == "proved" or self.rests and self.state != "could not tell" and not self.fails_by_itself
 
 
 def folder_of(name):
@@ -74,7 +80,8 @@ def told(text):
         left += UNMET.findall(text, above, line.start())
         mine, above = [it for it in errors.get(folder_of(name), []) if it[0] != FAULT], line.end()
         unfit = [goal or "its proof" for goal, why in mine if not WENT.search(why) and not STOPPED.search(why)]
-        functions[name] = Function(state, left, unfit, [goal or why for goal, why in mine if WENT.search(why)])
+        went = [goal or why for goal, why in mine if WENT.search(why)]
+        functions[name] = Function(state, left, unfit, went, bool(rest) and not own.strip(": "))
     return functions
 
 

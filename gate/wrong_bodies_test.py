@@ -245,6 +245,15 @@ def guards(crate):
     return not results and wrong == ["told::more"]
 
 
+def is_judged_beside_callers(crate):
+    """Whether a trial comes to a verdict beside functions that aren't proved only since they call what it turns."""
+    edit = edits.read(crate, f"{crate.folder}/{run.FOLDER}/adds_two.edit")
+    callers = {"two_more", "both"}
+    turned = tuple(it.path for it in functions.functions_below(crate.folder)["src/lib.rt"] if it.path not in callers)
+    results, *_ = trials.tried(trials.Trial(crate, [edit], [turned]))
+    return [it.kind for it in results] == [REFUSED]
+
+
 def leads(crate, jobs):
     """Whether a trial that leads, over nothing, refuses what it must and no more, and leaves what the next one begins with."""
     kinds = {f"told/{name}": kind for name, _, _, kind, _ in CASES}
@@ -274,7 +283,8 @@ def passed(jobs):
         crate = crate_in(room)
         made = run.made([crate], jobs, anew=False)
         found = made.found
-        good = [*judged(made), *stops(crate), *keeps(crate), guards(crate), *asks_besides(crate)]
+        good = [*judged(made), *stops(crate), *keeps(crate), guards(crate), is_judged_beside_callers(crate)]
+        good += asks_besides(crate)
         with tempfile.TemporaryDirectory(prefix="wrong-bodies-") as other:
             good.append(leads(crate_in(other), jobs))
         left = {it.name for it in run.Run([crate], anew=False).left(crate)}

@@ -54,6 +54,10 @@ none_of (x ∷ xs) e = absurd (some_at (x ∷ xs) (length xs) (omega arith) (sub
 pub emptied_same : (g : GreySet) (m : ℕ) → buffer_of g m ≡ [] → record (with_buffer g m []) { first = g.first } ≡ g
 emptied_same g m e = ap (λ bs. record { first = g.first; buffers = bs }) (ap (λ xs. set g.buffers m (record { items = xs })) (sym e) ∙ set-get_or g.buffers m (record { items = [] }))
 
+-- the link of the last record, once it is written
+pub named : (s new : Store) (last link : ℕ) → new ≡ record s { words = set s.words (last - 1 + 3) link } → get_or new.words (last - 1 + 3) 0 ≡ link → get_or (set s.words (last - 1 + 3) link) (last - 1 + 3) 0 ≡ link
+named s new last link is there = ap (λ (t : Store). get_or t.words (last - 1 + 3) 0) (sym is) ∙ there
+
 -- a mutator's buffer that has a last record
 module _ (s : Store) (g : GreySet) (none : contains (grey_in s g) 0 ≡ false) (once : Once (grey_in s g)) (m : ℕ) (within : m < length g.buffers) (last : ℕ) (is : slice_get (buffer_of g m) (length (buffer_of g m) - 1) ≡ Some last) where
   q : (rest : List ℕ) × (buffer_of g m ≡ rest ++ last ∷ [])

@@ -1,7 +1,6 @@
 -- Who may ask, and a mutator that joins or leaves.
 use Rattle.std.proofs.Common.{◌≡◌, ◌≢◌, ℕ, suc, ◌+◌, ◌<◌, ◌≤◌, Bool, true, false, if◌then◌else◌, List, [], ◌∷◌, ◌++◌, length, get_or, set, ap, ◌∙◌, sym, subst, refl, arith, Result, inl, length-set}
 use Rattle.std.proofs.lemmas.List.{get_or-set_other}
-use Rattle.arrayvec.specs.ArrayVec.{ArrayVec}
 use Rattle.graph_heap.specs.declared.command.Command.{Command}
 use Rattle.graph_heap.specs.declared.command.Limits.{Limits}
 use Rattle.graph_heap.specs.declared.command.Change.{Change}
@@ -16,7 +15,7 @@ use Rattle.heap_model.specs.Agreement.{Agrees}
 use Rattle.heap_model.specs.Event.{room_for}
 use Rattle.heap_model.specs.Change.{Records, DoesChange, Does_root, Does_join, Does_leave, Clears, Clears_none, Clears_next}
 use Rattle.heap_model.proofs.Change.Recording.{records_stay}
-use Rattle.nodes.specs.Grey.{GreySet, buffer_of, with_buffer}
+use Rattle.nodes.specs.Grey.{MutatorRecords, GreySet, buffer_of, with_buffer}
 use Rattle.nodes.specs.HeapFields.{state_of, IsHeap}
 use Rattle.nodes.specs.declared.heap_fields.HeapFields.{HeapFields}
 use Rattle.satb_barrier.specs.Recording.{with_room, shades, buffers_after}
@@ -88,8 +87,8 @@ pub own_then : (m : ℕ) (old mid new : GreySet) → AreOwn m old mid → AreOwn
 own_then m old mid new a b = (b.0 ∙ a.0, λ k ne. b.1 k ne ∙ a.1 k ne)
 
 pub own_after : (a : HeapFields) (m x : ℕ) (new : GreySet) → new.buffers ≡ buffers_after a m x → AreOwn m a.grey new
-own_after a m x new e = (ap length e ∙ count_after a m x, λ k ne. ap (λ (bs : List (ArrayVec ℕ)). (get_or bs k (record { items = [] })).items) e ∙ by_case k ne (shades a x))
+own_after a m x new e = (ap length e ∙ count_after a m x, λ k ne. ap (λ (bs : List MutatorRecords). (get_or bs k (record { items = [] })).items) e ∙ by_case k ne (shades a x))
   where
     by_case : (k : ℕ) → k ≢ m → (b : Bool) → (get_or (if b then (with_buffer a.grey m (with_room (buffer_of a.grey m) ++ (seen (state_of a)).forward x ∷ [])).buffers else a.grey.buffers) k (record { items = [] })).items ≡ buffer_of a.grey k
-    by_case k ne true = ap (λ (b : ArrayVec ℕ). b.items) (get_or-set_other a.grey.buffers m k (record { items = with_room (buffer_of a.grey m) ++ (seen (state_of a)).forward x ∷ [] }) (record { items = [] }) ne)
+    by_case k ne true = ap (λ (b : MutatorRecords). b.items) (get_or-set_other a.grey.buffers m k (record { items = with_room (buffer_of a.grey m) ++ (seen (state_of a)).forward x ∷ [] }) (record { items = [] }) ne)
     by_case k ne false = refl

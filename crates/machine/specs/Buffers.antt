@@ -1,15 +1,14 @@
 -- What a write leaves in the buffers of the mutators.
 use Rattle.std.specs.Prelude.{◌≡◌, ◌≢◌, ℕ, List, length, slice_index}
-use Rattle.arrayvec.specs.ArrayVec.{ArrayVec}
 use Rattle.heap_model.specs.Store.{record_of}
-use Rattle.nodes.specs.Grey.{GreySet, buffer_of}
+use Rattle.nodes.specs.Grey.{MutatorRecords, GreySet, buffer_of}
 use Rattle.nodes.specs.declared.heap_fields.HeapFields.{HeapFields}
 use Rattle.satb_barrier.specs.Recording.{buffers_after}
 use Rattle.machine.specs.declared.plan.Write.{Write}
 use Rattle.machine.specs.declared.plan.Write.TheVariants as writes
 
 -- the mutator's own has what a write of one root or cell overwrote
-abbrev pub buffers_by : HeapFields → ℕ → Write → List (ArrayVec ℕ)
+abbrev pub buffers_by : HeapFields → ℕ → Write → List MutatorRecords
 buffers_by a mutator (writes.Root cell x) = buffers_after a mutator (slice_index a.roots.cells cell)
 buffers_by a mutator (writes.Ref at x) = buffers_after a mutator
     (slice_index (record_of a.nodes at.block).cells at.index)

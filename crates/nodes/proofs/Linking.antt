@@ -4,10 +4,9 @@ use Rattle.std.specs.Prelude.{slice_get}
 use Rattle.std.proofs.lemmas.Bool.{cases_eq, eq-eqb}
 use Rattle.std.proofs.lemmas.List.{get_or-set_same, get_or-set_other, get_or_append_left, length-append}
 use Rattle.std.proofs.Math.Seq.{get_or-append_seam}
-use Rattle.arrayvec.specs.ArrayVec.{ArrayVec}
 use Rattle.heap_model.specs.Collector.{contains, Once}
 use Rattle.heap_model.specs.Store.{Store}
-use Rattle.nodes.specs.Grey.{GreySet, in_buffers, inserted, grey_in, buffer_of, with_buffer, AreLinked}
+use Rattle.nodes.specs.Grey.{MutatorRecords, GreySet, in_buffers, inserted, grey_in, buffer_of, with_buffer, AreLinked}
 use Rattle.nodes.proofs.Sorting.{contains-inserted, length-inserted, once-inserted}
 use Rattle.nodes.proofs.Threading.{in_buffer, record_grey, same_buffer, buffered, buffered_first, comes_first, link_written}
 
@@ -33,10 +32,10 @@ linked_apart s g x link linked none some fresh =
 
 -- the records of a mutator, and of another
 own_records : (g : GreySet) (m : ℕ) (items : List ℕ) → m < length g.buffers → buffer_of (with_buffer g m items) m ≡ items
-own_records g m items l = ap (λ (b : ArrayVec ℕ). b.items) (get_or-set_same g.buffers m (record { items = items }) (record { items = [] }) l)
+own_records g m items l = ap (λ (b : MutatorRecords). b.items) (get_or-set_same g.buffers m (record { items = items }) (record { items = [] }) l)
 
 other_records : (g : GreySet) (m k : ℕ) (items : List ℕ) → k ≢ m → buffer_of (with_buffer g m items) k ≡ buffer_of g k
-other_records g m k items ne = ap (λ (b : ArrayVec ℕ). b.items) (get_or-set_other g.buffers m k (record { items = items }) (record { items = [] }) ne)
+other_records g m k items ne = ap (λ (b : MutatorRecords). b.items) (get_or-set_other g.buffers m k (record { items = items }) (record { items = [] }) ne)
 
 -- where a buffer is emptied
 pub linked_emptied : (s : Store) (g : GreySet) (m first : ℕ) → m < length g.buffers → AreLinked s g → AreLinked s (record (with_buffer g m []) { first = first })

@@ -2,10 +2,9 @@
 use Rattle.std.proofs.Common.{◌≡◌, ◌≢◌, ℕ, zero, suc, ◌+◌, ◌-◌, ◌*◌, ◌<◌, ◌≤◌, Bool, true, false, ◌==◌, ◌||◌, if◌then◌else◌, List, [], ◌∷◌, ◌++◌, length, get_or, set, replicate, refl, ap, sym, ◌∙◌, subst, arith}
 use Rattle.std.proofs.lemmas.Bool.{ne_eqb, eq-eqb}
 use Rattle.std.proofs.lemmas.List.{get_or-set_other, append_assoc, append-nil, length-append}
-use Rattle.arrayvec.specs.ArrayVec.{ArrayVec}
 use Rattle.heap_model.specs.Collector.{contains}
 use Rattle.heap_model.specs.Store.{Store}
-use Rattle.nodes.specs.Grey.{GreySet, linked_from, in_buffers, inserted, sorted, grey_in, buffer_of, with_buffer}
+use Rattle.nodes.specs.Grey.{MutatorRecords, GreySet, linked_from, in_buffers, inserted, sorted, grey_in, buffer_of, with_buffer}
 use Rattle.nodes.proofs.Sorting.{sorted_middle, length-sorted, contains-sorted}
 
 -- what a list and another have
@@ -70,13 +69,13 @@ linked_more words (suc n) x l = by_null (x == 0) (λ m. linked_more words n (get
     by_null false rest l = ap (λ ys. x ∷ ys) (rest (omega (arith, l)))
 
 -- one buffer among the others
-record Between (bs : List (ArrayVec ℕ)) (m : ℕ) : Type 0 where
+record Between (bs : List MutatorRecords) (m : ℕ) : Type 0 where
   pub front : List ℕ
   pub back : List ℕ
   pub after : (items : List ℕ) → in_buffers (set bs m (record { items = items })) ≡ front ++ (items ++ back)
   pub now : in_buffers bs ≡ front ++ ((get_or bs m (record { items = [] })).items ++ back)
 
-between : (bs : List (ArrayVec ℕ)) (m : ℕ) → m < length bs → Between bs m
+between : (bs : List MutatorRecords) (m : ℕ) → m < length bs → Between bs m
 unfolding in_buffers
 between [] m l = absurd (omega (arith, l))
 between (b ∷ bs) zero l = record { front = []; back = in_buffers bs; after = λ items. refl; now = refl }
@@ -100,7 +99,7 @@ in_list (x ∷ xs) (suc i) l = either_true (x == get_or xs i 0) (contains xs (ge
     either_true true b e = refl
     either_true false b e = e
 
-pub in_buffer : (bs : List (ArrayVec ℕ)) (m i : ℕ) → i < length (get_or bs m (record { items = [] })).items → contains (in_buffers bs) (get_or (get_or bs m (record { items = [] })).items i 0) ≡ true
+pub in_buffer : (bs : List MutatorRecords) (m i : ℕ) → i < length (get_or bs m (record { items = [] })).items → contains (in_buffers bs) (get_or (get_or bs m (record { items = [] })).items i 0) ≡ true
 unfolding in_buffers
 in_buffer [] m i l = absurd (omega (arith, l))
 in_buffer (b ∷ bs) zero i l = let k = get_or b.items i 0 in contains-append b.items (in_buffers bs) k ∙ ap (λ c. c || contains (in_buffers bs) k) (in_list b.items i l)
@@ -118,7 +117,7 @@ no_records zero = refl
 no_records (suc n) = no_records n
 
 -- an emptied buffer, where none has a record
-pub still_empty : (bs : List (ArrayVec ℕ)) (m : ℕ) → m < length bs → in_buffers bs ≡ [] → in_buffers (set bs m (record { items = [] })) ≡ []
+pub still_empty : (bs : List MutatorRecords) (m : ℕ) → m < length bs → in_buffers bs ≡ [] → in_buffers (set bs m (record { items = [] })) ≡ []
 still_empty bs m l e =
     let q = between bs m l in
     let n : length (q.front ++ ((get_or bs m (record { items = [] })).items ++ q.back)) ≡ 0 = ap length (sym q.now ∙ e) in

@@ -3,6 +3,8 @@
 //! and what they represent.
 #![tactic(auto)]
 
+mod buffer;
+mod ghost_records;
 pub mod grey;
 pub mod heap_fields;
 pub mod nodes;

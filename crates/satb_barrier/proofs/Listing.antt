@@ -4,7 +4,6 @@ use Rattle.std.specs.Prelude.{slice_get}
 use Rattle.std.proofs.lemmas.Bool.{eq-eqb, cases_eq}
 use Rattle.std.proofs.lemmas.List.{get_or-set_same, get_or-set_other, set-get_or, length-append}
 use Rattle.std.proofs.Math.Seq.{get_or-append_seam}
-use Rattle.arrayvec.specs.ArrayVec.{ArrayVec}
 use Rattle.heap_model.specs.Action.{Relinks}
 use Rattle.heap_model.specs.Collector.{contains, Once}
 use Rattle.heap_model.specs.Grey.{AreGrey}
@@ -13,7 +12,7 @@ use Rattle.heap_model.specs.State.{same_colour}
 use Rattle.heap_model.specs.Store.{Store, is_allocated, record_of}
 use Rattle.heap_model.proofs.State.{allocated_pages}
 use Rattle.nodes.specs.declared.heap_fields.HeapFields.{HeapFields}
-use Rattle.nodes.specs.Grey.{GreySet, grey_in, in_buffers, inserted, buffer_of, with_buffer, AreLinked}
+use Rattle.nodes.specs.Grey.{MutatorRecords, GreySet, grey_in, in_buffers, inserted, buffer_of, with_buffer, AreLinked}
 use Rattle.nodes.specs.HeapFields.{state_of}
 use Rattle.nodes.proofs.Sorting.{inserted_between, contains-inserted}
 use Rattle.nodes.proofs.Threading.{taken, same_buffer, buffered, record_grey}
@@ -54,6 +53,10 @@ none_of (x ∷ xs) e = absurd (some_at (x ∷ xs) (length xs) (omega arith) (sub
 
 pub emptied_same : (g : GreySet) (m : ℕ) → buffer_of g m ≡ [] → record (with_buffer g m []) { first = g.first } ≡ g
 emptied_same g m e = ap (λ bs. record { first = g.first; buffers = bs }) (ap (λ xs. set g.buffers m (record { items = xs })) (sym e) ∙ set-get_or g.buffers m (record { items = [] }))
+
+-- the link of the last record, once it is written
+pub named : (s new : Store) (last link : ℕ) → new ≡ record s { words = set s.words (last - 1 + 3) link } → get_or new.words (last - 1 + 3) 0 ≡ link → get_or (set s.words (last - 1 + 3) link) (last - 1 + 3) 0 ≡ link
+named s new last link is there = ap (λ (t : Store). get_or t.words (last - 1 + 3) 0) (sym is) ∙ there
 
 -- a mutator's buffer that has a last record
 module _ (s : Store) (g : GreySet) (none : contains (grey_in s g) 0 ≡ false) (once : Once (grey_in s g)) (m : ℕ) (within : m < length g.buffers) (last : ℕ) (is : slice_get (buffer_of g m) (length (buffer_of g m) - 1) ≡ Some last) where
@@ -121,7 +124,7 @@ module _ (s : Store) (g : GreySet) (none : contains (grey_in s g) 0 ≡ false) (
 
 -- what a mutator's buffer holds after a write of it
 pub buffer_put : (g : GreySet) (m : ℕ) (items : List ℕ) → m < length g.buffers → buffer_of (with_buffer g m items) m ≡ items
-buffer_put g m items l = ap (λ (b : ArrayVec ℕ). b.items) (get_or-set_same g.buffers m (record { items = items }) (record { items = [] }) l)
+buffer_put g m items l = ap (λ (b : MutatorRecords). b.items) (get_or-set_same g.buffers m (record { items = items }) (record { items = [] }) l)
 
 pub buffer_twice : (g : GreySet) (m : ℕ) (xs ys : List ℕ) (first : ℕ) → with_buffer (record (with_buffer g m xs) { first = first }) m ys ≡ record (with_buffer g m ys) { first = first }
 buffer_twice g m xs ys first = ap (λ bs. record { first = first; buffers = bs }) (set_twice g.buffers m (record { items = xs }) (record { items = ys }))
@@ -149,7 +152,7 @@ are_grey_by a b w links same mark_parity = record {
     marked_by x false e allocated m = ap (λ c. same_colour c (record_of b.nodes (x - 1)).colour) mark_parity ∙ ap (λ (n : BlockRecord). same_colour a.mark_parity n.colour) (links.blocks.nodes (x - 1) allocated) ∙ m
 
 -- where each buffer is empty
-pub all_empty : (bs : List (ArrayVec ℕ)) → ((i : ℕ) → i < length bs → (get_or bs i (record { items = [] })).items ≡ []) → in_buffers bs ≡ []
+pub all_empty : (bs : List MutatorRecords) → ((i : ℕ) → i < length bs → (get_or bs i (record { items = [] })).items ≡ []) → in_buffers bs ≡ []
 unfolding in_buffers
 all_empty [] e = refl
 all_empty (b ∷ bs) e = ap (λ xs. xs ++ in_buffers bs) (e 0 (omega arith)) ∙ all_empty bs (λ i l. e (suc i) (omega (arith, l)))
@@ -158,7 +161,7 @@ all_empty (b ∷ bs) e = ap (λ xs. xs ++ in_buffers bs) (e 0 (omega arith)) ∙
 pub empty_more : (g : GreySet) (m : ℕ) → m < length g.buffers → ((i : ℕ) → i < m → buffer_of g i ≡ []) → (i : ℕ) → i < m + 1 → buffer_of (with_buffer g m []) i ≡ []
 empty_more g m l e i below = elim (cases_eq i m) [
   | inl q ↦ subst (λ k. buffer_of (with_buffer g m []) k ≡ []) (sym q) (buffer_put g m [] l)
-  | inr ne ↦ ap (λ (b : ArrayVec ℕ). b.items) (get_or-set_other g.buffers m i (record { items = [] }) (record { items = [] }) ne) ∙ e i (omega (arith, below, ne))
+  | inr ne ↦ ap (λ (b : MutatorRecords). b.items) (get_or-set_other g.buffers m i (record { items = [] }) (record { items = [] }) ne) ∙ e i (omega (arith, below, ne))
 ]
 
 -- a mutator's buffer with another record

@@ -17,6 +17,10 @@ use Rattle.nodes.proofs.Linking.{linked_kept, linked_apart}
 use Rattle.nodes.proofs.Sorting.{inserted_between, contains-inserted}
 use Rattle.satb_barrier.proofs.Listing.{are_grey_by}
 
+-- what is asked of a heap for a record
+abbrev pub IsReady : Store → GreySet → Type 0
+IsReady s g = (contains (grey_in s g) 0 ≡ false) × Once (grey_in s g) × ((x : ℕ) → contains (grey_in s g) x ≡ true → is_allocated s (x - 1) ≡ true) × AreLinked s g
+
 -- the heap a, the heap mid whose blocks were threaded anew, and the main copy's colour written in that
 module _ (a mid : HeapFields) (w : AreGrey (state_of a)) (links : Relinks a.nodes mid.nodes) (same : grey_in mid.nodes mid.grey ≡ grey_in a.nodes a.grey) (rest : mid ≡ record a { nodes = mid.nodes; grey = mid.grey }) (x : ℕ)
     (allocated : x ≢ 0 → is_allocated a.nodes (x - 1) ≡ true) (unmarked : (seen (state_of a)).marked x ≡ false) (new : Store) (written : Writes mid.nodes new (x - 1) (with_colour (record_of mid.nodes (x - 1)) mid.mark_parity)) (keeps : KeepsLinks mid.nodes new) where
@@ -72,19 +76,22 @@ module _ (a mid : HeapFields) (w : AreGrey (state_of a)) (links : Relinks a.node
       by_case false e c = allocated_new (y - 1) (w.allocated y c)
 
   -- the grey parts before it goes among them
-  pub none_null : contains (grey_in new mid.grey) 0 ≡ false
+  none_null : contains (grey_in new mid.grey) 0 ≡ false
   none_null = ap (λ xs. contains xs 0) kept ∙ w.some
 
-  pub each_once : Once (grey_in new mid.grey)
+  each_once : Once (grey_in new mid.grey)
   each_once = subst Once (sym kept) w.once
 
-  pub all_allocated : (y : ℕ) → contains (grey_in new mid.grey) y ≡ true → is_allocated new (y - 1) ≡ true
+  all_allocated : (y : ℕ) → contains (grey_in new mid.grey) y ≡ true → is_allocated new (y - 1) ≡ true
   all_allocated y c = allocated_new (y - 1) (w.allocated y (ap (λ xs. contains xs y) (sym kept) ∙ c))
 
-  pub still_linked : AreLinked mid.nodes mid.grey → AreLinked new mid.grey
+  still_linked : AreLinked mid.nodes mid.grey → AreLinked new mid.grey
   still_linked linked =
       linked_kept mid.nodes new mid.grey linked
       (λ y c. keeps.each (y - 1) ((are_grey_by a mid w links same mark_parity).allocated y c))
+
+  pub ready : AreLinked mid.nodes mid.grey → IsReady new mid.grey
+  ready linked = (none_null, each_once, all_allocated, still_linked linked)
 
   -- it goes into the list
   pub linked_in_list : AreLinked mid.nodes mid.grey → (s : Store) → s ≡ record new { words = set new.words (x - 1 + 3) mid.grey.first } → (g : GreySet) → g ≡ record mid.grey { first = g.first } → AreLinked s g

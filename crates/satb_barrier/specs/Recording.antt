@@ -1,9 +1,8 @@
 -- What a record leaves in the buffers.
 use Rattle.std.specs.Prelude.{◌==◌, ℕ, Bool, ◌&&◌, not, if◌then◌else◌, List, [], ◌∷◌, ◌++◌, length}
-use Rattle.arrayvec.specs.ArrayVec.{ArrayVec}
 use Rattle.heap_model.specs.State.{seen}
 use Rattle.heap_model.specs.Written.{records}
-use Rattle.nodes.specs.Grey.{buffer_of, with_buffer}
+use Rattle.nodes.specs.Grey.{MutatorRecords, buffer_of, with_buffer}
 use Rattle.nodes.specs.HeapFields.{state_of}
 use Rattle.nodes.specs.declared.heap_fields.HeapFields.{HeapFields}
 
@@ -16,7 +15,7 @@ abbrev pub shades : HeapFields → ℕ → Bool
 shades a reference = records a.phase && not ((seen (state_of a)).marked ((seen (state_of a)).forward reference))
 
 -- the buffers after what is overwritten was recorded: a main copy that is shaded is in the mutator's own
-abbrev pub buffers_after : HeapFields → ℕ → ℕ → List (ArrayVec ℕ)
+abbrev pub buffers_after : HeapFields → ℕ → ℕ → List MutatorRecords
 buffers_after a mutator reference =
     if shades a reference then (with_buffer a.grey mutator
     (with_room (buffer_of a.grey mutator) ++ (seen (state_of a)).forward reference ∷ [])).buffers

@@ -1,7 +1,7 @@
-use Rattle.std.proofs.Common.{◌≡◌, ◌+◌, ◌-◌, [], ℕ, get_or, set, ap, ◌∙◌, sym, subst, arith}
+use Rattle.std.proofs.Common.{◌≡◌, ◌-◌, [], ap, ◌∙◌, sym, subst, arith}
 use Rattle.heap_model.specs.Store.{Store}
 use Rattle.nodes.specs.Grey.{GreySet, grey_in, with_buffer, AreLinked}
-use Rattle.satb_barrier.proofs.Listing.{few, none_of, emptied_same, last_some, last_is_grey, hung_grey, hung_linked}
+use Rattle.satb_barrier.proofs.Listing.{few, named, none_of, emptied_same, last_some, last_is_grey, hung_grey, hung_linked}
 use Rattle.satb_barrier.proofs.list.flush.Goals.{After-clear}
 use Rattle.satb_barrier.proofs.list.flush.Goals as goal
 
@@ -19,10 +19,6 @@ pub set_link-requires : goal.set_link-requires
 set_link-requires c =
     let a = c.args.heap.now in
     c.requires.grey.allocated c.in-Some.last (last_is_grey a.nodes a.grey c.requires.grey.some c.requires.grey.once c.args.mutator c.requires.mutator c.in-Some.last (sym c.last_record.ensures ∙ c.in-Some.is))
-
--- the link of the last record names what was the list's first
-named : (s new : Store) (last link : ℕ) → new ≡ record s { words = set s.words (last - 1 + 3) link } → get_or new.words (last - 1 + 3) 0 ≡ link → get_or (set s.words (last - 1 + 3) link) (last - 1 + 3) 0 ≡ link
-named s new last link is there = ap (λ (t : Store). get_or t.words (last - 1 + 3) 0) (sym is) ∙ there
 
 -- what the grey set is then
 emptied : (c : After-clear) → c.clear.new.self ≡ record (with_buffer c.args.heap.now.grey c.args.mutator []) { first = c.first_record-first.result }

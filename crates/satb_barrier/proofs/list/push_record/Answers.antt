@@ -1,9 +1,9 @@
-use Rattle.std.proofs.Common.{◌≡◌, ◌+◌, ◌-◌, [], ◌∷◌, ◌++◌, ℕ, get_or, set, length, ap, ◌∙◌, sym, subst, arith}
+use Rattle.std.proofs.Common.{◌≡◌, ◌+◌, ◌-◌, [], ◌∷◌, ◌++◌, ℕ, length, ap, ◌∙◌, sym, subst, arith}
 use Rattle.heap_model.specs.Store.{Store}
 use Rattle.nodes.specs.declared.heap_fields.HeapFields.{HeapFields}
 use Rattle.nodes.specs.Grey.{GreySet, grey_in, buffer_of, with_buffer, AreLinked}
 use Rattle.nodes.proofs.Linking.{linked_more}
-use Rattle.satb_barrier.proofs.Listing.{none_of, own_record, last_some, last_is_grey, more_grey, more_linked}
+use Rattle.satb_barrier.proofs.Listing.{named, none_of, own_record, last_some, last_is_grey, more_grey, more_linked}
 use Rattle.satb_barrier.proofs.list.push_record.Goals.{in-Some, in_default}
 use Rattle.satb_barrier.proofs.list.push_record.Goals as goal
 
@@ -17,10 +17,6 @@ set_link-requires c =
     let a = c.args.heap.now in let is = sym c.last_record.ensures ∙ c.in-Some.is in
     c.requires.allocated c.in-Some.last
     (last_is_grey a.nodes a.grey c.requires.none c.requires.once c.args.mutator c.requires.mutator c.in-Some.last is)
-
--- the link of the last record names the new one
-named : (s new : Store) (last link : ℕ) → new ≡ record s { words = set s.words (last - 1 + 3) link } → get_or new.words (last - 1 + 3) 0 ≡ link → get_or (set s.words (last - 1 + 3) link) (last - 1 + 3) 0 ≡ link
-named s new last link is there = ap (λ (t : Store). get_or t.words (last - 1 + 3) 0) (sym is) ∙ there
 
 -- the same grey set is there, whether or not a link was written, and gets the record
 pushed : (a h : HeapFields) (m part : ℕ) (new : Store) (after : GreySet) → record a { nodes = new } ≡ h → after ≡ with_buffer h.grey m (buffer_of h.grey m ++ part ∷ []) → after ≡ with_buffer a.grey m (buffer_of a.grey m ++ part ∷ [])

@@ -4,7 +4,7 @@ use Rattle.nodes.proofs.grey.Grey.new.Goals as goal
 
 pub loop-preserved : goal.loop-preserved
 loop-preserved c =
-    c.in_ok-push.ensures.items ∙ ap (λ bs. bs ++ c.new.result ∷ []) c.loop.invariant ∙ ap (λ b. replicate c.loop.counter (record { items = [] }) ++ b ∷ []) (ap (λ xs. record { items = xs }) c.new.ensures)
+    c.in_ok-push.ensures.items ∙ ap (λ bs. bs ++ c.new.result ∷ []) c.loop.invariant ∙ ap (λ b. replicate c.loop.counter (record { items = [] }) ++ b ∷ []) c.new.ensures
     ∙ replicate-append-replicate c.loop.counter 1 (record { items = [] })
 
 pub returns : goal.returns

@@ -1,9 +1,8 @@
 use Rattle.std.proofs.Common.{ℕ, ◌<◌, ◌≤◌, ◌≡◌, [], length, ap, ◌∙◌, subst, sym, refl, rules, arith}
 use Rattle.std.proofs.lemmas.List.{length-replicate}
-use Rattle.arrayvec.specs.ArrayVec.{ArrayVec}
 use Rattle.graph_heap.specs.declared.command.Limits.{Limits}
 use Rattle.roots.specs.RootTable.{RootTable}
-use Rattle.nodes.specs.Grey.{GreySet}
+use Rattle.nodes.specs.Grey.{MutatorRecords, GreySet}
 use Rattle.nodes.proofs.Opening.{opening_heap, all_free, new_count}
 use Rattle.nodes.proofs.Threading.{no_grey}
 use Rattle.nodes.proofs.heap_fields.HeapFields.new.Goals as goal
@@ -18,4 +17,4 @@ returns-clause-heap c =
     let few : length c.in_ok-nodes.nodes.pages ≤ 1048576 = (let p = c.args.config.now.pages_in_range.1 in omega arith) in
     let row : length c.in_ok-roots.roots.cells ≤ 16640 = subst (λ (x : RootTable). length x.cells ≤ 16640) c.roots.view_is (subst (λ n. n ≤ 16640) (sym c.roots.invariant.whole) c.roots.invariant.few) in
     opening_heap _ (returns-clause-opening c) some few row c.args.config.now.defrag_pages_in_range
-    (ap (λ (g : GreySet). length g.buffers) c.in_ok-grey.ensures ∙ length-replicate {A = ArrayVec ℕ} c.args.config.now.mutators (record { items = [] }) ∙ sym (ap (λ (l : Limits). l.mutators) c.in_ok-roots.ensures.limits))
+    (ap (λ (g : GreySet). length g.buffers) c.in_ok-grey.ensures ∙ length-replicate {A = MutatorRecords} c.args.config.now.mutators (record { items = [] }) ∙ sym (ap (λ (l : Limits). l.mutators) c.in_ok-roots.ensures.limits))

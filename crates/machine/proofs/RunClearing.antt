@@ -91,7 +91,7 @@ module _ (h : HeapState) (w : IsHeap h) (m s root : ℕ) (ok : Bool) (admitted :
         ),
       )
 
-  pub clears_each : (n : ℕ) (k : HeapState) → Clears h root n k → s + n ≤ h.limits.slots → StepsEach h m (λ i. commands.Clear (s + i)) (λ i. replies.Done) n k
+  clears_each : (n : ℕ) (k : HeapState) → Clears h root n k → s + n ≤ h.limits.slots → StepsEach h m (λ i. commands.Clear (s + i)) (λ i. replies.Done) n k
   clears_each n k c l = (clears_from n k c l).1
 
 -- where the first slot can't be cleared
@@ -122,5 +122,12 @@ no_slot l live m first ok e admitted none =
     ∙ ap (λ (x : Result ℕ Refusal). x >>= λ r. Ok (l.slots - first)) none
 
 -- no more slots are cleared than there are
-pub row_within : (l : Limits) (m s root n : ℕ) → slot_at l m s ≡ Ok root → n ≤ l.slots - s → s + n ≤ l.slots
+row_within : (l : Limits) (m s root n : ℕ) → slot_at l m s ≡ Ok root → n ≤ l.slots - s → s + n ≤ l.slots
 row_within l m s root n place few = let p = slot_parts l m s root place in let small = p.1 in omega (arith, small, few)
+
+-- as many slots are cleared as were wanted, of the heap that is seen as the value t
+pub row_clears : (h t : HeapState) → h ≡ t → IsHeap h → (m s root : ℕ) (ok : Bool) → admitted_to h.limits h.live m false ≡ Ok ok → slot_at h.limits m s ≡ Ok root
+    → (n : ℕ) → n ≤ h.limits.slots - s → (k : HeapState) → Clears h root n k → StepsEach t m (λ i. commands.Clear (s + i)) (λ i. replies.Done) n k
+row_clears h t is w m s root ok admitted place n few k c =
+    subst (λ (x : HeapState). StepsEach x m (λ i. commands.Clear (s + i)) (λ i. replies.Done) n k) is
+    (clears_each h w m s root ok admitted place n k c (row_within h.limits m s root n place few))

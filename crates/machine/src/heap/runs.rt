@@ -8,7 +8,7 @@ ghost use Rattle.nodes.specs.HeapFields.{state_of, AreHeapFields};
 ghost use Rattle.machine.specs.Runs.{words_from, word_run, slot_run, at_most, counted, done_in, StepsEach, DoesRun, FitsRun, HasRun};
 
 use super::Heap;
-use super::writing::null_roots;
+use super::writing::{null_roots, null_unrecorded};
 use crate::plan::{Cell, Kind, Run};
 use graph_heap::{Command, Refusal, Reply, Shape};
 use nodes::{HeapFields, Nodes};
@@ -71,7 +71,11 @@ impl Heap {
         let cell = self.fields.roots.slot(mutator, first)?;
         let slots = self.fields.roots.limits().slots.saturating_sub(first);
         let count = count.min(slots);
-        null_roots(&mut self.fields, mutator, cell, count as usize);
+        if self.fields.phase.records() {
+            null_roots(&mut self.fields, mutator, cell, count as usize);
+        } else {
+            null_unrecorded(&mut self.fields, cell, count as usize);
+        }
         Ok(count)
     }
 

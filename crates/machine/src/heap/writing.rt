@@ -1,7 +1,8 @@
 //! The writes of the heap. Each does one change of the graph heap, after it has recorded what it
 //! overwrites.
-ghost use Rattle.std.specs.Prelude.{◌+◌, ◌<◌, ◌≤◌, length, slice_index};
+ghost use Rattle.std.specs.Prelude.{◌≡◌, ◌+◌, ◌<◌, ◌≤◌, false, length, slice_index};
 ghost use Rattle.heap_model.specs.Change.{Clears};
+ghost use Rattle.heap_model.specs.Written.{records};
 ghost use Rattle.nodes.specs.Grey.{AreLinked};
 ghost use Rattle.nodes.specs.HeapFields.{state_of, AreHeapFields};
 ghost use Rattle.machine.specs.Plan.{CanPerform, DoesEach};
@@ -88,6 +89,20 @@ pub fn null_roots(heap: &mut HeapFields, mutator: u32, first: usize, count: usiz
 {
     for i in 0..count {
         write_root(heap, mutator, first + i, 0);
+    }
+}
+
+/// This many roots, from one on, get null, in a phase that records nothing.
+#[inline(always)]
+pub fn null_unrecorded(heap: &mut HeapFields, first: usize, count: usize)
+    requires heap { AreHeapFields heap.old }
+    requires unrecorded { records heap.old.phase ≡ false }
+    requires within { first + count ≤ length heap.old.roots.cells }
+    ensures heap { AreHeapFields heap.new }
+    ensures clears { Clears (state_of heap.old) first count (state_of heap.new) }
+{
+    for i in 0..count {
+        heap.roots.set(first + i, 0);
     }
 }
 

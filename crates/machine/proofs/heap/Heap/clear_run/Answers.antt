@@ -5,8 +5,8 @@ use Rattle.graph_heap.specs.declared.command.Reply.TheVariants as replies
 use Rattle.graph_heap.specs.declared.command.Limits.{Limits}
 use Rattle.heap_model.specs.State.{HeapState}
 use Rattle.nodes.specs.HeapFields.{state_of}
-use Rattle.machine.specs.Runs.{DoesRun, StepsEach}
-use Rattle.machine.proofs.RunClearing.{clears_each, clears_refused, not_admitted, no_slot, row_within}
+use Rattle.machine.specs.Runs.{DoesRun}
+use Rattle.machine.proofs.RunClearing.{row_clears, clears_refused, not_admitted, no_slot}
 use Rattle.machine.proofs.heap.Heap.clear_run.Goals as goal
 
 pub returns-in_err-admit-clause-clears : goal.returns-in_err-admit-clause-clears
@@ -24,11 +24,12 @@ returns-in_err-cell-clause-clears c =
     (clears_refused h c.args.mutator c.args.first c.from_residual-in_err-cell.result _ _ p.1 p.2
     (no_slot h.limits h.live c.args.mutator c.args.first c.in_ok-admit.field-0 _ (sym c.in_ok-admit.ensures.admitted) (sym c.in_err-cell.ensures.place)))
 
-pub returns-clause-clears : goal.returns-clause-clears
-returns-clause-clears c =
-    let h = state_of c.self.inside.fields in
-    subst (λ (x : HeapState). StepsEach x c.args.mutator (λ i. commands.Clear (c.args.first + i)) (λ i. replies.Done) c.min-count.result (state_of c.null_roots.new.heap)) c.self.view_is
-    (clears_each h c.self.invariant.heap c.args.mutator c.args.first c.in_ok-cell.cell c.in_ok-admit.field-0 (sym c.in_ok-admit.ensures.admitted) (sym c.in_ok-cell.ensures.place)
-    c.min-count.result (state_of c.null_roots.new.heap) c.null_roots.ensures.clears
-    (row_within h.limits c.args.mutator c.args.first c.in_ok-cell.cell c.min-count.result (sym c.in_ok-cell.ensures.place)
-    (let least = c.min-count.ensures in let rest = c.saturating_sub-slots.ensures in let same = ap (λ (l : Limits). l.slots) c.limits.ensures.limits in omega (arith, least, rest, same))))
+pub returns-then-records-clause-clears : goal.returns-then-records-clause-clears
+returns-then-records-clause-clears c =
+    row_clears _ _ c.self.view_is c.self.invariant.heap c.args.mutator c.args.first c.in_ok-cell.cell c.in_ok-admit.field-0 (sym c.in_ok-admit.ensures.admitted) (sym c.in_ok-cell.ensures.place) c.min-count.result
+    (let least = c.min-count.ensures in let rest = c.saturating_sub-slots.ensures in let same = ap (λ (l : Limits). l.slots) c.limits.ensures.limits in omega (arith, least, rest, same)) _ c.null_roots.ensures.clears
+
+pub returns-else-records-clause-clears : goal.returns-else-records-clause-clears
+returns-else-records-clause-clears c =
+    row_clears _ _ c.self.view_is c.self.invariant.heap c.args.mutator c.args.first c.in_ok-cell.cell c.in_ok-admit.field-0 (sym c.in_ok-admit.ensures.admitted) (sym c.in_ok-cell.ensures.place) c.min-count.result
+    (let least = c.min-count.ensures in let rest = c.saturating_sub-slots.ensures in let same = ap (λ (l : Limits). l.slots) c.limits.ensures.limits in omega (arith, least, rest, same)) _ c.null_unrecorded.ensures.clears

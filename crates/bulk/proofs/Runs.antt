@@ -6,12 +6,15 @@ use Rattle.std.proofs.Math.ListN.{drop_of_length-le}
 use borrow.Rule.Slice.PartMut.{put_mid}
 use Rattle.std.proofs.lemmas.List.{map-append, get_or-drop, drop-drop, length-drop, length-take-le, take_rest}
 use Rattle.graph_heap.specs.declared.command.Command.{Command}
+use Rattle.graph_heap.specs.declared.command.Command.TheVariants as commands
 use Rattle.graph_heap.specs.declared.command.Reply.{Reply}
 use Rattle.graph_heap.specs.declared.command.Reply.TheVariants as replies
 use Rattle.heap_model.specs.State.{HeapState}
 use Rattle.machine.specs.Runs.{StepsEach}
 use Rattle.bulk.specs.InOrder.{DoesWith, DoesFront, words_told}
 use Rattle.bulk.specs.Lists.{upto, number_after}
+use Rattle.bulk.proofs.InOrder.{none_done}
+use Rattle.bulk.proofs.Lists.{clear_at}
 use Rattle.bulk.proofs.Rows.{goes_on, goes_on_with}
 
 -- the numbers of a run stay below the greatest
@@ -62,6 +65,17 @@ module _ (f : ℕ → Command) (h mid : HeapState) (m i : ℕ) (c : ℕ → Comm
       let sum : i + n + 1 ≡ i + suc n = omega arith in
       subst (λ k. DoesFront h m (map f (upto k)) (record { done = k; refused = None }) after) sum
       (goes_on f h next after m (i + n) (c n) replies.Done (is n (omega arith)) last (does_on n next (λ k l. is k (omega arith)) w s) refl)
+
+-- the slots that the first run cleared
+pub first_clears : (h after : HeapState) (m first n : ℕ) → first + n < 2 ^ 32 → StepsEach h m (λ k. commands.Clear (first + k)) (λ k. replies.Done) n after
+    → DoesFront h m (map (clear_at first) (upto n)) (record { done = n; refused = None }) after
+first_clears h after m first n few s =
+    let same : 0 + n ≡ n = omega arith in
+    subst (λ k. DoesFront h m (map (clear_at first) (upto k)) (record { done = k; refused = None }) after) same
+    (does_on (clear_at first) h h m 0 (λ k. commands.Clear (first + k)) n after (λ k b. ap (λ z. commands.Clear z) (number k b)) (none_done h m) s)
+  where
+    number : (k : ℕ) → k < n → first + k ≡ number_after first (0 + k)
+    number k b = omega (arith, few, b)
 
 -- a slice of which the words behind the first were given others
 module _ (old new : List ℕ) (i : ℕ) (l : i ≤ length old) where

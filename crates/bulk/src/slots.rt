@@ -1,4 +1,6 @@
 //! Slots of a mutator, cleared and moved.
+ghost use Rattle.std.specs.Prelude.{◌≤◌, None};
+ghost use Rattle.heap_model.specs.State.{HeapState};
 ghost use Rattle.bulk.specs.InOrder.{DoesFront};
 ghost use Rattle.bulk.specs.Lists.{clears, moves};
 
@@ -8,10 +10,42 @@ use machine::Heap;
 /// Null into each of `count` slots, from the first on. Done are the slots that were cleared. The first that the mutator
 /// doesn't have is refused as BadSlot, and so is the first of all where the mutator isn't live, as NotLive; a number above
 /// 32 bits counts as the greatest that these hold, which no slot has.
+#[inline(always)]
 pub fn clear_slots(heap: &mut Heap, mutator: u32, first: u32, count: u32) -> Progress
     ensures { DoesFront heap.old mutator (clears first count) result heap.new }
 {
-    let mut done = 0;
+    if count == 0 {
+        return Progress {
+            done: 0,
+            refused: None,
+        };
+    }
+    match heap.clear_run(mutator, first, count) {
+        Ok(done) => {
+            if done == count {
+                return Progress {
+                    done: count,
+                    refused: None,
+                };
+            }
+            clear_rest(heap, mutator, first, count, done)
+        }
+        Err(refusal) => Progress {
+            done: 0,
+            refused: Some(refusal),
+        },
+    }
+}
+
+/// The same of the slots behind the first ones, which a run cleared: it is out of the way of rows that one run clears.
+#[cold]
+#[inline(never)]
+fn clear_rest(heap: &mut Heap, mutator: u32, first: u32, count: u32, cleared: u32) -> Progress
+    requires { cleared ≤ count }
+    ensures { (h : HeapState) → DoesFront h mutator (clears first cleared) (record { done = cleared; refused = None }) heap.old
+        → DoesFront h mutator (clears first count) result heap.new }
+{
+    let mut done = cleared;
     while done < count {
         match heap.clear_run(mutator, first.saturating_add(done), count - done) {
             Ok(more) => done += more,

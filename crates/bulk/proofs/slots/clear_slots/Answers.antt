@@ -1,24 +1,32 @@
-use Rattle.std.proofs.Common.{◌∙◌, ◌+◌, ◌^◌, ◌<◌, ap, refl, arith}
+use Rattle.std.proofs.Common.{◌≡◌, ◌+◌, ap, refl, sym, subst, arith}
+use Rattle.std.specs.Prelude.{None}
 use Rattle.graph_heap.specs.declared.command.Command.TheVariants as commands
 use Rattle.graph_heap.specs.declared.command.Reply.TheVariants as replies
-use Rattle.bulk.specs.Lists.{number_after}
+use Rattle.bulk.specs.InOrder.{DoesFront}
+use Rattle.bulk.specs.Lists.{clears, number_after}
+use Rattle.bulk.proofs.InOrder.{none_done}
 use Rattle.bulk.proofs.Lists.{clear_at}
 use Rattle.bulk.proofs.Rows.{ends}
-use Rattle.bulk.proofs.Runs.{number_in, number_first, does_on}
+use Rattle.bulk.proofs.Runs.{first_clears}
 use Rattle.bulk.proofs.slots.clear_slots.Goals as goal
 
-pub loop-done-preserved : goal.loop-done-preserved
-loop-done-preserved c =
-    let i = c.loop-done.done in let n = c.in-Ok.more in
-    let fits = c.in-Ok.ensures.numbers in let sum = c.saturating_add.ensures in
-    let few : number_after c.args.first i + n < 2 ^ 32 = omega (arith, fits, sum) in (
-      omega (arith, fits),
-      does_on (clear_at c.args.first) c.args.heap.now c.loop-done.heap c.args.mutator i (λ k. commands.Clear (c.saturating_add.result + k)) n c.clear_run.new.self
-          (λ k b. ap (λ z. commands.Clear z) (ap (λ z. z + k) sum ∙ number_in c.args.first i n k few b)) c.loop-done.invariant.1 c.in-Ok.ensures.clears,
-    )
+pub returns-then-count-eq0 : goal.returns-then-count-eq0
+returns-then-count-eq0 c =
+    subst (λ n. DoesFront c.args.heap.now c.args.mutator (clears c.args.first n) (record { done = 0; refused = None }) c.args.heap.now) (sym c.if-count-eq0.true) (none_done c.args.heap.now c.args.mutator)
+
+pub returns-then-done-count : goal.returns-then-done-count
+returns-then-done-count c =
+    subst (λ n. DoesFront c.args.heap.now c.args.mutator (clears c.args.first n) (record { done = n; refused = None }) c.clear_run.new.self) c.if-done-count.true
+    (first_clears c.args.heap.now c.clear_run.new.self c.args.mutator c.args.first c.in-Ok.done c.in-Ok.ensures.numbers.2 c.in-Ok.ensures.clears)
+
+pub returns-else-done-count : goal.returns-else-done-count
+returns-else-done-count c =
+    c.clear_rest.ensures c.args.heap.now
+    (first_clears c.args.heap.now c.clear_run.new.self c.args.mutator c.args.first c.in-Ok.done c.in-Ok.ensures.numbers.2 c.in-Ok.ensures.clears)
 
 pub returns-in-Err : goal.returns-in-Err
 returns-in-Err c =
-    let i = c.loop-done.done in
-    ends (clear_at c.args.first) c.args.heap.now c.loop-done.heap c.clear_run.new.self c.args.mutator i (commands.Clear (c.saturating_add.result + 0)) (replies.Refused c.in-Err.refusal)
-    (ap (λ z. commands.Clear z) (ap (λ z. z + 0) c.saturating_add.ensures ∙ number_first c.args.first i)) c.in-Err.ensures.clears c.args.count c.in-Err.refusal (omega arith) c.loop-done.invariant.1 refl
+    let small = c.ranges.first in
+    let number : c.args.first + 0 ≡ number_after c.args.first 0 = omega (arith, small) in
+    ends (clear_at c.args.first) c.args.heap.now c.args.heap.now c.clear_run.new.self c.args.mutator 0 (commands.Clear (c.args.first + 0)) (replies.Refused c.in-Err.refusal)
+    (ap (λ z. commands.Clear z) number) c.in-Err.ensures.clears c.args.count c.in-Err.refusal (omega arith) (none_done c.args.heap.now c.args.mutator) refl

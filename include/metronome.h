@@ -28,8 +28,9 @@
  * MEMORY comes from malloc by metronome_create and goes back by metronome_destroy; no other call here asks for any. A page is cleared
  * when an object is first made on it, or by metronome_touch.
  *
- * A heap may keep a plan, by which its collector paces itself: metronome_keep.h, which this header includes. It includes also, unless
- * METRONOME_CALLS_ALONE is defined, metronome_over_calls.h, frames of slots and a pace, and metronome_blocks.h, a walk over objects.
+ * This header includes metronome_figures.h, what a heap tells of itself, and metronome_keep.h: a heap may keep a plan, by which its
+ * collector paces itself. It includes also, unless METRONOME_CALLS_ALONE is defined, metronome_over_calls.h, frames of slots and a
+ * pace, and metronome_blocks.h, a walk over objects.
  *
  * docs/EMBEDDING.md says what is proved of each function. Of what is `static inline` here nothing is: it is only tested.
  */
@@ -86,7 +87,7 @@ typedef struct metronome_settings {
  * 1, 5, 6, 7. Where it says "a mistake" the same call is refused again. */
 enum metronome_status {
     METRONOME_OK = 0,
-    METRONOME_BAD_SLOT = 1,         /* no such mutator, or no such slot: a mistake, or of frames that the row has none left */
+    METRONOME_BAD_SLOT = 1,         /* no such slot, or no such mutator: a mistake, and metronome_check_slot tells which */
     METRONOME_NULL_SLOT = 2,        /* the slot that names the object holds null: the end of a list, say; else a mistake */
     METRONOME_BAD_INDEX = 3,        /* the object has no cell of that number: a mistake, or the end of an array */
     METRONOME_WRONG_KIND = 4,       /* the object has no cells of that kind: a mistake */
@@ -111,7 +112,10 @@ enum metronome_status {
     METRONOME_OUTSIDE = 43,         /* the seat hasn't the turn: metronome_seat_enter first */
     METRONOME_NOT_YOURS = 44,       /* the mutator isn't one of the seat's: a mistake */
     METRONOME_NO_PLAN = 46,         /* no plan fits on so few pages, or the heap isn't one that can keep this one, or keeps none */
-    METRONOME_ABOVE_PLAN = 47       /* the object has more words than the plan's cycle_words: take more pages, or parts of it */
+    METRONOME_ABOVE_PLAN = 47,      /* the object has more words than the plan's cycle_words: take more pages, or parts of it */
+    METRONOME_NO_MUTATOR = 48,      /* no such mutator: a mistake. Of a command this is BAD_SLOT: metronome_check_slot tells it apart */
+    METRONOME_SLOTS_USED = 49,      /* of frames the row has no slot left, in C++ and Rust the mutator: give some back */
+    METRONOME_OTHER_MUTATOR = 50    /* of C++ and Rust: a root is another mutator's: a mistake */
 };
 
 /* What kind an answer is, and what its number tells. */
@@ -159,24 +163,6 @@ typedef struct metronome_spent {
     uint32_t units; /* units of work */
     uint32_t phase; /* a metronome_phase_number: the phase at the end */
 } metronome_spent;
-
-typedef struct metronome_counts {
-    uint64_t pages;
-    uint64_t free_pages;
-    uint64_t root_cells; /* slots of all mutators, and statics */
-    uint64_t roots_used; /* those that don't hold null */
-    uint64_t objects;    /* objects that lie in the heap: all that can be reached, and garbage that isn't freed yet */
-    uint64_t parts;      /* the parts that they are cut into */
-    uint64_t old_copies; /* blocks that were moved and aren't freed yet */
-} metronome_counts;
-
-/* A page: 2048 words in blocks of one size. Of a free page each number is 0. */
-typedef struct metronome_page_view {
-    uint32_t size;      /* the words of a block; the page has 2048 / size of them */
-    uint32_t held;      /* how many blocks hold parts of objects, or old copies of such */
-    uint32_t leaving;   /* 1 where its blocks are being moved away, and it gets no new one */
-    uint32_t receiving; /* 1 where a block was moved to it since the last sweep */
-} metronome_page_view;
 
 /* What a cycle takes at most. */
 typedef struct metronome_limit {
@@ -278,6 +264,10 @@ metronome_answer metronome_join(metronome *heap, uint32_t mutator) METRONOME_NON
 /* Null into each slot of a mutator, which is live no more. DONE; refused: BAD_SLOT, NOT_LIVE, NO_HEAP. */
 metronome_answer metronome_leave(metronome *heap, uint32_t mutator) METRONOME_NONNULL;
 
+/* Why a command that names a slot of a mutator is refused for these two: the status of metronome_clear on that slot, but where
+ * there is no such mutator it is NO_MUTATOR. Nothing is done. OK, NO_MUTATOR, NOT_LIVE, BAD_SLOT, NO_HEAP. */
+uint32_t metronome_check_slot(metronome *heap, uint32_t mutator, uint32_t slot) METRONOME_NONNULL;
+
 /* ---- Lists of commands. Each of these calls does commands of a mutator one after the other, as if they were called, and stops at
  * the first that is refused. Of cells at most 252 are named in a call: for more it is TOO_LARGE, and nothing is done ---- */
 
@@ -354,24 +344,6 @@ uint32_t metronome_quantum(metronome *heap, uint32_t budget, metronome_spent *sp
  * OK; BAD_SCHEDULE, or BAD_SETTING and the place of a setting, and *limit is left as it was. */
 uint32_t metronome_cycle_limit(const metronome_settings *settings, metronome_limit *limit) METRONOME_NONNULL;
 
-/* ---- Figures. They need no live mutator. Each is written through the last pointer; what that leads to is left as it was
- * where the handle holds no heap ---- */
-
-/* The phase, a metronome_phase_number. OK, NO_HEAP. */
-uint32_t metronome_phase(metronome *heap, uint32_t *phase) METRONOME_NONNULL;
-
-/* The units that were spent since the last cycle began. OK, NO_HEAP. */
-uint32_t metronome_units(metronome *heap, uint64_t *units) METRONOME_NONNULL;
-
-/* How many pages are free. OK, NO_HEAP. */
-uint32_t metronome_free_pages(metronome *heap, uint64_t *free_pages) METRONOME_NONNULL;
-
-/* All counts. It looks at each block of the heap, and so takes time by its size. OK, NO_HEAP. */
-uint32_t metronome_count(metronome *heap, metronome_counts *counts) METRONOME_NONNULL;
-
-/* A page, by its number from 0; one that there isn't is given as a free one. OK, NO_HEAP. */
-uint32_t metronome_page(metronome *heap, size_t number, metronome_page_view *page) METRONOME_NONNULL;
-
 /* ---- Texts ---- */
 
 /* Writes the text of a metronome_status in English, and 0 after it: as much of it as fits into `length` bytes; nothing where
@@ -391,6 +363,7 @@ uint32_t metronome_version(void);
 }
 #endif
 
+#include "metronome_figures.h"
 #include "metronome_keep.h"
 #ifndef METRONOME_CALLS_ALONE
 #include "metronome_over_calls.h"

@@ -7,7 +7,7 @@
  * without exceptions doesn't have it.
  *
  * A heap outlives its mutators, and a mutator its roots. A root is used with others of its own mutator: with one of another the
- * call is refused as BAD_SLOT. A heap takes one call at a time, as metronome.h says; the end of a root is such a call too.
+ * call is refused as OTHER_MUTATOR. A heap takes one call at a time, as metronome.h says; the end of a root is such a call too.
  */
 #ifndef METRONOME_HPP
 #define METRONOME_HPP
@@ -48,15 +48,16 @@ public:
     }
 
     std::uint32_t try_load(std::uint32_t i, Root &into) const noexcept {
-        if (!is_beside(into)) return METRONOME_BAD_SLOT;
+        if (const std::uint32_t why = beside(into)) return why;
         return detail::status_of(metronome_load(owner->handle(), owner->number, into.slot, slot, i));
     }
     std::uint32_t try_store(std::uint32_t i, const Root &from) noexcept {
-        if (!is_beside(from)) return METRONOME_BAD_SLOT;
+        if (const std::uint32_t why = beside(from)) return why;
         return detail::status_of(metronome_store(owner->handle(), owner->number, slot, i, from.slot));
     }
     std::uint32_t try_compare_store(std::uint32_t i, const Root &expect, const Root &replacement, bool &stored) noexcept {
-        if (!is_beside(expect) || !is_beside(replacement)) return METRONOME_BAD_SLOT;
+        if (const std::uint32_t why = beside(expect)) return why;
+        if (const std::uint32_t why = beside(replacement)) return why;
         const metronome_answer answer =
             metronome_compare_store(owner->handle(), owner->number, slot, i, expect.slot, replacement.slot);
         return detail::tell_kind(answer, METRONOME_STORED, stored);
@@ -90,7 +91,7 @@ public:
     }
     // What the other root holds, into this one.
     std::uint32_t try_assign(const Root &from) noexcept {
-        if (!is_beside(from)) return METRONOME_BAD_SLOT;
+        if (const std::uint32_t why = beside(from)) return why;
         return detail::status_of(metronome_copy(owner->handle(), owner->number, slot, from.slot));
     }
     // Null, into this one.
@@ -100,7 +101,7 @@ public:
     }
     // Whether both hold the same object, or null.
     std::uint32_t try_same(const Root &other, bool &same) const noexcept {
-        if (!is_beside(other)) return METRONOME_BAD_SLOT;
+        if (const std::uint32_t why = beside(other)) return why;
         std::uint64_t is = 0;
         const std::uint32_t status = detail::tell(metronome_same(owner->handle(), owner->number, slot, other.slot), is);
         if (status == METRONOME_OK) same = is != 0;
@@ -175,12 +176,22 @@ private:
 
     // Takes a free slot of a mutator, which holds null.
     static std::uint32_t take(detail::MutatorState &of, std::optional<Root> &root) noexcept {
-        if (of.left == 0) return METRONOME_BAD_SLOT;
+        if (of.left == 0) return METRONOME_SLOTS_USED;
         root.emplace(Root(of));
         return METRONOME_OK;
     }
 
-    bool is_beside(const Root &other) const noexcept { return owner != nullptr && owner == other.owner; }
+    // Why this root isn't used with the other one, or OK.
+    std::uint32_t beside(const Root &other) const noexcept {
+        if (owner == nullptr) return METRONOME_BAD_SLOT;
+        return other.held_by(owner);
+    }
+
+    // Why this isn't a root of a mutator, or OK.
+    std::uint32_t held_by(const detail::MutatorState *mutator) const noexcept {
+        if (owner == nullptr) return METRONOME_BAD_SLOT;
+        return owner == mutator ? METRONOME_OK : METRONOME_OTHER_MUTATOR;
+    }
 
     detail::MutatorState *owner;
     std::uint32_t slot;
@@ -189,7 +200,7 @@ private:
 // A mutator of a heap, live from now on until it goes out of scope, and then null is in each of its slots.
 class Mutator {
 public:
-    // ALREADY_LIVE where there is a `Mutator` of that number; BAD_SLOT, NO_HEAP, NO_MEMORY.
+    // ALREADY_LIVE where there is a `Mutator` of that number; NO_MUTATOR, NO_HEAP, NO_MEMORY.
     static std::uint32_t try_join(Heap &heap, std::uint32_t number, std::optional<Mutator> &mutator) noexcept {
         if (!heap.state) return METRONOME_NO_HEAP;
         detail::HeapState &its_heap = *heap.state;
@@ -197,6 +208,7 @@ public:
         std::unique_ptr<detail::MutatorState> made(new (std::nothrow) detail::MutatorState(its_heap, number));
         if (!made) return METRONOME_NO_MEMORY;
         const std::uint32_t status = detail::status_of(metronome_join(heap.handle(), number));
+        if (status == METRONOME_BAD_SLOT) return METRONOME_NO_MUTATOR;
         if (status != METRONOME_OK && status != METRONOME_ALREADY_LIVE) return status;
         its_heap.used.set(number);
         made->is_on = true;
@@ -204,31 +216,32 @@ public:
         return METRONOME_OK;
     }
 
-    // A root that holds null. BAD_SLOT where each slot of the mutator is a root already.
+    // A root that holds null. SLOTS_USED where each slot of the mutator is a root already.
     std::uint32_t try_null(std::optional<Root> &root) noexcept { return Root::take(*state, root); }
 
     std::uint32_t try_new_plain(std::uint32_t refs, std::uint32_t words, Root &into) noexcept {
-        if (!owns(into)) return METRONOME_BAD_SLOT;
+        if (const std::uint32_t why = holds(into)) return why;
         return detail::status_of(metronome_new_plain(state->handle(), state->number, into.slot, refs, words));
     }
     std::uint32_t try_new_refs(std::uint32_t refs, Root &into) noexcept {
-        if (!owns(into)) return METRONOME_BAD_SLOT;
+        if (const std::uint32_t why = holds(into)) return why;
         return detail::status_of(metronome_new_refs(state->handle(), state->number, into.slot, refs));
     }
     std::uint32_t try_new_words(std::uint32_t words, Root &into) noexcept {
-        if (!owns(into)) return METRONOME_BAD_SLOT;
+        if (const std::uint32_t why = holds(into)) return why;
         return detail::status_of(metronome_new_words(state->handle(), state->number, into.slot, words));
     }
     std::uint32_t try_load_static(std::uint32_t k, Root &into) noexcept {
-        if (!owns(into)) return METRONOME_BAD_SLOT;
+        if (const std::uint32_t why = holds(into)) return why;
         return detail::status_of(metronome_load_static(state->handle(), state->number, into.slot, k));
     }
     std::uint32_t try_store_static(std::uint32_t k, const Root &from) noexcept {
-        if (!owns(from)) return METRONOME_BAD_SLOT;
+        if (const std::uint32_t why = holds(from)) return why;
         return detail::status_of(metronome_store_static(state->handle(), state->number, k, from.slot));
     }
     std::uint32_t try_compare_static(std::uint32_t k, const Root &expect, const Root &replacement, bool &stored) noexcept {
-        if (!owns(expect) || !owns(replacement)) return METRONOME_BAD_SLOT;
+        if (const std::uint32_t why = holds(expect)) return why;
+        if (const std::uint32_t why = holds(replacement)) return why;
         return detail::tell_kind(metronome_compare_static(state->handle(), state->number, k, expect.slot, replacement.slot),
                                  METRONOME_STORED, stored);
     }
@@ -278,7 +291,8 @@ public:
 private:
     explicit Mutator(std::unique_ptr<detail::MutatorState> made) noexcept : state(std::move(made)) {}
 
-    bool owns(const Root &root) const noexcept { return root.owner == state.get(); }
+    // Why this isn't the root's mutator, or OK.
+    std::uint32_t holds(const Root &root) const noexcept { return root.held_by(state.get()); }
 
     std::unique_ptr<detail::MutatorState> state;
 };

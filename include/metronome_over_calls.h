@@ -27,20 +27,21 @@ METRONOME_NONNULL static inline metronome_frame metronome_open_frame(const metro
     return row->next;
 }
 
-/* Takes the next slot of the row, which holds null, and tells its number. OK; BAD_SLOT where no slot is left, and neither the
- * row nor *slot has changed then: close a frame first, or make the heap with more slots (256 at most). */
+/* Takes the next slot of the row, which holds null, and tells its number. OK; SLOTS_USED where no slot is left, and neither
+ * the row nor *slot has changed then: close a frame first, or make the heap with more slots (256 at most). */
 METRONOME_NONNULL static inline uint32_t metronome_take_slot(metronome_row *row, uint32_t *slot) {
-    if (row->next >= row->end) return METRONOME_BAD_SLOT;
+    if (row->next >= row->end) return METRONOME_SLOTS_USED;
     *slot = row->next++;
     return METRONOME_OK;
 }
 
 /* Closes a frame, and those that were opened after it: null into each of their slots, which are free again. What is to be
- * kept is copied into a slot of an outer frame before. Needs a live mutator. OK; NOT_LIVE, NO_HEAP, or BAD_SLOT where the row
- * isn't one of the heap's, and all slots stay taken then. */
+ * kept is copied into a slot of an outer frame before. Needs a live mutator. OK; NOT_LIVE, NO_HEAP, or where the row isn't one
+ * of the heap's NO_MUTATOR or BAD_SLOT, and all slots stay taken then. */
 METRONOME_NONNULL static inline uint32_t metronome_close_frame(metronome *heap, metronome_row *row, metronome_frame frame) {
     if (row->next <= frame) return METRONOME_OK;
     metronome_progress progress = metronome_clear_slots(heap, row->mutator, frame, row->next - frame);
+    if (progress.status == METRONOME_BAD_SLOT) return metronome_check_slot(heap, row->mutator, frame + progress.done);
     if (progress.status == METRONOME_OK) row->next = frame;
     return progress.status;
 }

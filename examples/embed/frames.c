@@ -47,7 +47,7 @@ static void check_frames(void) {
     CHECK(second == 3 && third == 4 && is_null(third) && make(second, 3) && make(third, 4));
     IS(METRONOME_OK, metronome_take_slot(&row, &none));
     none = 7;
-    IS(METRONOME_BAD_SLOT, metronome_take_slot(&row, &none));
+    IS(METRONOME_SLOTS_USED, metronome_take_slot(&row, &none));
     CHECK(none == 7 && row.next == 6);
     IS(METRONOME_OK, metronome_close_frame(&heap, &row, inner));
     CHECK(is_null(second) && is_null(third) && metronome_get(&heap, 0, first, 0).number == 2);
@@ -62,7 +62,7 @@ static void check_frames(void) {
 static void check_refused_frames(void) {
     metronome closed = METRONOME_CLOSED;
     metronome_row rows[] = { METRONOME_ROW(1, 0, 2), METRONOME_ROW(2, 0, 2), METRONOME_ROW(0, SLOTS, SLOTS + 1) };
-    static const uint32_t statuses[] = { METRONOME_NOT_LIVE, METRONOME_BAD_SLOT, METRONOME_BAD_SLOT };
+    static const uint32_t statuses[] = { METRONOME_NOT_LIVE, METRONOME_NO_MUTATOR, METRONOME_BAD_SLOT };
     for (int i = 0; i < 3; i++) {
         uint32_t slot, before = metronome_open_frame(&rows[i]);
         IS(METRONOME_OK, metronome_take_slot(&rows[i], &slot));

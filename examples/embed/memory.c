@@ -82,6 +82,12 @@ static void check_texts(void) {
         { METRONOME_OUTSIDE, "the seat hasn't the turn" },
         { METRONOME_NOT_YOURS, "the mutator isn't the seat's" },
         { METRONOME_NOT_YOURS + 1, "no such status" },
+        { METRONOME_NO_PLAN, "no plan fits" },
+        { METRONOME_ABOVE_PLAN, "the object is above the plan" },
+        { METRONOME_NO_MUTATOR, "no such mutator" },
+        { METRONOME_SLOTS_USED, "all slots are used" },
+        { METRONOME_OTHER_MUTATOR, "the root is another mutator's" },
+        { METRONOME_OTHER_MUTATOR + 1, "no such status" },
     };
     for (size_t i = 0; i < sizeof texts / sizeof *texts; i++) {
         char text[64];

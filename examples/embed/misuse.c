@@ -52,7 +52,7 @@ static int refused_commands(metronome *h, uint32_t status, struct told *told) {
     return refused;
 }
 
-/* How many of the other calls tell a status: they are 12. */
+/* How many of the other calls tell a status: they are 13. */
 static int refused_calls(metronome *h, uint32_t status, struct told *told) {
     metronome_pacing pacing = METRONOME_PACING(1, 1, 256);
     metronome_row row = METRONOME_ROW(0, 1, 2);
@@ -61,7 +61,7 @@ static int refused_calls(metronome *h, uint32_t status, struct told *told) {
         + (metronome_phase(h, &told->phase) == status) + (metronome_units(h, &told->number) == status)
         + (metronome_free_pages(h, &told->number) == status) + (metronome_count(h, &told->counts) == status)
         + (metronome_page(h, 0, &told->page) == status) + (metronome_block(h, 0, 0, &told->block) == status)
-        + (metronome_keep(h, &flow) == status) + (metronome_kept(h, &told->work) == status)
+        + (metronome_check_slot(h, 0, 0) == status) + (metronome_keep(h, &flow) == status) + (metronome_kept(h, &told->work) == status)
         + (metronome_pace(h, &pacing, 1) == status && metronome_whole_cycle(h, 256) == status
            && metronome_close_frame(h, &row, 0) == status);
 }
@@ -74,7 +74,7 @@ static void nothing_is_done(metronome *h, uint32_t status) {
     memset(&told, 7, sizeof told);
     memset(&stood, 7, sizeof stood);
     check(refused_commands(h, status, &told) == 18, __LINE__);
-    check(refused_calls(h, status, &told) == 12, __LINE__);
+    check(refused_calls(h, status, &told) == 13, __LINE__);
     check(memcmp(&told, &stood, sizeof told) == 0, __LINE__);
     metronome_destroy(h);
     check(memcmp(&before, h, sizeof before) == 0, __LINE__);

@@ -65,8 +65,8 @@ static void check_mutators() {
     std::optional<Mutator> first, second;
     IS(METRONOME_OK, Mutator::try_join(heap, 1, first));
     IS(METRONOME_ALREADY_LIVE, Mutator::try_join(heap, 1, second));
-    IS(METRONOME_BAD_SLOT, Mutator::try_join(heap, 2, second));
-    IS(METRONOME_BAD_SLOT, Mutator::try_join(heap, 64, second));
+    IS(METRONOME_NO_MUTATOR, Mutator::try_join(heap, 2, second));
+    IS(METRONOME_NO_MUTATOR, Mutator::try_join(heap, 64, second));
     CHECK(!second);
     Heap moved = std::move(heap);
     std::optional<Root> root;
@@ -87,7 +87,7 @@ static void check_slots(Heap &heap, Mutator &mutator) {
         IS(METRONOME_OK, mutator.try_null(roots[i]));
         IS(METRONOME_OK, mutator.try_new_words(2, *roots[i]));
     }
-    IS(METRONOME_BAD_SLOT, mutator.try_null(roots[3]));
+    IS(METRONOME_SLOTS_USED, mutator.try_null(roots[3]));
     CHECK(!roots[3] && roots_used(heap) == 3);
     roots[1].reset();
     IS(METRONOME_OK, mutator.try_null(roots[3]));
@@ -150,10 +150,10 @@ static void check_strangers(Heap &heap, Mutator &mutator) {
     IS(METRONOME_OK, mutator.try_null(own));
     IS(METRONOME_OK, other->try_null(strange));
     bool is = false;
-    IS(METRONOME_BAD_SLOT, own->try_assign(*strange));
-    IS(METRONOME_BAD_SLOT, own->try_store(0, *strange));
-    IS(METRONOME_BAD_SLOT, own->try_same(*strange, is));
-    IS(METRONOME_BAD_SLOT, mutator.try_new_refs(1, *strange));
+    IS(METRONOME_OTHER_MUTATOR, own->try_assign(*strange));
+    IS(METRONOME_OTHER_MUTATOR, own->try_store(0, *strange));
+    IS(METRONOME_OTHER_MUTATOR, own->try_same(*strange, is));
+    IS(METRONOME_OTHER_MUTATOR, mutator.try_new_refs(1, *strange));
     strange.reset();
 }
 
@@ -174,7 +174,7 @@ static void check_throwing() {
     settings.slots = 8;
     Heap heap(settings);
     Mutator mutator(heap, 0);
-    throws(METRONOME_BAD_SLOT, "no such mutator or slot", __LINE__, [&] { Mutator third(heap, 2); });
+    throws(METRONOME_NO_MUTATOR, "no such mutator", __LINE__, [&] { Mutator third(heap, 2); });
     throws(METRONOME_NO_SPACE, "no space", __LINE__, [&] { mutator.new_refs(100000); });
     throws(METRONOME_BAD_BUDGET, "the budget is out of range", __LINE__, [&] { heap.quantum(255); });
     throws(METRONOME_NULL_SLOT, "the slot holds null", __LINE__, [&] { mutator.null().get(0); });

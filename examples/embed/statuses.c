@@ -106,6 +106,20 @@ static void check_slots(void) {
     check(shape.kind == 7 && shape.refs == 7 && shape.words == 7, __LINE__);
 }
 
+/* What BAD_SLOT means: no such mutator, whatever the slot, or no such slot of one that is live. Nothing is done. */
+static void check_places(void) {
+    IS(METRONOME_NO_MUTATOR, metronome_check_slot(&heap, 2, 0));
+    IS(METRONOME_NO_MUTATOR, metronome_check_slot(&heap, UINT32_MAX, UINT32_MAX));
+    IS(METRONOME_NOT_LIVE, metronome_check_slot(&heap, 1, 0));
+    IS(METRONOME_NOT_LIVE, metronome_check_slot(&heap, 1, 4));
+    IS(METRONOME_BAD_SLOT, metronome_check_slot(&heap, 0, 4));
+    IS(METRONOME_BAD_SLOT, metronome_check_slot(&heap, 0, UINT32_MAX));
+    IS(METRONOME_OK, metronome_check_slot(&heap, 0, 0));
+    IS(METRONOME_OK, metronome_check_slot(&heap, 0, 3));
+    check(metronome_get(&heap, 0, 0, 0).kind == METRONOME_WORD, __LINE__);
+    REFUSED(METRONOME_NOT_LIVE, metronome_leave(&heap, 1));
+}
+
 static void check_collector(void) {
     metronome_spent spent = { 7, 7 };
     IS(METRONOME_BAD_BUDGET, metronome_quantum(&heap, 255, &spent));
@@ -148,6 +162,7 @@ int main(void) {
     check_new();
     check_cells();
     check_slots();
+    check_places();
     check_collector();
     metronome_destroy(&heap);
     settings.identities = 3;

@@ -79,6 +79,7 @@ static void ask(void) {
     ASK(touch, &heap, (size_t)pages_of_heap);
     ASK(page, &heap, 0, &view);
     ASK(page, &heap, (size_t)pages_of_heap - 1, &view);
+    ASK(check_slot, &heap, mutator, NEW);
     ASK(block, &heap, 0, 0, &block);
     ASK(block, &heap, (size_t)pages_of_heap - 1, 511, &block);
 }

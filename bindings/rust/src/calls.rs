@@ -1,4 +1,4 @@
-//! The calls of metronome.h, metronome_keep.h and metronome_shared.h, and their types.
+//! The calls of metronome.h, of the headers that it includes and of metronome_shared.h, and their types.
 use std::ffi::c_void;
 use std::os::raw::c_char;
 
@@ -277,6 +277,8 @@ extern "C" {
     pub(crate) fn metronome_describe(heap: *mut Handle, mutator: u32, a: u32, shape: *mut ShapeTold) -> Answer;
     pub(crate) fn metronome_join(heap: *mut Handle, mutator: u32) -> Answer;
     pub(crate) fn metronome_leave(heap: *mut Handle, mutator: u32) -> Answer;
+    #[allow(dead_code)] // a root has a slot of a mutator that is there
+    pub(crate) fn metronome_check_slot(heap: *mut Handle, mutator: u32, slot: u32) -> u32;
     #[allow(dead_code)] // a root clears its own slot
     pub(crate) fn metronome_clear_slots(heap: *mut Handle, mutator: u32, first: u32, count: u32) -> ProgressTold;
     pub(crate) fn metronome_move(heap: *mut Handle, mutator: u32, dst: u32, src: u32) -> ProgressTold;

@@ -124,9 +124,9 @@ impl Heap {
     }
 
     /// Mutator `number`, which is live until it goes out of scope. Refused: `AlreadyLive` where there is one of that number,
-    /// `BadSlot`.
+    /// `NoMutator`.
     pub fn mutator(&self, number: u32) -> Result<Mutator<'_>> {
-        let bit = 1u64.checked_shl(number).ok_or(Refusal::BadSlot)?;
+        let bit = 1u64.checked_shl(number).ok_or(Refusal::NoMutator)?;
         if self.used.get() & bit != 0 {
             return Err(Refusal::AlreadyLive);
         }

@@ -22,6 +22,8 @@ impl<'h> Mutator<'h> {
         heap.note(number, format_args!("join"), &answer, &ShapeTold::default());
         match answer.number() {
             Ok(_) | Err(Refusal::AlreadyLive) => {}
+            // The command names no slot.
+            Err(Refusal::BadSlot) => return Err(Refusal::NoMutator),
             Err(refusal) => return Err(refusal),
         }
         Ok(Mutator { heap, number, free: RefCell::new((0..slots).rev().collect()) })
@@ -60,13 +62,13 @@ impl<'h> Mutator<'h> {
         self.free.borrow_mut().push(slot);
     }
 
-    /// A root that holds null. Refused: `BadSlot` where each slot is a root already.
+    /// A root that holds null. Refused: `SlotsUsed`.
     pub fn null(&self) -> Result<Root<'_>> {
-        let slot = self.free.borrow_mut().pop().ok_or(Refusal::BadSlot)?;
+        let slot = self.free.borrow_mut().pop().ok_or(Refusal::SlotsUsed)?;
         Ok(Root::new(self, slot))
     }
 
-    /// A new object of `refs` reference cells, all null, and `words` word cells, all 0: at most 252 cells. Refused: `BadSlot`,
+    /// A new object of `refs` reference cells, all null, and `words` word cells, all 0: at most 252 cells. Refused: `SlotsUsed`,
     /// `TooLarge`, `IdentitiesSpent`, `NoSpace`.
     pub fn new_plain(&self, refs: u32, words: u32) -> Result<Root<'_>> {
         let root = self.null()?;
@@ -122,7 +124,7 @@ impl<'h> Mutator<'h> {
         Ok(root)
     }
 
-    /// What static `k` holds. Refused: `BadSlot`, `BadStatic`.
+    /// What static `k` holds. Refused: `SlotsUsed`, `BadStatic`.
     pub fn load_static(&self, k: u32) -> Result<Root<'_>> {
         let root = self.null()?;
         let dst = root.slot_of(self)?;
@@ -132,7 +134,7 @@ impl<'h> Mutator<'h> {
         Ok(root)
     }
 
-    /// What a root holds, into static `k`. Refused: `BadSlot`, `BadStatic`.
+    /// What a root holds, into static `k`. Refused: `OtherMutator`, `BadStatic`.
     pub fn store_static(&self, k: u32, from: &Root<'_>) -> Result<()> {
         let src = from.slot_of(self)?;
         // SAFETY: the heap is open, and lives through the call.
@@ -140,7 +142,7 @@ impl<'h> Mutator<'h> {
         self.command(format_args!("storestatic {k} {src}"), call).number().map(drop)
     }
 
-    /// What `replacement` holds, into static `k`, if that holds what `expect` does. Refused: `BadSlot`, `BadStatic`.
+    /// What `replacement` holds, into static `k`, if that holds what `expect` does. Refused: `OtherMutator`, `BadStatic`.
     pub fn compare_static(&self, k: u32, expect: &Root<'_>, replacement: &Root<'_>) -> Result<Compared> {
         let (expect, new) = (expect.slot_of(self)?, replacement.slot_of(self)?);
         // SAFETY: the heap is open, and lives through the call.

@@ -11,7 +11,7 @@ pub type Result<T> = std::result::Result<T, Refusal>;
 #[derive(Clone, Copy, Debug, PartialEq, Eq, Hash)]
 #[non_exhaustive]
 pub enum Refusal {
-    /// No such mutator, or no slot of it is left for a further root, or two roots are of different mutators.
+    /// No such slot, of a call that names it by its number: of a [`crate::Turn`].
     BadSlot,
     /// The root that names the object holds null.
     NullSlot,
@@ -49,6 +49,12 @@ pub enum Refusal {
     NoPlan,
     /// The object has more words than the plan has for a whole cycle.
     AbovePlan,
+    /// No such mutator.
+    NoMutator,
+    /// Each slot of the mutator is a root already: drop one, or make the heap with more slots (256 at most).
+    SlotsUsed,
+    /// The root is one of another mutator.
+    OtherMutator,
     /// The seat isn't at this heap: the crate finds it, and metronome.h has no number for it.
     OtherHeap,
     /// A status of the library for which this crate has no other name.
@@ -56,7 +62,7 @@ pub enum Refusal {
 }
 
 /// The numbers that metronome.h has for them.
-const NUMBERED: [(u32, Refusal); 18] = [
+const NUMBERED: [(u32, Refusal); 21] = [
     (1, Refusal::BadSlot),
     (2, Refusal::NullSlot),
     (3, Refusal::BadIndex),
@@ -75,6 +81,9 @@ const NUMBERED: [(u32, Refusal); 18] = [
     (44, Refusal::NotYours),
     (46, Refusal::NoPlan),
     (47, Refusal::AbovePlan),
+    (48, Refusal::NoMutator),
+    (49, Refusal::SlotsUsed),
+    (50, Refusal::OtherMutator),
 ];
 
 const FIRST_SETTING: u32 = 20;

@@ -8,7 +8,7 @@ use crate::refusal::{Refusal, Result};
 
 /// A slot of a mutator, which is this root's alone until it is dropped. It holds null or an object, which is kept.
 ///
-/// A root is used with others of its own mutator: with one of another the call is refused as `BadSlot`.
+/// A root is used with others of its own mutator: with one of another the call is refused as `OtherMutator`.
 pub struct Root<'m> {
     mutator: &'m Mutator<'m>,
     slot: u32,
@@ -77,11 +77,11 @@ impl<'m> Root<'m> {
         if ptr::eq(self.mutator, mutator) {
             Ok(self.slot)
         } else {
-            Err(Refusal::BadSlot)
+            Err(Refusal::OtherMutator)
         }
     }
 
-    /// What reference cell `i` of this root's object holds. Refused: `BadSlot`, `NullSlot`, `WrongKind`, `BadIndex`.
+    /// What reference cell `i` of this root's object holds. Refused: `SlotsUsed`, `NullSlot`, `WrongKind`, `BadIndex`.
     pub fn load(&self, i: u32) -> Result<Root<'m>> {
         let root = self.mutator.null()?;
         self.load_into(i, &root)?;
@@ -178,7 +178,7 @@ impl<'m> Root<'m> {
         self.mutator.list(call).all().map(drop)
     }
 
-    /// What another root holds, into this one, and null into that one. Refused: `BadSlot`.
+    /// What another root holds, into this one, and null into that one. Refused: `OtherMutator`.
     pub fn take(&self, from: &Root<'_>) -> Result<()> {
         if self.mutator.is_recorded() {
             self.assign(from)?;
@@ -192,7 +192,7 @@ impl<'m> Root<'m> {
         self.mutator.list(|heap, m| unsafe { calls::metronome_move(heap, m, dst, src) }).all().map(drop)
     }
 
-    /// What another root holds, into this one. Refused: `BadSlot`.
+    /// What another root holds, into this one. Refused: `OtherMutator`.
     pub fn assign(&self, from: &Root<'_>) -> Result<()> {
         let (dst, src) = (self.slot, from.slot_of(self.mutator)?);
         // SAFETY: the heap is open, and lives through the call.
@@ -200,7 +200,7 @@ impl<'m> Root<'m> {
         self.mutator.command(format_args!("copy {dst} {src}"), call).number().map(drop)
     }
 
-    /// A further root of the same object. Refused: `BadSlot` where no slot is left.
+    /// A further root of the same object. Refused: `SlotsUsed`.
     pub fn another(&self) -> Result<Root<'m>> {
         let root = self.mutator.null()?;
         root.assign(self)?;
@@ -214,7 +214,7 @@ impl<'m> Root<'m> {
         self.mutator.command(format_args!("clear {dst}"), |heap, m| unsafe { calls::metronome_clear(heap, m, dst) });
     }
 
-    /// Whether both hold the same object, or null. Refused: `BadSlot`.
+    /// Whether both hold the same object, or null. Refused: `OtherMutator`.
     pub fn is_same(&self, other: &Root<'_>) -> Result<bool> {
         let (a, b) = (self.slot, other.slot_of(self.mutator)?);
         // SAFETY: the heap is open, and lives through the call.

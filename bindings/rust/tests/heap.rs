@@ -13,7 +13,7 @@ fn roots_give_their_slots_back_in_any_order() -> Result<()> {
     let heap = Heap::new(&SMALL)?;
     let mutator = heap.mutator(0)?;
     let (first, second, third) = (mutator.new_words(1)?, mutator.new_words(1)?, mutator.new_words(1)?);
-    assert_eq!(mutator.null().err(), Some(Refusal::BadSlot));
+    assert_eq!(mutator.null().err(), Some(Refusal::SlotsUsed));
     assert_eq!(heap.count().roots_used, 3);
     drop(second);
     assert_eq!(heap.count().roots_used, 2);
@@ -33,8 +33,8 @@ fn a_number_has_one_mutator_at_a_time() -> Result<()> {
     let heap = Heap::new(&Settings { live: 0, ..SMALL })?;
     let first = heap.mutator(0)?;
     assert_eq!(heap.mutator(0).err(), Some(Refusal::AlreadyLive));
-    assert_eq!(heap.mutator(2).err(), Some(Refusal::BadSlot));
-    assert_eq!(heap.mutator(64).err(), Some(Refusal::BadSlot));
+    assert_eq!(heap.mutator(2).err(), Some(Refusal::NoMutator));
+    assert_eq!(heap.mutator(64).err(), Some(Refusal::NoMutator));
     let second = heap.mutator(1)?;
     drop(first);
     let again = heap.mutator(0)?;
@@ -57,7 +57,7 @@ fn roots_of_two_mutators_do_not_mix() -> Result<()> {
         here.compare_static(0, &strange, &own).err(),
         here.new_plain_into(0, 0, &strange).err(),
     ];
-    assert!(refusals.iter().all(|it| *it == Some(Refusal::BadSlot)), "{refusals:?}");
+    assert!(refusals.iter().all(|it| *it == Some(Refusal::OtherMutator)), "{refusals:?}");
     Ok(())
 }
 

@@ -14,6 +14,7 @@ pub mod Kept
 pub mod Paying
 pub mod Outcomes
 pub mod Calling
+pub mod Checks
 pub mod KeptCalling
 pub mod Fitting
 pub mod Limits

@@ -2,6 +2,7 @@ pub mod Answer
 pub mod Asking
 pub mod BulkCalls
 pub mod Calls
+pub mod Checking
 pub mod Collecting
 pub mod Figures
 pub mod Held

@@ -42,6 +42,9 @@ status_number statuses.Outside = 43
 status_number statuses.NotYours = 44
 status_number statuses.NoPlan = 46
 status_number statuses.AbovePlan = 47
+status_number statuses.NoMutator = 48
+status_number statuses.SlotsUsed = 49
+status_number statuses.OtherMutator = 50
 
 -- all statuses, in the order of their numbers: one for each setting, in the order of `Key::ALL`
 abbrev pub all_statuses : List Status
@@ -104,6 +107,9 @@ status_text statuses.Outside = codes "the seat hasn't the turn"
 status_text statuses.NotYours = codes "the mutator isn't the seat's"
 status_text statuses.NoPlan = codes "no plan fits"
 status_text statuses.AbovePlan = codes "the object is above the plan"
+status_text statuses.NoMutator = codes "no such mutator"
+status_text statuses.SlotsUsed = codes "all slots are used"
+status_text statuses.OtherMutator = codes "the root is another mutator's"
 
 -- the text of a number, which may be that of no status
 abbrev pub text_or_none : Option Status → List ℕ

@@ -21,7 +21,7 @@ ghost use Rattle.metronome_c.specs.declared.held.Held.{Held};
 ghost use Rattle.metronome_c.specs.declared.planning.MetronomeFlow.{MetronomeFlow};
 ghost use Rattle.metronome_c.specs.declared.metronome.TheConstants.{CHECK_WORD};
 ghost use Rattle.metronome_c.specs.declared.status.Status.{Status};
-ghost use Rattle.metronome_c.specs.declared.status.Status.TheVariants.{Done, Refused, NoMemory, Busy, BudgetOutOfRange, Closed, Open, ScheduleOutOfRange, BadHandle, SettingOutOfRange, OtherVersion, Taken, Inside, Outside, NotYours, NoPlan, AbovePlan};
+ghost use Rattle.metronome_c.specs.declared.status.Status.TheVariants.{Done, Refused, NoMemory, Busy, BudgetOutOfRange, Closed, Open, ScheduleOutOfRange, BadHandle, SettingOutOfRange, OtherVersion, Taken, Inside, Outside, NotYours, NoPlan, AbovePlan, NoMutator, SlotsUsed, OtherMutator};
 
 /// Where a heap was just made of a closed handle, and a program calls the library as it likes, the calls are events
 /// that the heap does one after the other, with a history that only grows: each call tells the outcome of its event,
@@ -80,7 +80,8 @@ pub fn statuses_are_in_order()
         ∷ SettingOutOfRange keys.Statics ∷ SettingOutOfRange keys.Identities ∷ SettingOutOfRange keys.DefragBelow
         ∷ SettingOutOfRange keys.DefragPages ∷ SettingOutOfRange keys.CollectorTicks
         ∷ SettingOutOfRange keys.MutatorTicks ∷ SettingOutOfRange keys.Rate ∷ SettingOutOfRange keys.Live
-        ∷ OtherVersion ∷ Taken ∷ Inside ∷ Outside ∷ NotYours ∷ NoPlan ∷ AbovePlan ∷ [] }
+        ∷ OtherVersion ∷ Taken ∷ Inside ∷ Outside ∷ NotYours ∷ NoPlan ∷ AbovePlan ∷ NoMutator ∷ SlotsUsed
+        ∷ OtherMutator ∷ [] }
 {}
 
 /// The check word of a handle that holds a heap. Memory that nothing set hardly has it by chance.

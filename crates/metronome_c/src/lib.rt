@@ -4,6 +4,7 @@
 mod answer;
 mod block;
 mod bulk_calls;
+mod checking;
 mod collector;
 mod commands;
 mod figures;

@@ -41,6 +41,12 @@ pub enum Status {
     NoPlan,
     /// The object has more words than the plan has for a whole cycle.
     AbovePlan,
+    /// There is no such mutator: told apart from a slot that isn't there, where a slot is checked.
+    NoMutator,
+    /// All slots are used. No call tells it, but what is over the calls does.
+    SlotsUsed,
+    /// The root is one of another mutator. No call tells it, but what is over the calls does.
+    OtherMutator,
 }
 
 /// The place of a key among the settings, from 0.
@@ -74,7 +80,7 @@ impl Status {
     ];
 
     /// Those behind the settings out of their ranges, in the order of their numbers.
-    pub const BEHIND_SETTINGS: [Status; 7] = [
+    pub const BEHIND_SETTINGS: [Status; 10] = [
         Status::OtherVersion,
         Status::Taken,
         Status::Inside,
@@ -82,6 +88,9 @@ impl Status {
         Status::NotYours,
         Status::NoPlan,
         Status::AbovePlan,
+        Status::NoMutator,
+        Status::SlotsUsed,
+        Status::OtherMutator,
     ];
 
     /// The number by which C is told.
@@ -106,6 +115,9 @@ impl Status {
             Status::NotYours => 44,
             Status::NoPlan => 46,
             Status::AbovePlan => 47,
+            Status::NoMutator => 48,
+            Status::SlotsUsed => 49,
+            Status::OtherMutator => 50,
         }
     }
 
@@ -194,6 +206,9 @@ impl Status {
             Status::NotYours => "the mutator isn't the seat's",
             Status::NoPlan => "no plan fits",
             Status::AbovePlan => "the object is above the plan",
+            Status::NoMutator => "no such mutator",
+            Status::SlotsUsed => "all slots are used",
+            Status::OtherMutator => "the root is another mutator's",
         }
     }
 }

@@ -29,6 +29,8 @@ pub enum Sizing<'a> {
     Pace,
     /// The load in the file of this name.
     Load(&'a str),
+    /// The most words that the trace has live, for which a heap that paces itself is to have a plan.
+    Plan,
 }
 
 /// What is done with the configuration, and with the other file if there is one.

@@ -4,7 +4,7 @@ use Rattle.settings.specs.declared.config.Config.{Config}
 use Rattle.heap_model.specs.Event.{present_of}
 use Rattle.streams.specs.Streams.{Given, Taken}
 use Rattle.command_line.specs.declared.job.Job.{Job}
-use Rattle.command_line.specs.declared.job.Sizing.TheVariants.{Demand, Pace, Load}
+use Rattle.command_line.specs.declared.job.Sizing.TheVariants.{Demand, Pace, Load, Plan as By_plan}
 use Rattle.command_line.specs.declared.job.Job.TheVariants.{Play, Check, Threads, Inspect, Cycles, Path, Mmu, Draw, DrawGraph, DrawTime, Pages, Plan}
 use Rattle.plans.specs.Report.{IsPlansReport}
 use Rattle.player.specs.declared.style.Style.{Style}
@@ -49,6 +49,7 @@ JobDone contents DrawTime config = TimeDrawn config
 JobDone contents (Pages Demand) config = Answered (questions.Pages false) config
 JobDone contents (Pages Pace) config = Answered (questions.Pages true) config
 JobDone contents (Pages (Load file)) config = LoadTold (contents file.now) config
+JobDone contents (Pages By_plan) config = Answered questions.Plan config
 JobDone contents (Plan live) config = λ given. ReportTold (IsPlansReport config live)
 
 -- a job counts the failed reads of its source; one by a load may end before it reads

@@ -24,7 +24,7 @@ fn words_of_parts(parts: &Parts) -> u64
 
 /// The words of the blocks that an object of a shape needs; none where the shape is too large. An object that isn't cut
 /// needs one block, of the class of its words.
-pub(crate) fn words_of_shape(shape: &Shape) -> u64
+pub fn words_of_shape(shape: &Shape) -> u64
     ensures { result ≡ words_of (λ class. if fits shape.now then needed shape.now class else 0) }
 {
     let Some(parts) = parts_of(shape) else {

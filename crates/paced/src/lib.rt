@@ -9,6 +9,7 @@ pub mod paced;
 pub mod pacer;
 pub mod plan;
 
+pub use asking::words_of_shape;
 pub use figures::Figures;
 pub use laws::{
     other_commands_need_no_pacer, paced_calls_add_up, paced_events_run, paced_heaps_find_room,
@@ -23,21 +24,36 @@ mod tests {
     use super::*;
     use graph_heap::{Command, Reply, Shape};
     use settings::{Config, Ranges, Settings};
+    use std::alloc::Global;
+    use std::process::Abort;
 
-    /// A plan of a configuration, and commands on its heap through some cycles; then one above the words of a cycle.
-    #[test]
-    fn a_paced_heap_is_made_and_asked(rt: HostRuntime) {
+    /// 300 pages, all of which a cycle may empty, with quanta of so many ticks.
+    fn moving_all(rt: &impl Abort, collector_ticks: i64) -> Config {
         let settings = Settings {
             pages: 300,
             slots: 8,
             defrag_below: 301,
             defrag_pages: 300,
-            collector_ticks: 50,
+            collector_ticks,
             ..Settings::DEFAULTS
         };
         let Ok(config) = Config::check(Ranges::Library, &settings) else {
             panic!(rt; "the settings are good");
         };
+        config
+    }
+
+    fn paced_heap(rt: &impl Abort, alloc: Global, config: &Config, plan: Plan) -> PacedHeap {
+        let Ok(heap) = PacedHeap::new(alloc, config, plan) else {
+            panic!(rt; "there is memory");
+        };
+        heap
+    }
+
+    /// A plan of a configuration, and commands on its heap through some cycles; then one above the words of a cycle.
+    #[test]
+    fn a_paced_heap_is_made_and_asked(rt: HostRuntime) {
+        let config = moving_all(&rt, 50);
         let Some(plan) = planned(&config, 183200) else {
             panic!(rt; "a flow fits");
         };
@@ -45,10 +61,7 @@ mod tests {
         assert!(rt; moves_all(&config));
         // A word for each quantum adds less than a page to the 100 that are live and three of each class.
         assert!(rt; least_pages(&config, 183200) == Some(214));
-        let Ok(heap) = PacedHeap::new(rt.alloc(), &config, plan) else {
-            panic!(rt; "there is memory");
-        };
-        let mut heap = heap;
+        let mut heap = paced_heap(&rt, rt.alloc(), &config, plan);
         for n in 0..100u32 {
             let shape = Shape::WordArray(20000);
             let reply = heap.call(0, Command::New { dst: 0, shape });
@@ -65,24 +78,12 @@ mod tests {
     /// A program begins a cycle and spends quanta of its own: they aren't in the figures.
     #[test]
     fn a_program_works_besides(rt: HostRuntime) {
-        let settings = Settings {
-            pages: 300,
-            slots: 8,
-            defrag_below: 301,
-            defrag_pages: 300,
-            ..Settings::DEFAULTS
-        };
-        let Ok(config) = Config::check(Ranges::Library, &settings) else {
-            panic!(rt; "the settings are good");
-        };
+        let config = moving_all(&rt, 10);
         let plan = Plan {
             quantum_words: 10,
             cycle_words: 70000,
         };
-        let Ok(heap) = PacedHeap::new(rt.alloc(), &config, plan) else {
-            panic!(rt; "there is memory");
-        };
-        let mut heap = heap;
+        let mut heap = paced_heap(&rt, rt.alloc(), &config, plan);
         assert!(rt;
             Pacer::with_budget(plan, 255).is_err() && Pacer::with_budget(plan, 256).is_ok()
         );

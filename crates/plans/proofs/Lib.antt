@@ -1,2 +1,4 @@
 mod Numbers
-mod Rows
+pub mod Rows
+mod Words
+mod Metering

@@ -1,11 +1,15 @@
 //! What is told of the plans by which a heap paces itself: on how few pages there is one, and what it is on some numbers
-//! of pages.
+//! of pages; and for how many live words a trace needs one.
 #![tactic(auto)]
 
+mod live;
+mod observing;
 mod on_pages;
 mod order;
 mod report;
 mod row;
+mod surveying;
 mod table;
 
+pub use live::LiveMeter;
 pub use report::plans_report;

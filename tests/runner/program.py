@@ -6,7 +6,7 @@ import resource
 import subprocess
 import tempfile
 import tty
-from dataclasses import dataclass
+from dataclasses import dataclass, field
 
 TOP = os.path.dirname(os.path.dirname(os.path.dirname(os.path.abspath(__file__))))
 BUILT = f"{TOP}/crates/metronome/out/metronome"
@@ -16,11 +16,12 @@ LIMIT = 300
 
 @dataclass(frozen=True)
 class Ended:
-    """How a run ended: its status, and what it wrote."""
+    """How a run ended: its status, what it wrote, and how many bytes of its input it took, where that is known."""
 
     status: int
     output: bytes
     errors: bytes
+    took: int | None = field(default=None, compare=False)
 
 
 @dataclass(frozen=True)
@@ -52,7 +53,8 @@ class Program:
             how["stdout"] = output if streams.room is not None else subprocess.PIPE
             how["stderr"] = errors if streams.errors_room is not None else subprocess.PIPE
             ran = subprocess.run([self.path, *words], check=False, **how)
-            return Ended(ran.returncode, written(output, ran.stdout), written(errors, ran.stderr))
+            took = None if streams.breaks else os.lseek(given.fileno(), 0, os.SEEK_CUR)
+            return Ended(ran.returncode, written(output, ran.stdout), written(errors, ran.stderr), took)
 
 
 def filled(file, data):

@@ -8,7 +8,9 @@ from runner.program import Program
 # What stands in the program's place: it answers by its words, and typed lines by the lines.
 PROGRAM = """#!/usr/bin/env python3
 import sys
-status, output, errors = {answers!r}.get(" ".join(sys.argv[1:]), (9, "", ""))
+status, output, errors, *taken = {answers!r}.get(" ".join(sys.argv[1:]), (9, "", ""))
+for count in taken:
+    sys.stdin.buffer.raw.read(count)
 if sys.argv[1:] == ["play", "config", "-"]:
     for line in sys.stdin:
         if line.startswith("0 "):
@@ -28,6 +30,7 @@ FILES = {
     "right.story": f"{CONFIG}{ASKED}typed\n",
     "faulty.story": f"{CONFIG}{ASKED}jump\nfault 4 line 3: not an event\ntyped\n",
     "same.runs": "$ help\n> ..\n$ more\nas before\n",
+    "taken.runs": "text: words\n$ taken <text\ntakes 2\n",
     "shown.md": "# It\n\n    $ bin/metronome help\n    help\n    $ bin/metronome help | grep -c other\n    0\n",
 }
 # How the program answers that is right, with each file.
@@ -41,6 +44,7 @@ ANSWERS = {
     "play config -": (0, "", ""),
     "help": (0, "help\n", ""),
     "more": (0, "help\n", ""),
+    "taken": (0, "", "", 2),
 }
 OF_FAULT = {
     "play config text": (4, "made 1\n", FAULT),
@@ -73,6 +77,8 @@ WRONG = [
     ("same.runs", "more", (0, "help\nmore\n", "")),
     ("same.runs", "more", (9, "help\n", "")),
     ("same.runs", "more", (0, "help\n", "noise\n")),
+    ("taken.runs", "taken", (0, "", "", 3)),
+    ("taken.runs", "taken", (0, "", "")),
     ("shown.md", "help", (7, "help\n", "")),
     ("shown.md", "help", (0, "", "help\n")),
     ("shown.md", "help", (0, "help\nmore\n", "")),

@@ -25,6 +25,7 @@ class Run:
     status: int = 0
     beside: str = ""
     writes: int | None = None
+    takes: int | None = None
     merges: bool = False
     before: object = None
 
@@ -58,6 +59,8 @@ class Run:
         if ended.status != self.status:
             yield f"  status: expected {self.status}, got {ended.status}"
         yield from self.faults_of_output(program, folder, given, ended)
+        if self.takes not in (None, ended.took):
+            yield f"  expected {self.takes} bytes of the input to be taken, got {ended.took}"
         if self.writes is not None:
             written = len(streams.writes(program, words, folder, given.given))
             if written != self.writes:
@@ -100,6 +103,8 @@ def read(path):
             runs[-1].status = int(rest)
         elif kind == "writes" and runs:
             runs[-1].writes = int(rest)
+        elif kind == "takes" and runs:
+            runs[-1].takes = int(rest)
         elif line.text == "merge" and runs:
             runs[-1].merges = True
         elif line.text == "as before" and len(runs) > 1:

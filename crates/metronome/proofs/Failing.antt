@@ -34,7 +34,9 @@ use Rattle.documents.specs.declared.toml_table.ReadFault.{ReadFault}
 use Rattle.documents.specs.declared.toml_table.ReadFault.TheVariants as settings
 use Rattle.metronome.specs.declared.fault.RunFault.{RunFault}
 use Rattle.metronome.specs.declared.fault.RunFault.TheVariants.{Text}
-use Rattle.metronome.specs.Faults.{of_settings, IsUnread, IsUnreadable, failed_reads, failed_writes}
+use Rattle.metronome.specs.Faults.{of_settings, IsUnreadable, failed_reads, failed_writes}
+use Rattle.metronome.specs.Files.{KnownFile}
+use Rattle.metronome.specs.Loaded.{LoadRead}
 use Rattle.metronome.specs.Jobs.{finish}
 use Rattle.metronome.specs.declared.answer_job.Answer.{Answer}
 use Rattle.metronome.specs.declared.answer_job.Question.{Question}
@@ -106,19 +108,19 @@ finished_unwritten true = refl
 finished_unwritten false = refl
 
 -- what can't be read is no failed write
-none_written : (fault : RunFault) → IsUnread fault → failed_writes {A = Unit {0}} (Err fault) ≡ 0
-none_written (Text texts.Write) u = elim u [ ]
-none_written fault u = refl
+unreadable_written : (failed : Bool) (fault : RunFault) → IsUnreadable failed fault → failed_writes {A = Unit {0}} (Err fault) ≡ 0
+unreadable_written failed (Text texts.Write) u = elim u [ ]
+unreadable_written failed fault u = refl
 
-pub unread_unwritten : {A : Type 0} (r : Result A RunFault) (fault : RunFault) → IsErrAnd r (λ e. e ≡ fault) → IsUnread fault → failed_writes r ≡ 0
-unread_unwritten r fault h u = writes_so r fault h ∙ none_written fault u
+pub unreadable_unwritten : {A : Type 0} (r : Result A RunFault) (failed : Bool) (fault : RunFault) → IsErrAnd r (λ e. e ≡ fault) → IsUnreadable failed fault → failed_writes r ≡ 0
+unreadable_unwritten r failed fault h u = writes_so r fault h ∙ unreadable_written failed fault u
 
-unreadable_written : (fault : RunFault) → IsUnreadable fault → failed_writes {A = Unit {0}} (Err fault) ≡ 0
-unreadable_written (Text texts.Write) u = elim u [ ]
-unreadable_written fault u = refl
+load_written : (file : KnownFile) (fault : RunFault) → LoadRead file (Err fault) → failed_writes {A = Unit {0}} (Err fault) ≡ 0
+load_written file (Text texts.Write) u = elim u [ ]
+load_written file fault u = refl
 
-pub unreadable_unwritten : {A : Type 0} (r : Result A RunFault) (fault : RunFault) → IsErrAnd r (λ e. e ≡ fault) → IsUnreadable fault → failed_writes r ≡ 0
-unreadable_unwritten r fault h u = writes_so r fault h ∙ unreadable_written fault u
+pub load_fault_unwritten : {A : Type 0} (r : Result A RunFault) (file : KnownFile) (fault : RunFault) → IsErrAnd r (λ e. e ≡ fault) → LoadRead file (Err fault) → failed_writes r ≡ 0
+load_fault_unwritten r file fault h u = writes_so r fault h ∙ load_written file fault u
 
 settings_written : (why : ReadFault ConfigFault) → failed_writes {A = Unit {0}} (Err (of_settings why)) ≡ 0
 settings_written (settings.Refused why) = refl

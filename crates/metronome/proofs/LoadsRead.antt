@@ -10,10 +10,10 @@ use Rattle.sizing.specs.declared.load_file.fault.DocumentFault.{DocumentFault}
 use Rattle.sizing.specs.declared.load_file.fault.DocumentFault.TheVariants as faults
 use Rattle.sizing.specs.Document.{IsRead, bytes_fault, fault_in}
 use Rattle.metronome.specs.declared.fault.RunFault.{RunFault}
-use Rattle.metronome.specs.declared.fault.RunFault.TheVariants.{Load, Text}
-use Rattle.metronome.specs.Faults.{IsUnread, IsUnreadable}
+use Rattle.metronome.specs.declared.fault.RunFault.TheVariants.{Text}
+use Rattle.metronome.specs.Faults.{IsUnreadable}
+use Rattle.metronome.specs.Files.{KnownFile, document_bytes}
 use Rattle.metronome.specs.Loaded.{LoadRead}
-use Rattle.metronome.specs.Run.{document_bytes}
 use Rattle.metronome.proofs.Obeying.{known_read}
 
 too_long : (bytes : List ℕ) → 65536 < length bytes → bytes_fault bytes ≡ Some faults.TooLong
@@ -32,20 +32,8 @@ long_read all cut (Err NoMemory) long few h = absurd (let short = h.short in ome
 pub load_read : (known : Option (List ℕ)) (bytes : List ℕ) (r : Result LoadTable (ReadFault DocumentFault)) → IfSome known (λ all. bytes ≡ document_bytes all) → IsRead bytes r → IfSome known (λ all. IsRead all r)
 load_read known bytes r e h = known_read IsRead long_read known bytes r e h
 
--- what can't be read of a load, or of a trace, gives no load
-pub unread_load : (known : Option (List ℕ)) (fault : RunFault) → IsUnreadable fault → LoadRead known (Err fault)
-unread_load known (Text texts.Read) u = tt
-unread_load known (Text texts.NoMemory) u = tt
-unread_load known fault u = elim u [ ]
-
--- and a load that can't be read, or is refused, is unread
-pub load_unread : (known : Option (List ℕ)) (fault : RunFault) → LoadRead known (Err fault) → IsUnread fault
-load_unread known (Load why) r = tt
-load_unread known (Text texts.Read) r = tt
-load_unread known (Text texts.NoMemory) r = tt
-load_unread known fault r = elim r [ ]
-
-pub unreadable_unread : (fault : RunFault) → IsUnreadable fault → IsUnread fault
-unreadable_unread (Text texts.Read) u = tt
-unreadable_unread (Text texts.NoMemory) u = tt
-unreadable_unread fault u = elim u [ ]
+-- a load's file that can't be read gives no load
+pub unread_load : (file : KnownFile) (fault : RunFault) → IsUnreadable file.failed fault → LoadRead file (Err fault)
+unread_load file (Text texts.Read) u = u
+unread_load file (Text texts.NoMemory) u = tt
+unread_load file fault u = elim u [ ]

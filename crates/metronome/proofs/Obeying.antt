@@ -1,9 +1,10 @@
 -- From the bytes of files to what a request does.
-use Rattle.std.proofs.Common.{◌≡◌, ℕ, ◌<◌, ◌≤◌, ◌⊎◌, inl, inr, Bool, true, false, List, [], ◌++◌, length, length-take, take, take_all, Option, Some, None, option_map, ap, ◌∙◌, sym, subst, refl, arith}
+use Rattle.std.proofs.Common.{◌≡◌, ℕ, ◌<◌, ◌≤◌, ◌⊎◌, inl, inr, Bool, true, false, List, [], ◌++◌, length, length-take, take, take_all, append-nil, Option, Some, None, ap, ◌∙◌, sym, subst, refl, arith}
 use Rattle.std.specs.Borrow.{Bor}
 use Rattle.std.specs.Str.{bytes_eq}
-use Rattle.std.specs.Io.KnownBytes.{prepend_known}
-use Rattle.std.specs.Prelude.{codes, nat_lt, if◌then◌else◌, IfSome, Result, Ok, Err}
+use Rattle.std.proofs.Math.Seq.{take-append_seam}
+use Rattle.std.proofs.lemmas.Option.{same_Some}
+use Rattle.std.specs.Prelude.{codes, nat_lt, if◌then◌else◌, ◌||◌, IsTrue, IfSome, IfOk, Result, Ok, Err}
 use Rattle.settings.specs.declared.config.Config.{Config}
 use Rattle.settings.specs.declared.fault.ConfigFault.{ConfigFault}
 use Rattle.settings.specs.declared.fault.ConfigFault.TheVariants as faults
@@ -12,30 +13,59 @@ use Rattle.documents.specs.TomlTable.{document_of}
 use Rattle.command_line.specs.declared.job.Job.{Job}
 use Rattle.documents.specs.declared.toml_table.ReadFault.{ReadFault}
 use Rattle.documents.specs.declared.toml_table.ReadFault.TheVariants.{Refused, NoMemory}
-use Rattle.streams.specs.Streams.{Given, Taken, Stays, Begins}
+use Rattle.streams.specs.Streams.{Given, Taken, Stays, Begins, given_by}
 use Rattle.metronome.specs.declared.fault.Ending.{Ending}
+use Rattle.trace.proofs.LinesProcessed.{stays_on}
+use Rattle.trace.specs.declared.fault.PlayFault.TheVariants as texts
+use Rattle.command_line.specs.declared.job.Job.TheVariants.{Pages}
+use Rattle.command_line.specs.declared.job.Sizing.TheVariants.{Load}
 use Rattle.metronome.specs.declared.fault.RunFault.{RunFault}
-use Rattle.metronome.specs.Done.{JobDone}
-use Rattle.metronome.specs.Run.{document_bytes, file_bytes, other_bytes, IsGivenOf, JobDoneOn}
+use Rattle.metronome.specs.declared.fault.RunFault.TheVariants.{Text}
+use Rattle.metronome.specs.Faults.{failed_reads, IsUnreadable}
+use Rattle.metronome.specs.Files.{KnownFile, KnownFiles, no_file, IsOpened, IsFront, document_bytes}
+use Rattle.metronome.specs.Loaded.{IsRest, LoadRead}
+use Rattle.metronome.specs.Done.{JobDone, JobCountsReads}
+use Rattle.metronome.specs.Run.{load_file, other_file, IsGivenOf, JobDoneOn}
 
 -- where known bytes stay known, what is a beginning of those is one of these
 pub begins_on : (old new : Option (List ℕ)) (given : List ℕ) (ended : Bool) → Stays old new → IfSome new (λ all. Begins given ended all) → IfSome old (λ all. Begins given ended all)
 begins_on None new given ended s b = tt
 begins_on (Some all) new given ended s b = subst (λ (o : Option (List ℕ)). IfSome o (λ x. Begins given ended x)) s b
 
--- what is known of a reader is known of one that is the same
-pub left_of : {R : Type 0} (known : Option (List ℕ)) (remaining : R → Option (List ℕ)) (r s : R) → r ≡ s → Stays known (remaining s) → Stays known (remaining r)
-left_of known remaining r s e h = subst (λ x. Stays known (remaining x)) (sym e) h
-
 pub stays_from : {S : Type 0} (new : Option (List ℕ)) (input : S → Option (List ℕ)) (first old : S) → old ≡ first → Stays (input old) new → Stays (input first) new
 stays_from new input first old e h = subst (λ s. Stays (input s) new) e h
 
 -- a document is read up to the byte that shows that it is too long
-pub document_read : (known left : Option (List ℕ)) (limit : ℕ) (old got : List ℕ) → Stays known left → limit ≡ 65537 → old ≡ [] → IfSome (option_map (take limit) left) (λ xs. got ≡ old ++ xs) → IfSome known (λ all. got ≡ document_bytes all)
-document_read None left limit old got s l e b = tt
-document_read (Some all) left limit old got s l e b =
-    let here : got ≡ old ++ take limit all = subst (λ (o : Option (List ℕ)). IfSome (option_map (take limit) o) (λ xs. got ≡ old ++ xs)) s b in
-    here ∙ ap (λ x. x ++ take limit all) e ∙ ap (λ n. take n all) l
+front_is : (n : ℕ) (xs ys : List ℕ) → n ≡ length xs → take n (xs ++ ys) ≡ xs
+front_is n xs ys e = ap (λ k. take k (xs ++ ys)) e ∙ take-append_seam xs ys
+
+pub document_read : (known input : Option (List ℕ)) (given : Given) (got : List ℕ) → Stays known input → given.before ≡ [] → IfSome input (λ all. Begins given.after given.ended all) → IsFront (Some 65537) given got
+    → IfSome known (λ all. got ≡ document_bytes all)
+document_read None input given got s first b f = tt
+document_read (Some all) input given got s first b f =
+    let begins : Begins given.after given.ended all = begins_on (Some all) input given.after given.ended s b in
+    let came : given.after ≡ got = f.0 ∙ ap (λ x. x ++ got) first in
+    let whole : all ≡ got ++ begins.rest = begins.whole ∙ ap (λ x. x ++ begins.rest) came in
+    elim f.2 [
+      | inl ended ↦ sym (ap (take 65537) (whole ∙ ap (λ r. got ++ r) (begins.over ended) ∙ append-nil got) ∙ take_all 65537 got f.1)
+      | inr full ↦ sym (ap (take 65537) whole ∙ front_is 65537 got begins.rest (same_Some 65537 (length got) full))
+    ]
+
+-- where it could be read
+pub document_ok : {V : Type 0} (items : V → List ℕ) (known old new : Option (List ℕ)) (given : Given) (r : Result V RunFault) → Stays known old → given.before ≡ [] → (failed_reads r ≡ 0 → Stays old new) → IfSome new (λ all. Begins given.after given.ended all)
+    → IfOk r (λ v. IsFront (Some 65537) given (items v)) → IfOk r (λ v. IfSome known (λ all. items v ≡ document_bytes all))
+document_ok items known old new given (Ok v) s first stays begins front = document_read known new given (items v) (stays_on known old new s (stays refl)) first begins front
+document_ok items known old new given (Err fault) s first stays begins front = tt
+
+-- all of a source is read where no number of bytes is the most
+pub rest_read : (given : Given) (text : List ℕ) → IsFront None given text → IsRest given text
+rest_read given text f = (
+  f.0,
+  elim f.2 [
+    | inl ended ↦ ended
+    | inr full ↦ absurd (let z : None ≡ Some (length text) = full in cc)
+  ],
+)
 
 -- so it says the same of a configuration as all its bytes
 long_fault : (bytes : List ℕ) → 65536 < length bytes → file_fault bytes ≡ Some faults.TooLong
@@ -68,30 +98,53 @@ module _ {A : Type 0} (Says : List ℕ → A → Type 0) (long : (all cut : List
 pub config_read : (known : Option (List ℕ)) (bytes : List ℕ) (r : Result Config (ReadFault ConfigFault)) → IfSome known (λ all. bytes ≡ document_bytes all) → IsRead bytes r → IfSome known (λ all. IsRead all r)
 config_read known bytes r e h = known_read IsRead long_read known bytes r e h
 
--- a job from a source is one from the bytes that its source has
-pub job_on : (contents : List ℕ → Option (List ℕ)) (given : Given) (bytes input : Option (List ℕ)) (job : Job) (config : Config) (taken : Taken) (how : Result Ending RunFault) → given.before ≡ [] → Stays bytes input
-    → JobDone contents job config given taken how → IsGivenOf input given how → JobDoneOn contents bytes job config taken how
-job_on contents given bytes input job config taken how first stays done is = (given, first, (λ none. begins_on bytes input given.after given.ended stays (is none)), done)
+-- what can't be read, by whether something failed
+pub unreadable_so : (p q : Bool) (fault : RunFault) → (IsTrue p → IsTrue q) → IsUnreadable p fault → IsUnreadable q fault
+unreadable_so p q (Text texts.Read) f u = f u
+unreadable_so p q (Text texts.NoMemory) f u = tt
+unreadable_so p q fault f u = elim u [ ]
 
--- the bytes of a request's other file: those of standard input, or of the file of its name
-pub on_input : (contents : List ℕ → Option (List ℕ)) (input : Option (List ℕ)) (name : List ℕ) (job : Job) (config : Config) (taken : Taken) (how : Result Ending RunFault) → true ≡ bytes_eq name (codes "-")
-    → JobDoneOn contents input job config taken how → JobDoneOn contents (file_bytes contents input name) job config taken how
-on_input contents input name job config taken how e done = subst (λ b. JobDoneOn contents (if b then input else contents name) job config taken how) e done
+pub or_left : (a b : Bool) → IsTrue a → IsTrue (a || b)
+or_left true b t = refl
+or_left false b t = absurd (cc)
 
-pub on_file : (contents : List ℕ → Option (List ℕ)) (input : Option (List ℕ)) (name : List ℕ) (job : Job) (config : Config) (taken : Taken) (how : Result Ending RunFault) → false ≡ bytes_eq name (codes "-")
-    → JobDoneOn contents (contents name) job config taken how → JobDoneOn contents (file_bytes contents input name) job config taken how
-on_file contents input name job config taken how e done = subst (λ b. JobDoneOn contents (if b then input else contents name) job config taken how) e done
+pub or_right : (a b : Bool) → IsTrue b → IsTrue (a || b)
+or_right true b t = refl
+or_right false b t = t
 
--- a job's other file is that of its name, or it has none
-pub of_file : (contents : List ℕ → Option (List ℕ)) (input : Option (List ℕ)) (file : Option (Bor (List ℕ))) (name : Bor (List ℕ)) (job : Job) (config : Config) (taken : Taken) (how : Result Ending RunFault) → file ≡ Some name
-    → JobDoneOn contents (file_bytes contents input name.now) job config taken how → JobDoneOn contents (other_bytes contents input file) job config taken how
-of_file contents input file name job config taken how e done = subst (λ f. JobDoneOn contents (other_bytes contents input f) job config taken how) (sym e) done
+-- a load that ends in a failed read is of a file of which one failed
+load_failed : (file : KnownFile) (fault : RunFault) → 0 < failed_reads {A = Ending} (Err fault) → LoadRead file (Err fault) → IsTrue file.failed
+load_failed file (Text texts.Read) few r = r
+load_failed file fault few r = absurd (omega (arith, few))
 
-pub of_none : (contents : List ℕ → Option (List ℕ)) (input : Option (List ℕ)) (file : Option (Bor (List ℕ))) (job : Job) (config : Config) (taken : Taken) (how : Result Ending RunFault) → file ≡ None
-    → JobDoneOn contents (Some []) job config taken how → JobDoneOn contents (other_bytes contents input file) job config taken how
-of_none contents input file job config taken how e done = subst (λ f. JobDoneOn contents (other_bytes contents input f) job config taken how) (sym e) done
+module _ {S : Type 0} (files : KnownFiles) (file : KnownFile) (failures : S → ℕ) (old new : S) (none : failures old ≡ 0) (fails : (later : S) → 0 < failures later → IsTrue file.failed) where
+  -- a job that ends in a failed read is of a source of which one failed, or of such a load
+  pub reads_told : (job : Job) (how : Result Ending RunFault) → JobCountsReads files job failures old new how → 0 < failed_reads how → IsTrue (file.failed || (load_file files job).failed)
+  reads_told (Pages (Load name)) how (inl e) few = or_left _ _ (fails new (omega (arith, e, few)))
+  reads_told (Pages (Load name)) how (inr (fault, so, read, same)) few = or_right file.failed _ (load_failed (files.named name.now) fault (subst (λ (r : Result Ending RunFault). 0 < failed_reads r) so few) read)
+  reads_told job how e few = or_left _ _ (fails new (omega (arith, e, few)))
 
--- a reader that has given nothing has its bytes still to give
-pub none_given : (bytes left : Option (List ℕ)) (given : List ℕ) → given ≡ [] → Stays bytes left → Stays bytes (prepend_known given left)
-none_given None left given e s = tt
-none_given (Some all) left given e s = subst (λ (o : Option (List ℕ)). prepend_known given o ≡ Some all) (sym s) (ap (λ g. Some (g ++ all)) e)
+module _ (files : KnownFiles) where
+  -- a job from a source is one from the file that its source is of
+  pub job_on : (given : Given) (file : KnownFile) (input : Option (List ℕ)) (job : Job) (config : Config) (taken : Taken) (how : Result Ending RunFault) → given.before ≡ [] → Stays file.bytes input
+      → JobDone files job config given taken how → IsGivenOf input given how → (0 < failed_reads how → IsTrue (file.failed || (load_file files job).failed)) → JobDoneOn files file job config taken how
+  job_on given file input job config taken how first stays done is reads = (given, first, (λ none. begins_on file.bytes input given.after given.ended stays (is none)), done, reads)
+
+  -- so it is one from the file of which its source was opened
+  pub job_from : {S : Type 0} (file : KnownFile) (given : S → List ℕ) (ended : S → Bool) (failures : S → ℕ) (input : S → Option (List ℕ)) (old new : S) (job : Job) (config : Config) (taken : Taken) (how : Result Ending RunFault) → IsOpened given failures input file old
+      → JobDone files job config (given_by given ended old new) taken how → JobCountsReads files job failures old new how → IsGivenOf (input old) (given_by given ended old new) how → JobDoneOn files file job config taken how
+  job_from file given ended failures input old new job config taken how opened done counts is =
+      job_on (given_by given ended old new) file (input old) job config taken how opened.0 opened.2 done is (reads_told files file failures old new opened.1 opened.3 job how counts)
+
+  -- a request's other file is standard input, or that of its name, or it has none
+  pub other_input : (file : Option (Bor (List ℕ))) (name : Bor (List ℕ)) → file ≡ Some name → true ≡ bytes_eq name.now (codes "-") → other_file files file ≡ files.input
+  other_input file name so e = ap (other_file files) so ∙ ap (λ b. if b then files.input else files.named name.now) (sym e)
+
+  pub other_named : (file : Option (Bor (List ℕ))) (name : Bor (List ℕ)) → file ≡ Some name → false ≡ bytes_eq name.now (codes "-") → other_file files file ≡ files.named name.now
+  other_named file name so e = ap (other_file files) so ∙ ap (λ b. if b then files.input else files.named name.now) (sym e)
+
+  pub other_none : (file : Option (Bor (List ℕ))) → file ≡ None → other_file files file ≡ no_file
+  other_none file so = ap (other_file files) so
+
+  pub job_of : (file other : KnownFile) (job : Job) (config : Config) (taken : Taken) (how : Result Ending RunFault) → other ≡ file → JobDoneOn files file job config taken how → JobDoneOn files other job config taken how
+  job_of file other job config taken how e done = subst (λ f. JobDoneOn files f job config taken how) (sym e) done

@@ -1,5 +1,5 @@
 -- What the job of a command line reads and writes.
-use Rattle.std.specs.Prelude.{ℕ, Bool, true, false, if◌then◌else◌, List, Option, None, Result}
+use Rattle.std.specs.Prelude.{ℕ, Bool, true, false, if◌then◌else◌, None, Result}
 use Rattle.settings.specs.declared.config.Config.{Config}
 use Rattle.heap_model.specs.Event.{present_of}
 use Rattle.streams.specs.Streams.{Given, Taken}
@@ -13,14 +13,15 @@ use Rattle.metronome.specs.declared.fault.Ending.{Ending}
 use Rattle.metronome.specs.declared.fault.Ending.TheVariants.{Done}
 use Rattle.metronome.specs.declared.fault.RunFault.{RunFault}
 use Rattle.metronome.specs.declared.answer_job.Question.TheVariants as questions
-use Rattle.metronome.specs.Faults.{CountsReads, LoadCountsReads}
+use Rattle.metronome.specs.Files.{KnownFiles}
+use Rattle.metronome.specs.Faults.{CountsReads}
 use Rattle.metronome.specs.Jobs.{TracePlayed, ScriptsRun}
 use Rattle.inspector.specs.declared.cycles.text.Layout.{Layout}
 use Rattle.inspector.specs.declared.cycles.text.Layout.TheVariants.{Columns, Commas}
 use Rattle.metronome.specs.Answered.{Answered}
 use Rattle.metronome.specs.OverTime.{TimeDrawn}
 use Rattle.metronome.specs.Told.{ReportTold, TextWritten}
-use Rattle.metronome.specs.Loaded.{LoadTold}
+use Rattle.metronome.specs.Loaded.{LoadTold, LoadCountsReads}
 use Rattle.metronome.specs.After.{AfterPlay}
 use Rattle.metronome.specs.Telling.{report_by, PictureDrawn, GraphTold, TellsWhy, WindowsTold}
 
@@ -32,27 +33,28 @@ style_of history = if history then Entries else Replies
 abbrev pub layout_of : Bool → Layout
 layout_of csv = if csv then Commas else Columns
 
--- what a job does, by the bytes of the file of each name, where they are known: for some, what it reports of the player
--- after its play; a plan reads no other file than the configuration
-abbrev pub JobDone : (List ℕ → Option (List ℕ)) → Job → Config → Given → Taken → Result Ending RunFault → Type 0
-JobDone contents (Play history) config = TracePlayed (style_of history) config
-JobDone contents Check config = Answered questions.History config
-JobDone contents (Threads turns budget) config = ScriptsRun turns budget config
-JobDone contents (Inspect by after) config = AfterPlay (λ p. TextWritten Done (report_by by p.course.heap)) after config
-JobDone contents (Cycles csv) config = Answered (questions.Cycles (layout_of csv)) config
-JobDone contents (Path id after) config =
+-- what a job does, by what is known of the file of each name: for some, what it reports of the player after its play; a
+-- plan reads no other file than the configuration
+abbrev pub JobDone : KnownFiles → Job → Config → Given → Taken → Result Ending RunFault → Type 0
+JobDone files (Play history) config = TracePlayed (style_of history) config
+JobDone files Check config = Answered questions.History config
+JobDone files (Threads turns budget) config = ScriptsRun turns budget config
+JobDone files (Inspect by after) config = AfterPlay (λ p. TextWritten Done (report_by by p.course.heap)) after config
+JobDone files (Cycles csv) config = Answered (questions.Cycles (layout_of csv)) config
+JobDone files (Path id after) config =
     AfterPlay (λ p. ReportTold (TellsWhy id p.course.heap (present_of p.course))) after config
-JobDone contents (Mmu windows) config = AfterPlay (λ p. WindowsTold config p.timetable windows.items) None config
-JobDone contents (Draw picture after) config = AfterPlay (PictureDrawn picture config) after config
-JobDone contents (DrawGraph after most) config = AfterPlay (λ p. GraphTold most (present_of p.course)) after config
-JobDone contents DrawTime config = TimeDrawn config
-JobDone contents (Pages Demand) config = Answered (questions.Pages false) config
-JobDone contents (Pages Pace) config = Answered (questions.Pages true) config
-JobDone contents (Pages (Load file)) config = LoadTold (contents file.now) config
-JobDone contents (Pages By_plan) config = Answered questions.Plan config
-JobDone contents (Plan live) config = λ given. ReportTold (IsPlansReport config live)
+JobDone files (Mmu windows) config = AfterPlay (λ p. WindowsTold config p.timetable windows.items) None config
+JobDone files (Draw picture after) config = AfterPlay (PictureDrawn picture config) after config
+JobDone files (DrawGraph after most) config = AfterPlay (λ p. GraphTold most (present_of p.course)) after config
+JobDone files DrawTime config = TimeDrawn config
+JobDone files (Pages Demand) config = Answered (questions.Pages false) config
+JobDone files (Pages Pace) config = Answered (questions.Pages true) config
+JobDone files (Pages (Load file)) config = LoadTold (files.named file.now) config
+JobDone files (Pages By_plan) config = Answered questions.Plan config
+JobDone files (Plan live) config = λ given. ReportTold (IsPlansReport config live)
 
 -- a job counts the failed reads of its source; one by a load may end before it reads
-abbrev pub JobCountsReads : {S : Type 0} → Job → (S → ℕ) → S → S → Result Ending RunFault → Type 0
-JobCountsReads (Pages (Load file)) failures old new result = LoadCountsReads failures old new result
-JobCountsReads job failures old new result = CountsReads failures old new result
+abbrev pub JobCountsReads : {S : Type 0} → KnownFiles → Job → (S → ℕ) → S → S → Result Ending RunFault → Type 0
+JobCountsReads files (Pages (Load file)) failures old new result =
+    LoadCountsReads (files.named file.now) failures old new result
+JobCountsReads files job failures old new result = CountsReads failures old new result

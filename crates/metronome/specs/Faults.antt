@@ -1,5 +1,5 @@
 -- The faults of the crates below, as faults of a run.
-use Rattle.std.specs.Prelude.{ℕ, ◌≡◌, ◌⊎◌, ◌+◌, Result, Err}
+use Rattle.std.specs.Prelude.{ℕ, ◌≡◌, ◌+◌, Bool, IsTrue, Result, Err}
 use Rattle.settings.specs.declared.fault.ConfigFault.{ConfigFault}
 use Rattle.documents.specs.declared.toml_table.ReadFault.{ReadFault}
 use Rattle.documents.specs.declared.toml_table.ReadFault.TheVariants as settings
@@ -19,18 +19,11 @@ IsOfWords (Words text) = Unit {0}
 IsOfWords (Text NoMemory) = Unit {0}
 IsOfWords fault = ⊥
 
--- the faults of a file that can't be read into memory
-abbrev pub IsUnreadable : RunFault → Type 0
-IsUnreadable (Text Read) = Unit {0}
-IsUnreadable (Text NoMemory) = Unit {0}
-IsUnreadable fault = ⊥
-
--- the faults of a load or a trace that can't be read into memory
-abbrev pub IsUnread : RunFault → Type 0
-IsUnread (Load why) = Unit {0}
-IsUnread (Text Read) = Unit {0}
-IsUnread (Text NoMemory) = Unit {0}
-IsUnread fault = ⊥
+-- the faults of a file that can't be read into memory, by whether opening or reading it failed
+abbrev pub IsUnreadable : Bool → RunFault → Type 0
+IsUnreadable failed (Text Read) = IsTrue failed
+IsUnreadable failed (Text NoMemory) = Unit {0}
+IsUnreadable failed fault = ⊥
 
 -- how many reads have failed where a run ends so: it ends at the first
 abbrev pub failed_reads : {A : Type 0} → Result A RunFault → ℕ
@@ -45,8 +38,3 @@ failed_writes _ = 0
 -- a run counts the failed reads of its source
 abbrev pub CountsReads : {S A : Type 0} → (S → ℕ) → S → S → Result A RunFault → Type 0
 CountsReads failures old new result = failures new ≡ failures old + failed_reads result
-
--- one by a load does so too, or the load can't be read, and its source was asked for nothing
-abbrev pub LoadCountsReads : {S A : Type 0} → (S → ℕ) → S → S → Result A RunFault → Type 0
-LoadCountsReads failures old new result = CountsReads failures old new result
-    ⊎ ((fault : RunFault) × (result ≡ Err fault) × IsUnread fault × (new ≡ old))

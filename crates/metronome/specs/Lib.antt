@@ -1,3 +1,4 @@
+pub mod Files
 pub mod Faults
 pub mod Jobs
 pub mod Status

@@ -1,5 +1,5 @@
 -- What is reported of a load, and of a trace that is to keep to it.
-use Rattle.std.specs.Prelude.{◌≡◌, ℕ, ◌*◌, IsTrue, ◌⊎◌, List, [], ◌++◌, Option, IfSome, Result, Ok, Err}
+use Rattle.std.specs.Prelude.{◌≡◌, ℕ, ◌*◌, true, IsTrue, ◌⊎◌, List, [], ◌++◌, Option, IfSome, Result, Ok, Err}
 use Rattle.settings.specs.declared.config.Config.{Config}
 use Rattle.heap_model.specs.Event.{Event}
 use Rattle.trace.specs.declared.fault.PlayFault.{PlayFault}
@@ -19,7 +19,8 @@ use Rattle.inspector.specs.LoadReport.{IsCovered, IsLoadReport}
 use Rattle.metronome.specs.declared.fault.Ending.{Ending}
 use Rattle.metronome.specs.declared.fault.RunFault.{RunFault}
 use Rattle.metronome.specs.declared.fault.RunFault.TheVariants.{Load}
-use Rattle.metronome.specs.Faults.{IsUnreadable}
+use Rattle.metronome.specs.Files.{KnownFile}
+use Rattle.metronome.specs.Faults.{CountsReads, IsUnreadable}
 use Rattle.metronome.specs.Told.{ReportTold, NothingTold, ToldOf}
 
 -- a text, or a beginning of it, was given from its first byte
@@ -62,16 +63,26 @@ module _ (config : Config) (l : LoadTable) where
 abbrev pub IsRest : Given → List ℕ → Type 0
 IsRest given text = (given.after ≡ given.before ++ text) × IsTrue given.ended
 
--- What was read of a load's file, by its bytes where they are known: the load that they state, or what is wrong with
--- them; or the file can't be read.
-abbrev pub LoadRead : Option (List ℕ) → Result LoadTable RunFault → Type 0
-LoadRead bytes (Ok l) = IfSome bytes (λ all. IsRead all (Ok l))
-LoadRead bytes (Err (Load why)) = IfSome bytes (λ all. IsRead all (Err (Refused why)))
-LoadRead bytes (Err fault) = IsUnreadable fault
+-- What was read of a load's file: the load that its bytes state, where they are known, or what is wrong with them; or the
+-- file can't be read.
+abbrev pub LoadRead : KnownFile → Result LoadTable RunFault → Type 0
+LoadRead file (Ok l) = IfSome file.bytes (λ all. IsRead all (Ok l))
+LoadRead file (Err (Load why)) = IfSome file.bytes (λ all. IsRead all (Err (Refused why)))
+LoadRead file (Err fault) = IsUnreadable file.failed fault
 
--- A trace was read to its end, and from its text and the load of a file of these bytes it was reported what the load
--- needs; or one of them could not be read, or the load is refused, and nothing was written.
-abbrev pub LoadTold : Option (List ℕ) → Config → Given → Taken → Result Ending RunFault → Type 0
-LoadTold bytes config given taken result =
-    ((l : LoadTable) × LoadRead bytes (Ok l) × (text : List ℕ) × IsRest given text × TextTold config l text taken result)
-    ⊎ ((fault : RunFault) × LoadRead bytes (Err fault) × (result ≡ Err fault) × (taken.after ≡ taken.before))
+-- a fault of a load's file, or, once the load was read, one of a trace that can't be read
+abbrev pub LoadFails : KnownFile → RunFault → Type 0
+LoadFails file fault = LoadRead file (Err fault)
+    ⊎ ((l : LoadTable) × LoadRead file (Ok l) × IsUnreadable true fault)
+
+-- A trace was read to its end, and from its text and the load of this file it was reported what the load needs; or one of
+-- them could not be read, or the load is refused, and nothing was written.
+abbrev pub LoadTold : KnownFile → Config → Given → Taken → Result Ending RunFault → Type 0
+LoadTold file config given taken result =
+    ((l : LoadTable) × LoadRead file (Ok l) × (text : List ℕ) × IsRest given text × TextTold config l text taken result)
+    ⊎ ((fault : RunFault) × LoadFails file fault × (result ≡ Err fault) × (taken.after ≡ taken.before))
+
+-- a run by a load counts the failed reads of its source; or the load can't be read, and the source was asked for nothing
+abbrev pub LoadCountsReads : {S : Type 0} → KnownFile → (S → ℕ) → S → S → Result Ending RunFault → Type 0
+LoadCountsReads file failures old new result = CountsReads failures old new result
+    ⊎ ((fault : RunFault) × (result ≡ Err fault) × LoadRead file (Err fault) × (new ≡ old))

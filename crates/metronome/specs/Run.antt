@@ -1,5 +1,5 @@
 -- What a run of the program does, by the request that its words give and the bytes of its files.
-use Rattle.std.specs.Prelude.{◌≡◌, ℕ, ◌⊎◌, if◌then◌else◌, List, [], take, codes, Option, Some, None, IfSome, Result, Ok, Err}
+use Rattle.std.specs.Prelude.{◌≡◌, ℕ, ◌<◌, ◌⊎◌, ◌||◌, IsTrue, if◌then◌else◌, List, [], ◌++◌, codes, Option, Some, None, IfSome, Result, Ok, Err}
 use Rattle.std.specs.Borrow.{Bor}
 use Rattle.std.specs.Str.{bytes_eq}
 use Rattle.settings.specs.declared.config.Config.{Config}
@@ -7,19 +7,22 @@ use Rattle.settings.specs.declared.fault.ConfigFault.{ConfigFault}
 use Rattle.documents.specs.ConfigFile.{IsRead}
 use Rattle.command_line.specs.Words.{IsAskedForBy, AsksForHelp}
 use Rattle.command_line.specs.declared.job.Job.{Job}
+use Rattle.command_line.specs.declared.job.Job.TheVariants.{Pages}
+use Rattle.command_line.specs.declared.job.Sizing.TheVariants.{Load}
 use Rattle.command_line.specs.declared.job.Request.{Request}
 use Rattle.documents.specs.declared.toml_table.ReadFault.{ReadFault}
 use Rattle.streams.specs.Streams.{Given, Taken, Begins}
 use Rattle.metronome.specs.declared.fault.Ending.{Ending}
 use Rattle.metronome.specs.declared.fault.Ending.TheVariants.{Done}
 use Rattle.metronome.specs.declared.fault.RunFault.{RunFault}
+use Rattle.metronome.specs.Files.{KnownFile, KnownFiles, no_file}
 use Rattle.metronome.specs.Done.{JobDone}
 use Rattle.metronome.specs.Faults.{of_settings, failed_reads, IsUnreadable, IsOfWords}
 use Rattle.metronome.specs.Told.{TextWritten}
 
--- what is read of a document: a byte more than it may have shows that it is too long
-abbrev pub document_bytes : List ℕ → List ℕ
-document_bytes all = take 65537 all
+-- the line that says why words are refused
+abbrev pub words_line : List ℕ → List ℕ
+words_line text = codes "metronome: " ++ (text ++ codes "\n")
 
 -- A run ended in a fault, and nothing was written.
 abbrev pub NothingDone : RunFault → Taken → Result Ending RunFault → Type 0
@@ -30,35 +33,40 @@ NothingDone fault taken how = (how ≡ Err fault) × (taken.after ≡ taken.befo
 abbrev pub IsGivenOf : Option (List ℕ) → Given → Result Ending RunFault → Type 0
 IsGivenOf bytes given how = failed_reads how ≡ 0 → IfSome bytes (λ all. Begins given.after given.ended all)
 
-module _ (contents : List ℕ → Option (List ℕ)) where
-  -- A job was done from the beginning of these bytes on.
-  abbrev pub JobDoneOn : Option (List ℕ) → Job → Config → Taken → Result Ending RunFault → Type 0
-  JobDoneOn bytes job config taken how = (given : Given) × (given.before ≡ []) × IsGivenOf bytes given how
-      × JobDone contents job config given taken how
+module _ (files : KnownFiles) where
+  -- what is known of the file of a job's load, if it has one
+  abbrev pub load_file : Job → KnownFile
+  load_file (Pages (Load file)) = files.named file.now
+  load_file job = no_file
 
-module _ (contents : List ℕ → Option (List ℕ)) (input : Option (List ℕ)) where
-  -- the bytes of a file that is no configuration, where they are known
-  abbrev pub file_bytes : List ℕ → Option (List ℕ)
-  file_bytes name = if bytes_eq name (codes "-") then input else contents name
+  -- A job was done from the beginning of this file on; where it ended in a failed read, one failed of it or of the file of
+  -- the job's load.
+  abbrev pub JobDoneOn : KnownFile → Job → Config → Taken → Result Ending RunFault → Type 0
+  JobDoneOn file job config taken how = (given : Given) × (given.before ≡ []) × IsGivenOf file.bytes given how
+      × JobDone files job config given taken how
+      × (0 < failed_reads how → IsTrue (file.failed || (load_file job).failed))
 
-  -- the bytes of a request's other file, where they are known; none where it has no other file
-  abbrev pub other_bytes : Option (Bor (List ℕ)) → Option (List ℕ)
-  other_bytes None = Some []
-  other_bytes (Some name) = file_bytes name.now
+  -- what is known of a request's other file: of standard input, or of the file of its name; none, where it has no other
+  -- file
+  abbrev pub other_file : Option (Bor (List ℕ)) → KnownFile
+  other_file None = no_file
+  other_file (Some name) = if bytes_eq name.now (codes "-") then files.input else files.named name.now
 
   -- the bytes of a configuration file, where they are known, were read so
   abbrev pub ConfigRead : List ℕ → Result Config (ReadFault ConfigFault) → Type 0
-  ConfigRead name read = IfSome (contents name) (λ all. IsRead all read)
+  ConfigRead name read = IfSome (files.named name).bytes (λ all. IsRead all read)
 
   -- A request's configuration was read, and its job done on its other file, or without one; or the configuration was
   -- refused; or one of the two files couldn't be read.
   abbrev pub Obeyed : Request → Taken → Result Ending RunFault → Type 0
   Obeyed request taken how =
       ((config : Config) × ConfigRead request.config.now (Ok config)
-      × JobDoneOn contents (other_bytes request.file) request.job config taken how)
+      × JobDoneOn (other_file request.file) request.job config taken how)
       ⊎ (((why : ReadFault ConfigFault) × ConfigRead request.config.now (Err why)
       × NothingDone (of_settings why) taken how)
-      ⊎ ((fault : RunFault) × IsUnreadable fault × NothingDone fault taken how))
+      ⊎ ((fault : RunFault)
+      × IsUnreadable ((files.named request.config.now).failed || (other_file request.file).failed) fault
+      × NothingDone fault taken how))
 
   -- The words ask for a request, which was obeyed; or for help, which was written; or they were refused; or memory was.
   abbrev pub RunDone : List (List ℕ) → Taken → Result Ending RunFault → Type 0

@@ -1,63 +1,102 @@
-//! Files by name.
-ghost use Rattle.std.specs.Prelude.{◌≡◌, List, ℕ, Option, None, IfOk, IfErr, IfSome};
-ghost use Rattle.streams.specs.Streams.{Stays};
-ghost use Rattle.metronome.specs.Faults.{IsUnreadable};
-ghost use Rattle.metronome.specs.Run.{document_bytes};
+//! Files by name, and standard input.
+ghost use Rattle.std.specs.Prelude.{◌≡◌, ◌⊎◌, ◌+◌, ◌<◌, ◌≤◌, ℕ, Some, true, IfOk, IfErr, IfSome, IsTrue};
+ghost use Rattle.streams.specs.Streams.{given_by, Stays};
+ghost use Rattle.metronome.specs.Faults.{IsUnreadable, failed_reads};
+ghost use Rattle.metronome.specs.Files.{KnownFiles, IsOpened, IsFront, document_bytes, unknown_files};
 
 use crate::fault::RunFault;
 use std::alloc::Global;
 use std::fs::{self, Files};
-use std::io::{self, ErrorKind, Read};
+use std::io::{self, Input, Read};
+use streams::{ReadSource, Source};
 use trace::PlayFault;
 
 /// The most bytes of a configuration or a load that are read: one more than it may have.
-pub const DOCUMENT_BYTES: u64 = 65537;
+pub const DOCUMENT_BYTES: usize = 65537;
 
-/// What opens the files that the words name.
+/// How many bytes of a source are asked for at a time.
+const PIECE: usize = 4096;
+
+/// What opens the files that the words name, and standard input.
 pub trait Opener {
-    /// A reader of a file.
-    type File: Read + Drop;
+    /// A source of a file's bytes.
+    type File: Source + Drop;
 
-    /// The bytes of the file of each name, where they are known.
-    ghost contents: { Self → List ℕ → Option (List ℕ) };
+    /// A source of the bytes of standard input.
+    type Input: Source + Drop;
 
-    /// A reader of the file of this name, from its beginning.
+    /// What is known of the file of each name, and of standard input.
+    ghost known: { Self → KnownFiles };
+
+    /// A source of the file of this name, from its beginning.
     fn open(&self, name: &str) -> io::Result<Self::File>
-        ensures { IfOk result (λ file. Stays (contents self.now name.now) (Self.File.remaining file)) };
+        ensures opened { IfOk result (IsOpened Self.File.given Self.File.failures Self.File.input
+            ((known self.now).named name.now)) }
+        ensures failed { IfErr result (λ _. IsTrue ((known self.now).named name.now).failed) };
+
+    /// A source of standard input, from its beginning.
+    fn standard_input(&self) -> Self::Input
+        ensures { IsOpened Self.Input.given Self.Input.failures Self.Input.input (known self.now).input result };
 
     /// Whether a file of this name may be read once more, so that it gives the same: it is no pipe and no device, or
     /// opening it tells what is wrong.
     fn is_lasting(&self, name: &str) -> bool;
+
+    /// Why the file of this name can't be read to its end, if it can't.
+    fn failure(&self, name: &str) -> Option<io::Error>;
 }
 
-/// The files of the machine.
+/// The files of the machine, and its standard input.
 #[derive(Clone, Copy, Drop)]
-pub struct HostFiles<'a, R: Files> {
-    pub files: &'a R,
+pub struct HostFiles<'a, R: Files + Input> {
+    pub host: &'a R,
 }
 
-impl<'a, R: Files> Opener for HostFiles<'a, R> {
-    type File = R::File;
+impl<'a, R: Files + Input> Opener for HostFiles<'a, R> {
+    type File = ReadSource<R::File>;
 
-    // What a file of the machine holds isn't known to any contract.
-    ghost contents = { λ _ _. None };
+    type Input = ReadSource<R::Reader>;
 
-    fn open(&self, name: &str) -> io::Result<R::File> {
-        fs::open(self.files, name)
+    // What a file of the machine holds, and whether it can be read, isn't known to any contract.
+    ghost known = { λ _. unknown_files };
+
+    fn open(&self, name: &str) -> io::Result<ReadSource<R::File>> {
+        Ok(ReadSource::new(fs::open(self.host, name)?))
+    }
+
+    fn standard_input(&self) -> ReadSource<R::Reader> {
+        ReadSource::new(self.host.reader())
     }
 
     fn is_lasting(&self, name: &str) -> bool {
-        match fs::metadata(self.files, name) {
+        match fs::metadata(self.host, name) {
             Ok(found) => found.is_file() || found.is_dir(),
             Err(_) => true,
         }
     }
+
+    fn failure(&self, name: &str) -> Option<io::Error> {
+        let mut file = match fs::open(self.host, name) {
+            Ok(file) => file,
+            Err(error) => return Some(error),
+        };
+        let mut piece = [0; PIECE];
+        for _ in 0..u64::MAX {
+            match file.read(&mut piece) {
+                Ok(0) => return None,
+                Ok(_) => {}
+                Err(error) => return Some(error),
+            }
+        }
+        None
+    }
 }
 
-/// A reader of the file of this name.
+/// A source of the file of this name.
 pub fn open_file<O: Opener>(opener: &O, name: &str) -> Result<O::File, RunFault>
-    ensures file { IfOk result (λ file. Stays (O.contents opener.now name.now) (O.File.remaining file)) }
-    ensures err { IfErr result IsUnreadable }
+    ensures opened { IfOk result (IsOpened O.File.given O.File.failures O.File.input
+        ((O.known opener.now).named name.now)) }
+    ensures err { IfErr result (IsUnreadable ((O.known opener.now).named name.now).failed) }
 {
     match opener.open(name) {
         Ok(file) => Ok(file),
@@ -65,19 +104,51 @@ pub fn open_file<O: Opener>(opener: &O, name: &str) -> Result<O::File, RunFault>
     }
 }
 
-/// The bytes of a configuration or a load.
-pub fn read_document<O: Opener>(alloc: Global, opener: &O, name: &str) -> Result<Vec<u8>, RunFault>
-    ensures bytes { IfOk result (λ bytes. IfSome (O.contents opener.now name.now)
-        (λ all. bytes.items ≡ document_bytes all)) }
-    ensures err { IfErr result IsUnreadable }
+/// How many bytes are asked for next, where so many were read of a number that is the most.
+fn next_piece(most: Option<usize>, read: usize) -> usize
+    ensures piece { result ≤ 4096 }
+    ensures within { IfSome most (λ n. read ≤ n → read + result ≤ n) }
+    ensures full { (0 < result) ⊎ ((n : ℕ) × (most ≡ Some n) × (n ≤ read)) }
+{
+    match most {
+        Some(most) => PIECE.min(most.saturating_sub(read)),
+        None => PIECE,
+    }
+}
+
+/// The bytes that a source has still to give: all, or at most so many.
+pub fn read_bytes<S: Source>(
+    alloc: Global,
+    source: &mut S,
+    most: Option<usize>,
+) -> Result<Vec<u8>, RunFault>
+    ensures front { IfOk result (λ bytes. IsFront most (given_by S.given S.ended source.old source.new) bytes.items) }
+    ensures unread { IfErr result (IsUnreadable true) }
+    ensures reads { S.failures source.new ≡ S.failures source.old + failed_reads result }
+    ensures input { failed_reads result ≡ 0 → Stays (S.input source.old) (S.input source.new) }
 {
     let mut bytes = Vec::new(alloc);
-    let mut file = open_file(opener, name)?.take(DOCUMENT_BYTES);
-    match file.read_to_end(&mut bytes) {
-        Ok(_) => Ok(bytes),
-        Err(error) if error.kind() == ErrorKind::OutOfMemory => Err(RunFault::Text(
-            PlayFault::NoMemory,
-        )),
-        Err(_) => Err(RunFault::Text(PlayFault::Read)),
+    let mut piece = [0; PIECE];
+    loop {
+        let next = next_piece(most, bytes.len());
+        let Ok(count) = source.read(&mut piece[..next]) else {
+            return Err(RunFault::Text(PlayFault::Read));
+        };
+        if count == 0 {
+            return Ok(bytes);
+        }
+        if bytes.extend_from_slice(&piece[..count]).is_err() {
+            return Err(RunFault::Text(PlayFault::NoMemory));
+        }
     }
+}
+
+/// The bytes of a configuration or a load.
+pub fn read_document<O: Opener>(alloc: Global, opener: &O, name: &str) -> Result<Vec<u8>, RunFault>
+    ensures bytes { IfOk result (λ bytes. IfSome ((O.known opener.now).named name.now).bytes
+        (λ all. bytes.items ≡ document_bytes all)) }
+    ensures err { IfErr result (IsUnreadable ((O.known opener.now).named name.now).failed) }
+{
+    let mut file = open_file(opener, name)?;
+    read_bytes(alloc, &mut file, Some(DOCUMENT_BYTES))
 }

@@ -1,13 +1,13 @@
 //! Telling what a load needs, and whether a trace keeps to it.
-ghost use Rattle.std.specs.Prelude.{◌≡◌, ◌+◌, IfErr, IfOk};
+ghost use Rattle.std.specs.Prelude.{◌≡◌, ◌+◌, IfOk};
 ghost use Rattle.trace.specs.LinesProcessed.{reads_failed};
 ghost use Rattle.streams.specs.Streams.{given_by, taken_by, Stays};
 ghost use Rattle.sizing.specs.Fitting.{load_in};
-ghost use Rattle.metronome.specs.Faults.{IsUnreadable, failed_reads, failed_writes, LoadCountsReads};
-ghost use Rattle.metronome.specs.Loaded.{IsRest, LoadRead, LoadTold, TextMeasured, TextChecked, TextTold};
+ghost use Rattle.metronome.specs.Faults.{failed_reads, failed_writes};
+ghost use Rattle.metronome.specs.Loaded.{LoadRead, LoadTold, LoadCountsReads, TextMeasured, TextChecked, TextTold};
 
 use crate::fault::{Ending, RunFault};
-use crate::files::{Opener, read_document};
+use crate::files::{Opener, read_bytes, read_document};
 use inspector::load_kept::load_report;
 use player::survey_run;
 use settings::Config;
@@ -17,40 +17,15 @@ use std::alloc::Global;
 use streams::{MemorySource, Sink, Source, write_all};
 use trace::PlayFault;
 
-/// How many bytes of a source are asked for at a time.
-const PIECE: usize = 4096;
-
 /// The load that a file gives.
 fn load_of<O: Opener>(alloc: Global, opener: &O, name: &str) -> Result<AllocationProfile, RunFault>
-    ensures { LoadRead (O.contents opener.now name.now) result }
+    ensures { LoadRead ((O.known opener.now).named name.now) result }
 {
     let bytes = read_document(alloc, opener, name)?;
     match read_load(alloc, bytes.as_slice()) {
         Ok(load) => Ok(load),
         Err(LoadFault::Refused(why)) => Err(RunFault::Load(why)),
         Err(LoadFault::NoMemory) => Err(RunFault::Text(PlayFault::NoMemory)),
-    }
-}
-
-/// All bytes that a source has still to give.
-fn rest_of<S: Source>(alloc: Global, source: &mut S) -> Result<Vec<u8>, RunFault>
-    ensures rest { IfOk result (λ text. IsRest (given_by S.given S.ended source.old source.new) text.items) }
-    ensures unread { IfErr result IsUnreadable }
-    ensures reads { S.failures source.new ≡ S.failures source.old + failed_reads result }
-    ensures input { failed_reads result ≡ 0 → Stays (S.input source.old) (S.input source.new) }
-{
-    let mut text = Vec::new(alloc);
-    let mut piece = [0; PIECE];
-    loop {
-        let Ok(count) = source.read(&mut piece) else {
-            return Err(RunFault::Text(PlayFault::Read));
-        };
-        if count == 0 {
-            return Ok(text);
-        }
-        if text.extend_from_slice(&piece[..count]).is_err() {
-            return Err(RunFault::Text(PlayFault::NoMemory));
-        }
     }
 }
 
@@ -108,13 +83,13 @@ pub fn load_job<O: Opener, S: Source, K: Sink>(
     opener: &O,
     name: &str,
 ) -> Result<Ending, RunFault>
-    ensures done { LoadTold (O.contents opener.now name.now) config.now (given_by S.given S.ended source.old source.new)
+    ensures done { LoadTold ((O.known opener.now).named name.now) config.now (given_by S.given S.ended source.old source.new)
         (taken_by K.taken sink.old sink.new) result }
-    ensures reads { LoadCountsReads S.failures source.old source.new result }
+    ensures reads { LoadCountsReads ((O.known opener.now).named name.now) S.failures source.old source.new result }
     ensures input { failed_reads result ≡ 0 → Stays (S.input source.old) (S.input source.new) }
     ensures writes { K.failures sink.new ≡ K.failures sink.old + failed_writes result }
 {
     let load = load_of(alloc, opener, name)?;
-    let text = rest_of(alloc, source)?;
+    let text = read_bytes(alloc, source, None)?;
     tell_text(alloc, config, &load, text.as_slice(), sink)
 }

@@ -1,12 +1,14 @@
 //! A run of the program.
-ghost use Rattle.std.specs.Prelude.{◌≡◌, ◌+◌, [], Some, map, Result};
+ghost use Rattle.std.specs.Prelude.{◌≡◌, ◌+◌, [], map, Result, OnOk};
+ghost use Rattle.std.specs.Io.KnownBytes.{Appends};
 ghost use Rattle.metronome.specs.declared.fault.Ending.{Ending};
 ghost use Rattle.metronome.specs.declared.fault.RunFault.{RunFault};
 ghost use Rattle.streams.specs.Streams.{given_by, taken_by, Stays};
 ghost use Rattle.command_line.specs.declared.job.Job.TheVariants as jobs;
+ghost use Rattle.metronome.specs.Files.{no_file};
 ghost use Rattle.metronome.specs.Done.{JobDone, JobCountsReads, style_of, layout_of};
 ghost use Rattle.metronome.specs.Faults.{failed_reads, failed_writes};
-ghost use Rattle.metronome.specs.Run.{IsGivenOf, JobDoneOn, Obeyed, RunDone};
+ghost use Rattle.metronome.specs.Run.{IsGivenOf, JobDoneOn, Obeyed, RunDone, words_line};
 ghost use Rattle.metronome.specs.Status.{status_of};
 
 use crate::after::{Telling, after_play};
@@ -26,10 +28,10 @@ use player::Style;
 use settings::Config;
 use std::alloc::Global;
 use std::convert::AsStr;
-use std::io::{Read, Write};
+use std::io::{self, Write};
 use std::sync::Wait;
 use std::thread::Threads;
-use streams::{MemorySource, ReadSource, Sink, Source, write_all};
+use streams::{MemorySource, Sink, Source, write_all};
 use trace::PlayFault;
 
 /// What a run has of the machine: threads, memory, and files by their names.
@@ -43,27 +45,25 @@ struct Host<'a, O: Opener, T: Threads + Wait + Sync> {
 /// Runs the program: does what the words ask for, after the first, which is the program's name, writes the fault
 /// to the error stream if there is one, and answers the exit status. A failed write to the error stream changes
 /// no status, nor does what is told there beside the fault, where the words ask for that.
-pub fn run<S, O, R, K, E, T>(
+pub fn run<S, O, K, E, T>(
     rt: &T,
     alloc: Global,
     words: &[S],
     opener: &O,
-    input: R,
     sink: &mut K,
     errors: &mut E,
 ) -> u8
 where
     S: AsStr,
     O: Opener,
-    R: Read + Drop,
     K: Sink,
     E: Write,
     T: Threads + Wait + Sync,
     ensures { (how : Result Ending RunFault) × (result ≡ status_of how)
-        × RunDone (O.contents opener.now) (R.remaining input) (map S.text words.now) (taken_by K.taken sink.old sink.new) how
+        × RunDone (O.known opener.now) (map S.text words.now) (taken_by K.taken sink.old sink.new) how
         × (K.failures sink.new ≡ K.failures sink.old + failed_writes how) }
 {
-    let how = perform(rt, alloc, words, opener, input, sink, errors);
+    let how = perform(rt, alloc, words, opener, sink, errors);
     if let Err(fault) = &how {
         tell(errors, fault);
     }
@@ -84,29 +84,34 @@ fn status_of(how: &Result<Ending, RunFault>) -> u8
 /// Writes a fault as a line.
 pub fn tell<E: Write>(errors: &mut E, fault: &RunFault) {
     let _ = match fault {
-        RunFault::Words(text) => writeln!(errors, "metronome: {}", text.trim_end()),
+        RunFault::Words(text) => tell_words(errors, text.trim_end()),
         other => writeln!(errors, "metronome: {other}"),
     };
 }
 
+/// Writes why words are refused, as a line, or as lines where the text has several.
+fn tell_words<E: Write>(errors: &mut E, text: &str) -> io::Result<()>
+    ensures { OnOk result (Appends (E.contents errors.old) (E.contents errors.new) (words_line text.now)) }
+{
+    writeln!(errors, "metronome: {text}")
+}
+
 /// Does what the words ask for. Where they ask for progress, the lines that are read are reported on the error stream.
-fn perform<S, O, R, K, E, T>(
+fn perform<S, O, K, E, T>(
     rt: &T,
     alloc: Global,
     words: &[S],
     opener: &O,
-    input: R,
     sink: &mut K,
     errors: &mut E,
 ) -> Result<Ending, RunFault>
 where
     S: AsStr,
     O: Opener,
-    R: Read + Drop,
     K: Sink,
     E: Write,
     T: Threads + Wait + Sync,
-    ensures done { RunDone (O.contents opener.now) (R.remaining input) (map S.text words.now)
+    ensures done { RunDone (O.known opener.now) (map S.text words.now)
         (taken_by K.taken sink.old sink.new) result }
     ensures writes { K.failures sink.new ≡ K.failures sink.old + failed_writes result }
 {
@@ -120,18 +125,17 @@ where
         Err(WordsFault::NoMemory) => return Err(RunFault::Text(PlayFault::NoMemory)),
     };
     let host = Host { rt, alloc, opener };
-    obey(&host, &request, input, sink, errors)
+    obey(&host, &request, sink, errors)
 }
 
 /// Does what a request says, with the files that it names.
-fn obey<O: Opener, R: Read + Drop, K: Sink, E: Write, T: Threads + Wait + Sync>(
+fn obey<O: Opener, K: Sink, E: Write, T: Threads + Wait + Sync>(
     host: &Host<O, T>,
     request: &Request,
-    input: R,
     sink: &mut K,
     errors: &mut E,
 ) -> Result<Ending, RunFault>
-    ensures done { Obeyed (O.contents host.now.opener.now) (R.remaining input) request.now
+    ensures done { Obeyed (O.known host.now.opener.now) request.now
         (taken_by K.taken sink.old sink.new) result }
     ensures writes { K.failures sink.new ≡ K.failures sink.old + failed_writes result }
 {
@@ -141,10 +145,11 @@ fn obey<O: Opener, R: Read + Drop, K: Sink, E: Write, T: Threads + Wait + Sync>(
         return serve_alone(host, request, &config, sink, errors);
     };
     if name == "-" {
-        return serve(host, request, &config, ReadSource::new(input), sink, errors);
+        let input = host.opener.standard_input();
+        return serve(host, request, &config, input, sink, errors);
     }
     let file = open_file(host.opener, name)?;
-    serve(host, request, &config, ReadSource::new(file), sink, errors)
+    serve(host, request, &config, file, sink, errors)
 }
 
 /// Does the job of a request that has no other file: there is nothing to read.
@@ -155,7 +160,7 @@ fn serve_alone<O: Opener, K: Sink, E: Write, T: Threads + Wait + Sync>(
     sink: &mut K,
     errors: &mut E,
 ) -> Result<Ending, RunFault>
-    ensures done { JobDoneOn (O.contents host.now.opener.now) (Some []) request.now.job config.now
+    ensures done { JobDoneOn (O.known host.now.opener.now) no_file request.now.job config.now
         (taken_by K.taken sink.old sink.new) result }
     ensures writes { K.failures sink.new ≡ K.failures sink.old + failed_writes result }
 {
@@ -173,8 +178,8 @@ fn serve<S: Source + Drop, K: Sink, E: Write, O: Opener, T: Threads + Wait + Syn
     errors: &mut E,
 ) -> Result<Ending, RunFault>
     requires { S.given source ≡ [] }
-    ensures done { (after : S) × JobDone (O.contents host.now.opener.now) request.now.job config.now (given_by S.given S.ended source after)
-        (taken_by K.taken sink.old sink.new) result × JobCountsReads request.now.job S.failures source after result
+    ensures done { (after : S) × JobDone (O.known host.now.opener.now) request.now.job config.now (given_by S.given S.ended source after)
+        (taken_by K.taken sink.old sink.new) result × JobCountsReads (O.known host.now.opener.now) request.now.job S.failures source after result
         × IsGivenOf (S.input source) (given_by S.given S.ended source after) result }
     ensures writes { K.failures sink.new ≡ K.failures sink.old + failed_writes result }
 {
@@ -195,9 +200,9 @@ fn work<S: Source, K: Sink, O: Opener, T: Threads + Wait + Sync>(
     source: &mut S,
     sink: &mut K,
 ) -> Result<Ending, RunFault>
-    ensures done { JobDone (O.contents host.now.opener.now) job.now config.now
+    ensures done { JobDone (O.known host.now.opener.now) job.now config.now
         (given_by S.given S.ended source.old source.new) (taken_by K.taken sink.old sink.new) result }
-    ensures reads { JobCountsReads job.now S.failures source.old source.new result }
+    ensures reads { JobCountsReads (O.known host.now.opener.now) job.now S.failures source.old source.new result }
     ensures input { failed_reads result ≡ 0 → Stays (S.input source.old) (S.input source.new) }
     ensures writes { K.failures sink.new ≡ K.failures sink.old + failed_writes result }
 {
@@ -267,9 +272,9 @@ fn pages_job<S: Source, K: Sink, O: Opener, T: Threads + Wait + Sync>(
     sink: &mut K,
     by: Sizing,
 ) -> Result<Ending, RunFault>
-    ensures done { JobDone (O.contents host.now.opener.now) (jobs.Pages by.entry) config.now
+    ensures done { JobDone (O.known host.now.opener.now) (jobs.Pages by.entry) config.now
         (given_by S.given S.ended source.old source.new) (taken_by K.taken sink.old sink.new) result }
-    ensures reads { JobCountsReads (jobs.Pages by.entry) S.failures source.old source.new result }
+    ensures reads { JobCountsReads (O.known host.now.opener.now) (jobs.Pages by.entry) S.failures source.old source.new result }
     ensures input { failed_reads result ≡ 0 → Stays (S.input source.old) (S.input source.new) }
     ensures writes { K.failures sink.new ≡ K.failures sink.old + failed_writes result }
 {

@@ -2,7 +2,7 @@
 use crate::explain::silence::Silence;
 use crate::files::Opener;
 use std::alloc::Global;
-use std::io::{self, Read};
+use streams::Source;
 use trace::{Version, version_line};
 
 /// How many bytes are read at once, at most.
@@ -10,23 +10,6 @@ const PIECE: usize = 4096;
 
 /// How many bytes of a line are kept, at most. No line that is read has as many.
 const MOST_KEPT: usize = 512;
-
-/// Why a file can't be read to its end, if it can't.
-pub(crate) fn failure<O: Opener>(opener: &O, name: &str) -> Option<io::Error> {
-    let mut file = match opener.open(name) {
-        Ok(file) => file,
-        Err(error) => return Some(error),
-    };
-    let mut piece = [0; PIECE];
-    for _ in 0..u64::MAX {
-        match file.read(&mut piece) {
-            Ok(0) => return None,
-            Ok(_) => {}
-            Err(error) => return Some(error),
-        }
-    }
-    None
-}
 
 /// A line that is looked for, by its number from 1.
 #[derive(Drop)]
@@ -82,7 +65,7 @@ pub(crate) fn line_of<O: Opener>(
     let mut line = SoughtLine::new(alloc, number);
     let mut piece = [0; PIECE];
     for _ in 0..u64::MAX {
-        let count = file.read(&mut piece)?;
+        let count = file.read(&mut piece).map_err(|_| Silence)?;
         line.take_all(&piece[..count])?;
         if count == 0 || line.ended {
             break;

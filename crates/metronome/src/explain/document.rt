@@ -30,7 +30,7 @@ impl fmt::Display for Told<'_> {
 }
 
 /// The bytes of a document that was refused. A pipe or a device isn't read once more, and that is told.
-pub(crate) fn refused_bytes<O: Opener, E: Write>(
+fn refused_bytes<O: Opener, E: Write>(
     alloc: Global,
     opener: &O,
     name: &str,
@@ -44,9 +44,20 @@ pub(crate) fn refused_bytes<O: Opener, E: Write>(
     Ok(read_document(alloc, opener, name)?)
 }
 
-/// The table of a document that was refused for what stands in it.
-pub(crate) fn refused_table(alloc: Global, bytes: &[u8]) -> Result<Table, Silence> {
-    open_document(alloc, bytes, Silence, Silence).map_err(|_| Silence)
+/// The table of a document that was refused for what stands in it. Where it isn't TOML there is none, and that is told.
+pub(crate) fn refused_table<O: Opener, E: Write>(
+    alloc: Global,
+    opener: &O,
+    name: &str,
+    errors: &mut E,
+    is_toml: bool,
+) -> Result<Table, Silence> {
+    let bytes = refused_bytes(alloc, opener, name, errors)?;
+    if !is_toml {
+        tell_not_toml(alloc, name, bytes.as_slice(), errors)?;
+        return Err(Silence);
+    }
+    open_document(alloc, bytes.as_slice(), Silence, Silence).map_err(|_| Silence)
 }
 
 /// Tells how long a document may be.
@@ -61,7 +72,7 @@ pub(crate) fn tell_too_long<E: Write>(name: &str, errors: &mut E) -> Result<(), 
 }
 
 /// Tells why a document isn't TOML, in the words of its reader.
-pub(crate) fn tell_not_toml<E: Write>(
+fn tell_not_toml<E: Write>(
     alloc: Global,
     name: &str,
     bytes: &[u8],

@@ -1,5 +1,5 @@
 //! What is wrong with a load.
-use crate::explain::document::{Told, refused_bytes, refused_table, tell_not_toml, tell_too_long};
+use crate::explain::document::{Told, refused_table, tell_too_long};
 use crate::explain::quoted::Quoted;
 use crate::explain::silence::Silence;
 use crate::files::Opener;
@@ -20,14 +20,9 @@ pub(crate) fn explain_load<O: Opener, E: Write>(
     if fault == DocumentFault::TooLong {
         return tell_too_long(name, errors);
     }
-    let bytes = refused_bytes(alloc, opener, name, errors)?;
-    match fault {
-        DocumentFault::NotToml => tell_not_toml(alloc, name, bytes.as_slice(), errors),
-        _ => {
-            let table = refused_table(alloc, bytes.as_slice())?;
-            tell_fault(alloc, name, &table, errors, fault)
-        }
-    }
+    let is_toml = fault != DocumentFault::NotToml;
+    let table = refused_table(alloc, opener, name, errors, is_toml)?;
+    tell_fault(alloc, name, &table, errors, fault)
 }
 
 /// Tells what is wrong with the keys of a load.

@@ -8,7 +8,6 @@ use documents::read_config;
 use graph_heap::{Entry, Reference};
 use std::alloc::Global;
 use std::io::Write;
-use streams::ReadSource;
 use trace::transcripts::{Checked, check_entries};
 use trace::{EntryLine, read_entry, write_reply};
 
@@ -33,7 +32,7 @@ pub(crate) fn explain_reply<O: Opener, E: Write>(
     let bytes = read_document(alloc, opener, request.config)?;
     let config = read_config(alloc, bytes.as_slice()).map_err(|_| Silence)?;
     let mut reference = Reference::new(alloc, &config.limits())?;
-    let mut source = ReadSource::new(open_file(opener, name)?);
+    let mut source = open_file(opener, name)?;
     let Checked::Wrong(number) = check_entries(&mut source, &mut reference)? else {
         return Err(Silence);
     };

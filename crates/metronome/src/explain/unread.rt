@@ -1,5 +1,4 @@
 //! Which file can't be read.
-use crate::explain::again::failure;
 use crate::explain::quoted::Quoted;
 use crate::explain::silence::Silence;
 use crate::files::Opener;
@@ -49,7 +48,7 @@ fn tell_unread<O: Opener, E: Write>(
     if !opener.is_lasting(name) {
         return Ok(false);
     }
-    let Some(error) = failure(opener, name) else {
+    let Some(error) = opener.failure(name) else {
         return Ok(false);
     };
     let quoted = Quoted(name.as_bytes());

@@ -1,8 +1,11 @@
-use Rattle.metronome.proofs.Obeying.{document_read, left_of}
+use Rattle.streams.specs.Streams.{given_by}
+use Rattle.metronome.proofs.Obeying.{document_ok}
 use Rattle.metronome.proofs.files.read_document.Goals as goal
 
-pub returns-in-Ok-clause-bytes : goal.returns-in-Ok-clause-bytes
-returns-in-Ok-clause-bytes g c =
-    let known = g.O.Opener.contents c.args.opener.now c.args.name.now in
-    let stays = left_of known g.O.File.Read.remaining c.take-file.result.inner _ c.take-file.ensures.inner c.in_ok-open_file.ensures.file in
-    document_read known (g.O.File.Read.remaining c.take-file.result.inner) c.take-file.result.limit c.new-bytes.result.items c.read_to_end.new.buf.items stays c.take-file.ensures.limit c.new-bytes.ensures.items c.in-Ok.ensures.bytes
+pub returns-clause-bytes : goal.returns-clause-bytes
+returns-clause-bytes g c =
+    let file = c.in_ok-file.file in
+    let new = c.read_bytes.new.source in
+    let known = ((g.O.Opener.known c.args.opener.now).named c.args.name.now).bytes in
+    let given = given_by g.O.File.Source.given g.O.File.Source.ended file new in
+    document_ok (λ bytes. bytes.items) known (g.O.File.Source.input file) (g.O.File.Source.input new) given c.read_bytes.result c.in_ok-file.ensures.opened.2 c.in_ok-file.ensures.opened.0 c.read_bytes.ensures.input (g.met.O.File.Source.begins new) c.read_bytes.ensures.front

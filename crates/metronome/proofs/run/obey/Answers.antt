@@ -1,22 +1,28 @@
-use Rattle.std.proofs.Common.{Err, Ok, inl, inr, refl, subst, arith}
+use Rattle.std.proofs.Common.{Err, Ok, inl, inr, refl, subst, sym, arith}
 use Rattle.documents.specs.ConfigFile.{IsRead}
-use Rattle.trace.proofs.LinesProcessed.{stays_same}
 use Rattle.streams.specs.Streams.{taken_by}
+use Rattle.metronome.specs.Faults.{IsUnreadable}
+use Rattle.metronome.specs.Run.{other_file}
 use Rattle.metronome.proofs.Finishing.{failed_so}
 use Rattle.metronome.proofs.Failing.{unreadable_unwritten, settings_unwritten}
-use Rattle.metronome.proofs.Obeying.{config_read, job_on, left_of, none_given, on_file, on_input, of_file, of_none}
+use Rattle.metronome.proofs.Obeying.{config_read, job_from, job_of, other_input, other_named, other_none, unreadable_so, or_left, or_right}
 use Rattle.metronome.proofs.run.obey.Goals as goal
 
 pub returns-in_err-bytes : goal.returns-in_err-bytes
-returns-in_err-bytes g c = record {
-  done = inr (inr (c.in_err-bytes.field-0.0, c.in_err-bytes.ensures.err, (failed_so c.from_residual.result _ c.from_residual.ensures.1, refl)));
-  writes = omega (arith, unreadable_unwritten c.from_residual.result c.in_err-bytes.field-0.0 c.from_residual.ensures.1 c.in_err-bytes.ensures.err);
-}
+returns-in_err-bytes g c =
+    let files = g.O.Opener.known c.args.host.now.opener.now in
+    let request = c.args.request.now in
+    let fault = c.in_err-bytes.field-0.0 in
+    let failed = (files.named request.config.now).failed in
+    record {
+      done = inr (inr (fault, unreadable_so failed _ fault (or_left failed (other_file files request.file).failed) c.in_err-bytes.ensures.err, (failed_so c.from_residual.result _ c.from_residual.ensures.1, refl)));
+      writes = omega (arith, unreadable_unwritten c.from_residual.result failed fault c.from_residual.ensures.1 c.in_err-bytes.ensures.err);
+    }
 
 pub returns-in_err-config : goal.returns-in_err-config
 returns-in_err-config g c =
     let why = c.in_err-config.field-0.0 in
-    let known = g.O.Opener.contents c.args.host.now.opener.now c.args.request.now.config.now in
+    let known = ((g.O.Opener.known c.args.host.now.opener.now).named c.args.request.now.config.now).bytes in
     let read = config_read known c.in_ok-bytes.bytes.items (Err why) c.in_ok-bytes.ensures.bytes (subst (λ bytes. IsRead bytes (Err why)) c.as_slice.ensures.value c.in_err-config.ensures) in
     record {
       done = inr (inl (why, read, (failed_so c.from_residual-in_err-config.result _ c.from_residual-in_err-config.ensures.1, refl)));
@@ -24,42 +30,47 @@ returns-in_err-config g c =
     }
 
 pub returns-in_err-file : goal.returns-in_err-file
-returns-in_err-file g c = record {
-  done = inr (inr (c.in_err-file.field-0.0, c.in_err-file.ensures.err, (failed_so c.from_residual-in_err-file.result _ c.from_residual-in_err-file.ensures.1, refl)));
-  writes = omega (arith, unreadable_unwritten c.from_residual-in_err-file.result c.in_err-file.field-0.0 c.from_residual-in_err-file.ensures.1 c.in_err-file.ensures.err);
-}
+returns-in_err-file g c =
+    let files = g.O.Opener.known c.args.host.now.opener.now in
+    let request = c.args.request.now in
+    let fault = c.in_err-file.field-0.0 in
+    let name = c.in-Some.name in
+    let failed = (files.named name.now).failed in
+    let other = subst (λ f. IsUnreadable f.failed fault) (sym (other_named files request.file name c.in-Some.is c.if-eq.ensures)) c.in_err-file.ensures.err in
+    record {
+      done = inr (inr (fault, unreadable_so _ _ fault (or_right (files.named request.config.now).failed (other_file files request.file).failed) other, (failed_so c.from_residual-in_err-file.result _ c.from_residual-in_err-file.ensures.1, refl)));
+      writes = omega (arith, unreadable_unwritten c.from_residual-in_err-file.result failed fault c.from_residual-in_err-file.ensures.1 c.in_err-file.ensures.err);
+    }
 
 pub returns-then-eq-clause-done : goal.returns-then-eq-clause-done
 returns-then-eq-clause-done g c =
     let request = c.args.request.now in
     let config = c.in_ok-config.config in
-    let contents = g.O.Opener.contents c.args.host.now.opener.now in
-    let input = g.R.Read.remaining c.args.input in
+    let files = g.O.Opener.known c.args.host.now.opener.now in
     let taken = taken_by g.K.Sink.taken c.args.sink.now c.serve.new.sink in
-    let read = config_read (contents request.config.now) c.in_ok-bytes.bytes.items (Ok config) c.in_ok-bytes.ensures.bytes (subst (λ bytes. IsRead bytes (Ok config)) c.as_slice.ensures.value c.in_ok-config.ensures) in
-    let stays = none_given input (g.R.Read.remaining c.new.result.reader) _ c.new.ensures.given (left_of input g.R.Read.remaining c.new.result.reader c.args.input c.new.ensures.reader (stays_same input)) in
-    let done = job_on contents _ input _ request.job config taken c.serve.result c.new.ensures.given stays c.serve.ensures.done.1 c.serve.ensures.done.3 in
-    inl (config, read, of_file contents input request.file c.in-Some.name request.job config taken c.serve.result c.in-Some.is (on_input contents input c.in-Some.name.now request.job config taken c.serve.result c.if-eq.ensures done))
+    let read = config_read (files.named request.config.now).bytes c.in_ok-bytes.bytes.items (Ok config) c.in_ok-bytes.ensures.bytes (subst (λ bytes. IsRead bytes (Ok config)) c.as_slice.ensures.value c.in_ok-config.ensures) in
+    let served = c.serve.ensures.done in
+    let done = job_from files files.input g.O.Input.Source.given g.O.Input.Source.ended g.O.Input.Source.failures g.O.Input.Source.input c.standard_input-input.result served.0 request.job config taken c.serve.result c.standard_input-input.ensures served.1 served.2 served.3 in
+    inl (config, read, job_of files files.input _ request.job config taken c.serve.result (other_input files request.file c.in-Some.name c.in-Some.is c.if-eq.ensures) done)
 
 pub returns-clause-done : goal.returns-clause-done
 returns-clause-done g c =
     let request = c.args.request.now in
     let config = c.in_ok-config.config in
-    let contents = g.O.Opener.contents c.args.host.now.opener.now in
-    let input = g.R.Read.remaining c.args.input in
+    let files = g.O.Opener.known c.args.host.now.opener.now in
     let taken = taken_by g.K.Sink.taken c.args.sink.now c.serve-2.new.sink in
-    let read = config_read (contents request.config.now) c.in_ok-bytes.bytes.items (Ok config) c.in_ok-bytes.ensures.bytes (subst (λ bytes. IsRead bytes (Ok config)) c.as_slice.ensures.value c.in_ok-config.ensures) in
-    let known = contents c.in-Some.name.now in
-    let stays = none_given known (g.O.File.Read.remaining c.new-2.result.reader) _ c.new-2.ensures.given (left_of known g.O.File.Read.remaining c.new-2.result.reader c.in_ok-file.file c.new-2.ensures.reader c.in_ok-file.ensures.file) in
-    let done = job_on contents _ known _ request.job config taken c.serve-2.result c.new-2.ensures.given stays c.serve-2.ensures.done.1 c.serve-2.ensures.done.3 in
-    inl (config, read, of_file contents input request.file c.in-Some.name request.job config taken c.serve-2.result c.in-Some.is (on_file contents input c.in-Some.name.now request.job config taken c.serve-2.result c.if-eq.ensures done))
+    let read = config_read (files.named request.config.now).bytes c.in_ok-bytes.bytes.items (Ok config) c.in_ok-bytes.ensures.bytes (subst (λ bytes. IsRead bytes (Ok config)) c.as_slice.ensures.value c.in_ok-config.ensures) in
+    let name = c.in-Some.name in
+    let named = files.named name.now in
+    let served = c.serve-2.ensures.done in
+    let done = job_from files named g.O.File.Source.given g.O.File.Source.ended g.O.File.Source.failures g.O.File.Source.input c.in_ok-file.file served.0 request.job config taken c.serve-2.result c.in_ok-file.ensures.opened served.1 served.2 served.3 in
+    inl (config, read, job_of files named _ request.job config taken c.serve-2.result (other_named files request.file name c.in-Some.is c.if-eq.ensures) done)
 
 pub returns-in_default-clause-done : goal.returns-in_default-clause-done
 returns-in_default-clause-done g c =
     let request = c.args.request.now in
     let config = c.in_ok-config.config in
-    let contents = g.O.Opener.contents c.args.host.now.opener.now in
-    let input = g.R.Read.remaining c.args.input in
+    let files = g.O.Opener.known c.args.host.now.opener.now in
     let taken = taken_by g.K.Sink.taken c.args.sink.now c.serve_alone.new.sink in
-    let read = config_read (contents request.config.now) c.in_ok-bytes.bytes.items (Ok config) c.in_ok-bytes.ensures.bytes (subst (λ bytes. IsRead bytes (Ok config)) c.as_slice.ensures.value c.in_ok-config.ensures) in
-    inl (config, read, of_none contents input request.file request.job config taken c.serve_alone.result c.in_default.is c.serve_alone.ensures.done)
+    let read = config_read (files.named request.config.now).bytes c.in_ok-bytes.bytes.items (Ok config) c.in_ok-bytes.ensures.bytes (subst (λ bytes. IsRead bytes (Ok config)) c.as_slice.ensures.value c.in_ok-config.ensures) in
+    inl (config, read, job_of files _ _ request.job config taken c.serve_alone.result (other_none files request.file c.in_default.is) c.serve_alone.ensures.done)

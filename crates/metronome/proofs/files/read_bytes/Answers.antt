@@ -1,5 +1,5 @@
 use Rattle.trace.proofs.LinesProcessed.{stays_on}
-use Rattle.metronome.proofs.load_job.rest_of.Goals as goal
+use Rattle.metronome.proofs.files.read_bytes.Goals as goal
 
 pub returns-then-count-eq0-clause-input : goal.returns-then-count-eq0-clause-input
 returns-then-count-eq0-clause-input g c none =

@@ -1,0 +1,16 @@
+use Rattle.std.proofs.Common.{◌≡◌, ◌-◌, ◌^◌, ◌≤◌, ◌++◌, length}
+use Rattle.std.specs.Prelude.{IfSome}
+use Rattle.streams.specs.Streams.{Stays}
+use Rattle.metronome.proofs.files.read_bytes.Given as goal
+
+-- the bytes are what the source gave, and no more than are the most; what is known of its input stays, and no read has failed
+abbrev pub invariant-loop-count : goal.invariant-loop-count
+invariant-loop-count g l = record {
+  bytes : g.S.Source.given l.source ≡ g.S.Source.given l.fn.source ++ l.bytes.items;
+  within : IfSome l.fn.most (λ n. length l.bytes.items ≤ n);
+  input : Stays (g.S.Source.input l.fn.source) (g.S.Source.input l.source);
+  failures : g.S.Source.failures l.source ≡ g.S.Source.failures l.fn.source;
+}
+
+abbrev pub decreases-loop-count : goal.decreases-loop-count
+decreases-loop-count g l = 2 ^ 64 - length (g.S.Source.given l.source)

@@ -61,7 +61,12 @@ fn threads<'a>(alloc: Global) -> Result<Command<'a>, AllocError>
 fn inspect<'a>(alloc: Global) -> Result<Command<'a>, AllocError>
     ensures { IfOk result (IsSubcommand words.inspect) }
 {
-    let by = word(alloc, "by", "PART", "By what to report: page or size");
+    let by = word(
+        alloc,
+        "by",
+        "PART",
+        "By what to report: page, shape or size",
+    );
     on_trace(alloc, "inspect", "Play a trace and report the heap")?
         .arg(by.default_value("page"))?
         .arg(after(alloc))

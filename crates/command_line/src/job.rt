@@ -18,6 +18,8 @@ pub enum Report {
     Pages,
     /// By size class.
     Sizes,
+    /// By the shapes of objects.
+    Shapes,
 }
 
 /// What the pages that suffice are reckoned from.

@@ -203,14 +203,13 @@ fn chosen<T: Copy>(
 fn report(alloc: Global, name: &str) -> Result<Report, Refusal>
     ensures { IfOk result (λ report. name.now ≡ report_name report) }
 {
-    let reports = [("page", Report::Pages), ("size", Report::Sizes)];
-    chosen(
-        alloc,
-        name,
-        &reports,
-        "--by <PART>",
-        "neither page nor size",
-    )
+    let reports = [
+        ("page", Report::Pages),
+        ("size", Report::Sizes),
+        ("shape", Report::Shapes),
+    ];
+    let expected = "none of page, shape and size";
+    chosen(alloc, name, &reports, "--by <PART>", expected)
 }
 
 /// What draws the picture of a name. A picture over the events is of all of them, and objects are counted of a graph

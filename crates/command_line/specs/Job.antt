@@ -34,6 +34,7 @@ picture_name pictures.Events = codes "events"
 abbrev pub report_name : Report → List ℕ
 report_name reports.Pages = codes "page"
 report_name reports.Sizes = codes "size"
+report_name reports.Shapes = codes "shape"
 
 -- The job draws the picture of this name: of a heap after this many event lines; of at most this many objects of its
 -- graph; or over all events.

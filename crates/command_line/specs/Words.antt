@@ -10,7 +10,7 @@ use Rattle.command_line.specs.declared.job.Job.{Job}
 use Rattle.command_line.specs.declared.job.Job.TheVariants.{Play, Check, Threads, Inspect, Cycles, Path, Mmu, Pages, Plan}
 use Rattle.command_line.specs.declared.job.Request.{Request}
 use Rattle.command_line.specs.declared.job.Sizing.{Sizing}
-use Rattle.command_line.specs.declared.job.Sizing.TheVariants.{Demand, Pace, Load}
+use Rattle.command_line.specs.declared.job.Sizing.TheVariants.{Demand, Pace, Load, Plan as By_plan}
 use Rattle.command_line.specs.declared.fault.WordsFault.{WordsFault}
 use Rattle.command_line.specs.declared.fault.WordsFault.TheVariants.{Help}
 use Rattle.command_line.specs.Job.{IsDrawing, report_name}
@@ -31,11 +31,12 @@ abbrev pub IsFlag : Option Text → Bool → Type 0
 IsFlag None set = set ≡ false
 IsFlag (Some text) set = (text ≡ codes "true" → set ≡ true) × (text ≡ codes "false" → set ≡ false)
 
--- what the pages are reckoned from, by the flag for the pace and the name of a load's file
-abbrev pub IsSizing : Bool → Option Text → Sizing → Type 0
-IsSizing pace load Demand = (pace ≡ false) × (load ≡ None)
-IsSizing pace load Pace = (pace ≡ true) × (load ≡ None)
-IsSizing pace load (Load file) = (pace ≡ false) × (load ≡ Some file.now)
+-- what the pages are reckoned from, by the flags for the pace and for a plan and the name of a load's file
+abbrev pub IsSizing : Bool → Bool → Option Text → Sizing → Type 0
+IsSizing pace plan load Demand = (pace ≡ false) × (plan ≡ false) × (load ≡ None)
+IsSizing pace plan load Pace = (pace ≡ true) × (plan ≡ false) × (load ≡ None)
+IsSizing pace plan load (Load file) = (pace ≡ false) × (plan ≡ false) × (load ≡ Some file.now)
+IsSizing pace plan load By_plan = (pace ≡ false) × (plan ≡ true) × (load ≡ None)
 
 -- what is drawn, by the name of its picture
 abbrev pub IsDrawn : List Row → Job → Type 0
@@ -60,7 +61,8 @@ Asks name rows (Mmu windows) = (name ≡ codes "mmu")
     × AllZip (λ word ticks. IsNumber 64 (Some word) (Some ticks)) (unwrap_or (all_of (codes "WINDOW") rows) [])
     windows.items
 Asks name rows (Pages by) = (name ≡ codes "pages")
-    × (pace : Bool) × IsFlag (one_of (codes "pace") rows) pace × IsSizing pace (first_of (codes "load") rows) by
+    × (pace : Bool) × IsFlag (one_of (codes "pace") rows) pace × (plan : Bool) × IsFlag (one_of (codes "plan") rows) plan
+    × IsSizing pace plan (first_of (codes "load") rows) by
 Asks name rows (Plan live) = (name ≡ codes "plan") × IsNumberOrZero 64 (one_of (codes "live") rows) live
 Asks name rows drawing = (name ≡ codes "draw") × IsDrawn rows drawing
 

@@ -61,7 +61,12 @@ fn threads<'a>(alloc: Global) -> Result<Command<'a>, AllocError>
 fn inspect<'a>(alloc: Global) -> Result<Command<'a>, AllocError>
     ensures { IfOk result (IsSubcommand words.inspect) }
 {
-    let by = word(alloc, "by", "PART", "By what to report: page or size");
+    let by = word(
+        alloc,
+        "by",
+        "PART",
+        "By what to report: page, shape or size",
+    );
     on_trace(alloc, "inspect", "Play a trace and report the heap")?
         .arg(by.default_value("page"))?
         .arg(after(alloc))
@@ -114,9 +119,11 @@ fn pages<'a>(alloc: Global) -> Result<Command<'a>, AllocError>
     let about = "Play a trace and tell how many pages suffice for it";
     let pace = "Tell what the pace needs, whenever its cycles begin";
     let load = "Tell what the load in this file needs, in TOML, and whether the trace keeps to it";
+    let plan = "Tell the plans by which a heap paces itself, for the most words that are live";
     on_trace(alloc, "pages", about)?
         .arg(flag(alloc, "pace", pace))?
-        .arg(word(alloc, "load", "FILE", load))
+        .arg(word(alloc, "load", "FILE", load))?
+        .arg(flag(alloc, "plan", plan))
 }
 
 fn plan<'a>(alloc: Global) -> Result<Command<'a>, AllocError>

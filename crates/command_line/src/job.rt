@@ -18,6 +18,8 @@ pub enum Report {
     Pages,
     /// By size class.
     Sizes,
+    /// By the shapes of objects.
+    Shapes,
 }
 
 /// What the pages that suffice are reckoned from.
@@ -29,6 +31,8 @@ pub enum Sizing<'a> {
     Pace,
     /// The load in the file of this name.
     Load(&'a str),
+    /// The most words that the trace has live, for which a heap that paces itself is to have a plan.
+    Plan,
 }
 
 /// What is done with the configuration, and with the other file if there is one.

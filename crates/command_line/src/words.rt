@@ -144,7 +144,12 @@ fn run_job<'a>(alloc: Global, name: &str, found: &ArgMatches<'a>) -> Result<Job<
             windows: windows_of(alloc, found.get_strs("WINDOW").unwrap_or(&[]))?,
         }),
         "pages" => Ok(Job::Pages {
-            by: sizing(alloc, flag(found, "pace"), word(found, "load"))?,
+            by: sizing(
+                alloc,
+                flag(found, "pace"),
+                flag(found, "plan"),
+                word(found, "load"),
+            )?,
         }),
         _ => Err(refused(alloc, "a subcommand is missing")),
     }
@@ -198,14 +203,13 @@ fn chosen<T: Copy>(
 fn report(alloc: Global, name: &str) -> Result<Report, Refusal>
     ensures { IfOk result (λ report. name.now ≡ report_name report) }
 {
-    let reports = [("page", Report::Pages), ("size", Report::Sizes)];
-    chosen(
-        alloc,
-        name,
-        &reports,
-        "--by <PART>",
-        "neither page nor size",
-    )
+    let reports = [
+        ("page", Report::Pages),
+        ("size", Report::Sizes),
+        ("shape", Report::Shapes),
+    ];
+    let expected = "none of page, shape and size";
+    chosen(alloc, name, &reports, "--by <PART>", expected)
 }
 
 /// What draws the picture of a name. A picture over the events is of all of them, and objects are counted of a graph
@@ -245,18 +249,24 @@ fn without(alloc: Global, number: Option<u32>, argument: &str, name: &str) -> Re
 }
 
 /// What the pages are reckoned from: one way at most is asked for.
-fn sizing<'a>(alloc: Global, pace: bool, load: Option<&'a str>) -> Result<Sizing<'a>, Refusal>
-    ensures { IfOk result (IsSizing pace (option_map (λ file. file.now) load.entry)) }
+fn sizing<'a>(
+    alloc: Global,
+    pace: bool,
+    plan: bool,
+    load: Option<&'a str>,
+) -> Result<Sizing<'a>, Refusal>
+    ensures { IfOk result (IsSizing pace plan (option_map (λ file. file.now) load.entry)) }
 {
-    match (pace, load) {
-        (false, None) => Ok(Sizing::Demand),
-        (true, None) => Ok(Sizing::Pace),
-        (false, Some(file)) => Ok(Sizing::Load(file)),
-        (true, Some(_)) => {
-            let why = "the argument '--pace' cannot be used with '--load <FILE>'";
-            Err(refused(alloc, why))
-        }
-    }
+    let why = match (pace, plan, load) {
+        (false, false, None) => return Ok(Sizing::Demand),
+        (true, false, None) => return Ok(Sizing::Pace),
+        (false, true, None) => return Ok(Sizing::Plan),
+        (false, false, Some(file)) => return Ok(Sizing::Load(file)),
+        (true, true, _) => "the argument '--pace' cannot be used with '--plan'",
+        (true, false, Some(_)) => "the argument '--pace' cannot be used with '--load <FILE>'",
+        (false, true, Some(_)) => "the argument '--plan' cannot be used with '--load <FILE>'",
+    };
+    Err(refused(alloc, why))
 }
 
 /// The picture of a heap of a name.

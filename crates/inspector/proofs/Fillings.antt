@@ -18,7 +18,7 @@ module _ (class inside : ℕ) where
   same_view : {a b : PageView} → Some a ≡ Some b → a ≡ b
   same_view e = cc
 
-  class_told : (p : Page) (v : PageView) → Some v ≡ view_of (Some p) → p.class ≡ v.class
+  pub class_told : (p : Page) (v : PageView) → Some v ≡ view_of (Some p) → p.class ≡ v.class
   class_told p v e = sym (ap (λ (x : PageView). x.class) (same_view e))
 
   chosen : (p : Page) (b : Bool) → (p.class == class) ≡ b → filling_by class (Some p) inside ≡ (if b then page_filling class (allocated_on (Some p)) inside else nothing)

@@ -1,5 +1,7 @@
 pub mod Report
 pub mod Filling
+pub mod Shapes
+pub mod Counted
 pub mod ClassLines
 pub mod NeededReport
 pub mod LoadReport

@@ -10,8 +10,10 @@ mod lines;
 pub mod load_kept;
 pub mod pages_needed;
 mod reporting;
+mod shapes;
 
 pub use by_size::report_sizes;
 pub use cycles::{Cycle, Cycles, Layout, Log, Sweep, cycles_text};
 pub use fault::WriteFault;
 pub use reporting::report;
+pub use shapes::shapes_text;

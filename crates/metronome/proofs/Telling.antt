@@ -3,12 +3,12 @@ use Rattle.std.proofs.Common.{◌≡◌, ℕ, subst, append-nil, List, [], ◌�
 use Rattle.std.specs.Prelude.{Result, Ok, Err, IfErr}
 use Rattle.std.specs.Result.{IsErrAnd}
 use Rattle.std.specs.List.{AllZip, concat}
-use Rattle.std.proofs.lemmas.List.Folds.{concat-append}
 use Rattle.settings.specs.declared.config.Config.{Config}
 use Rattle.quanta.specs.Timetable.{Timetable, with_reserved}
 use Rattle.trace.specs.declared.fault.PlayFault.TheVariants.{Write, NoMemory}
 use Rattle.streams.specs.Streams.{GrowsByPart}
 use Rattle.inspector.proofs.Parts.{part_after}
+use Rattle.plans.proofs.Rows.{zip_more, concat_more}
 use Rattle.metronome.specs.declared.fault.RunFault.{RunFault}
 use Rattle.metronome.specs.declared.fault.RunFault.TheVariants.{Text}
 use Rattle.metronome.specs.Windows.{IsWindowLine, AllTold, FirstTold}
@@ -17,15 +17,6 @@ use Rattle.metronome.specs.Windows.{IsWindowLine, AllTold, FirstTold}
 pub err_so : {A E : Type 0} (r : Result A E) (P Q : E → Type 0) → ((e : E) → P e → Q e) → IsErrAnd r P → IfErr r Q
 err_so (Ok x) P Q f h = tt
 err_so (Err e) P Q f h = f e h
-
-zip_more : {A B : Type 0} (R : A → B → Type 0) (xs : List A) (ys : List B) (x : A) (y : B) → AllZip R xs ys → R x y → AllZip R (xs ++ x ∷ []) (ys ++ y ∷ [])
-zip_more R [] [] x y h r = (r, tt)
-zip_more R [] (b ∷ ys) x y h r = elim h [ ]
-zip_more R (a ∷ xs) [] x y h r = elim h [ ]
-zip_more R (a ∷ xs) (b ∷ ys) x y h r = (h.0, zip_more R xs ys x y h.1 r)
-
-concat_more : (lines : List (List ℕ)) (line : List ℕ) → concat (lines ++ line ∷ []) ≡ concat lines ++ line
-concat_more lines line = concat-append lines (line ∷ []) ∙ ap (λ t. concat lines ++ t) (append-nil line)
 
 module _ (config : Config) (t : Timetable) (first : List ℕ) (old mid : List ℕ) (so : AllTold config t first old mid) where
   -- behind these lines memory was refused

@@ -21,6 +21,8 @@ use Rattle.inspector.specs.NeededReport.{needed_told, IsPaceReport}
 use Rattle.sizing.specs.declared.measured.Measured.{Measured}
 use Rattle.sizing.specs.Measured.{least_units, HasUnits}
 use Rattle.sizing.specs.Measuring.{TraceMeasured}
+use Rattle.plans.specs.Live.{MostLiveFound}
+use Rattle.plans.specs.Report.{IsPlansReport}
 use Rattle.metronome.specs.declared.answer_job.Answer.{Answer}
 use Rattle.metronome.specs.declared.answer_job.Question.{Question}
 use Rattle.metronome.specs.declared.answer_job.Question.TheVariants as questions
@@ -82,11 +84,17 @@ abbrev pub PagesTold : Bool → Config → Given → Result Answer PlayFault →
 PagesTold pace config given answered = (how : Result Measured PlayFault) × TraceMeasured config given how
     × AnswerOf (λ m answer. TellsPages pace config m (string_bytes answer.text) × (answer.ending ≡ Done)) how answered
 
+-- A trace was played on a new heap, and the plans are told for the most words that its live objects had.
+abbrev pub PlanTold : Config → Given → Result Answer PlayFault → Type 0
+PlanTold config given answered = (how : Result ℕ PlayFault) × MostLiveFound config given how
+    × AnswerOf (λ live answer. IsPlansReport config live (string_bytes answer.text) × (answer.ending ≡ Done)) how answered
+
 -- the answer to a question about an input
 abbrev pub IsAnswer : Question → Config → Given → Result Answer PlayFault → Type 0
 IsAnswer questions.History config given answered = HistoryChecked config given answered
 IsAnswer (questions.Cycles layout) config given answered = CyclesTold layout config given answered
 IsAnswer (questions.Pages pace) config given answered = PagesTold pace config given answered
+IsAnswer questions.Plan config given answered = PlanTold config given answered
 
 -- an answer is written
 abbrev pub AnswerWritten : Answer → Taken → Result Ending RunFault → Type 0

@@ -4,7 +4,7 @@ use Rattle.settings.specs.declared.config.Config.{Config}
 use Rattle.heap_model.specs.Event.{present_of}
 use Rattle.streams.specs.Streams.{Given, Taken}
 use Rattle.command_line.specs.declared.job.Job.{Job}
-use Rattle.command_line.specs.declared.job.Sizing.TheVariants.{Demand, Pace, Load}
+use Rattle.command_line.specs.declared.job.Sizing.TheVariants.{Demand, Pace, Load, Plan as By_plan}
 use Rattle.command_line.specs.declared.job.Job.TheVariants.{Play, Check, Threads, Inspect, Cycles, Path, Mmu, Draw, DrawGraph, DrawTime, Pages, Plan}
 use Rattle.plans.specs.Report.{IsPlansReport}
 use Rattle.player.specs.declared.style.Style.{Style}
@@ -50,6 +50,7 @@ JobDone files DrawTime config = TimeDrawn config
 JobDone files (Pages Demand) config = Answered (questions.Pages false) config
 JobDone files (Pages Pace) config = Answered (questions.Pages true) config
 JobDone files (Pages (Load file)) config = LoadTold (files.named file.now) config
+JobDone files (Pages By_plan) config = Answered questions.Plan config
 JobDone files (Plan live) config = λ given. ReportTold (IsPlansReport config live)
 
 -- a job counts the failed reads of its source; one by a load may end before it reads

@@ -12,6 +12,7 @@ use Rattle.player.specs.Player.{PlayerState}
 use Rattle.pictures.specs.PathText.{PathTold}
 use Rattle.inspector.specs.Filling.{sizes_told}
 use Rattle.inspector.specs.Report.{report_of}
+use Rattle.inspector.specs.Shapes.{ShapesTold}
 use Rattle.command_line.specs.declared.job.Picture.{Picture}
 use Rattle.command_line.specs.declared.job.Picture.TheVariants as pictures
 use Rattle.command_line.specs.declared.job.Report.{Report}
@@ -30,10 +31,11 @@ use Rattle.metronome.specs.declared.fault.RunFault.TheVariants.{Text}
 use Rattle.metronome.specs.Told.{ReportTold, TextWritten}
 use Rattle.metronome.specs.Windows.{AllTold, FirstTold}
 
--- the text of a report of a heap: page by page, or by size class
-abbrev pub report_by : Report → HeapState → List ℕ
-report_by reports.Pages h = report_of h
-report_by reports.Sizes h = sizes_told h
+-- a report of a heap is written: page by page, by size class, or by shape
+abbrev pub HeapReported : Report → HeapState → Taken → Result Ending RunFault → Type 0
+HeapReported reports.Pages h taken result = TextWritten Done (report_of h) taken result
+HeapReported reports.Sizes h taken result = TextWritten Done (sizes_told h) taken result
+HeapReported reports.Shapes h taken result = ReportTold (ShapesTold h) taken result
 
 -- the text of a picture of a player: of the pages of its heap, of the shares that its timetable left the mutators, or of
 -- the quanta in its timetable
@@ -69,7 +71,7 @@ WindowsTold config t windows taken (Err fault) = FirstTold config t windows faul
 
 -- what is reported, by its kind
 abbrev pub Tells : Telling → Config → PlayerState → Taken → Result Ending RunFault → Type 0
-Tells (tellings.Report by) config p taken result = TextWritten Done (report_by by p.course.heap) taken result
+Tells (tellings.Report by) config p taken result = HeapReported by p.course.heap taken result
 Tells (tellings.Picture picture) config p taken result = PictureDrawn picture config p taken result
 Tells (tellings.Graph most) config p taken result = GraphTold most (present_of p.course) taken result
 Tells (tellings.Path id) config p taken result =

@@ -85,7 +85,7 @@ fn tell<K: Sink>(
     ensures writes { K.failures sink.new ≡ K.failures sink.old + failed_writes result }
 {
     match telling {
-        Telling::Report(by) => tell_report(player, by, sink),
+        Telling::Report(by) => tell_report(alloc, player, by, sink),
         Telling::Picture(picture) => tell_picture(config, player, picture, sink),
         Telling::Graph(most) => {
             let graph = graph_after(alloc, config, player)?;

@@ -10,6 +10,7 @@ use crate::fault::{Ending, RunFault};
 use graph_heap::Reference;
 use inspector::pages_needed::{Scope, needed_report, pace_report};
 use inspector::{Layout, Log, cycles_text};
+use plans::{LiveMeter, plans_report};
 use player::survey_run;
 use settings::Config;
 use sizing::{Measured, Meter};
@@ -29,6 +30,8 @@ pub enum Question {
     /// of the configuration do, no reply of this run was the refusal for lack of space, nor is one of any run that
     /// needs no more.
     Pages { pace: bool },
+    /// By which plans a heap paces itself, for the most words of blocks that live objects have in the run of a trace.
+    Plan,
 }
 
 /// A text that is written, and how the run then ends.
@@ -125,6 +128,10 @@ fn answer_to<S: Source>(
         Question::Pages { pace } => {
             let measured = survey_run::<Meter, S>(alloc, config, source)?;
             offer(pages_text(alloc, config, &measured, pace), Ending::Done)
+        }
+        Question::Plan => {
+            let live = survey_run::<LiveMeter, S>(alloc, config, source)?;
+            offer(plans_report(alloc, config, live), Ending::Done)
         }
     }
 }

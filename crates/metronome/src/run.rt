@@ -283,5 +283,6 @@ fn pages_job<S: Source, K: Sink, O: Opener, T: Threads + Wait + Sync>(
         Sizing::Demand => answer_job(alloc, config, source, sink, Question::Pages { pace: false }),
         Sizing::Pace => answer_job(alloc, config, source, sink, Question::Pages { pace: true }),
         Sizing::Load(file) => load_job(alloc, config, source, sink, host.opener, file),
+        Sizing::Plan => answer_job(alloc, config, source, sink, Question::Plan),
     }
 }

@@ -4,7 +4,6 @@ use Rattle.std.proofs.lemmas.List.{drop_more}
 use Rattle.quanta.specs.declared.interval.Interval.{Interval}
 use Rattle.quanta.specs.Intervals.{IsRisingFrom}
 use Rattle.quanta.specs.Timetable.{Timetable}
-use Rattle.streams.specs.Streams.{GrowsByPart}
 use Rattle.pictures.specs.declared.events.TraceEvent.{TraceEvent}
 use Rattle.pictures.specs.Events.{event_line, json_text, quantum_events, quanta_events, events_head, events_tail, events_of}
 use Rattle.pictures.proofs.Parts.{IsText}
@@ -36,18 +35,7 @@ module _ (from : ℕ) (quanta : List Interval) (d : Interval) (k : ℕ) (l : k <
     pub rising_behind : IsRisingFrom (get_or quanta k d).end (drop (k + 1) quanta)
     rising_behind = next.2
 
-module _ (t : Timetable) where
-  -- what stands before the events of quanta, and what comes behind it
-  pub whole_is : (head : List TraceEvent) → head ≡ events_head → events_of t ≡ head ++ (quanta_events 0 t.intervals ++ events_tail t)
-  whole_is head is = ap (λ xs. xs ++ (quanta_events 0 t.intervals ++ events_tail t)) (sym is)
-
-  -- these events, and what stands behind them
-  pub rest_is : (quanta : List Interval) → quanta ≡ t.intervals → quanta_events 0 t.intervals ++ events_tail t ≡ quanta_events 0 quanta ++ events_tail t
-  rest_is quanta is = ap (λ qs. quanta_events 0 qs ++ events_tail t) (sym is)
-
-  -- what is written behind them
-  pub tail_written : (tail : List TraceEvent) (old new : List ℕ) → tail ≡ events_tail t → new ≡ old ++ json_text tail → new ≡ old ++ json_text (events_tail t)
-  tail_written tail old new is e = e ∙ ap (λ xs. old ++ json_text xs) is
-
-  pub tail_cut : (tail : List TraceEvent) (old new : List ℕ) → tail ≡ events_tail t → GrowsByPart old new (json_text tail) → GrowsByPart old new (json_text (events_tail t))
-  tail_cut tail old new is g = let Part : List TraceEvent → Type 0 = λ xs. GrowsByPart old new (json_text xs) in subst Part is g
+-- all events of a timetable, in parts
+pub events_are : (t : Timetable) (head : List TraceEvent) (quanta : List Interval) (tail : List TraceEvent) → head ≡ events_head → quanta ≡ t.intervals → tail ≡ events_tail t → events_of t ≡ head ++ (quanta_events 0 quanta ++ tail)
+events_are t head quanta tail h q e =
+    ap (λ xs. xs ++ (quanta_events 0 t.intervals ++ events_tail t)) (sym h) ∙ ap (λ qs. head ++ (quanta_events 0 qs ++ events_tail t)) (sym q) ∙ ap (λ xs. head ++ (quanta_events 0 quanta ++ xs)) (sym e)

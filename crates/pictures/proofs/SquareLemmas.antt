@@ -10,17 +10,13 @@ use Rattle.pictures.specs.declared.colour.Colour.{Colour}
 use Rattle.pictures.specs.declared.colour.Colour.TheVariants.{Blue}
 use Rattle.pictures.specs.declared.element.Anchor.TheVariants.{Start}
 use Rattle.pictures.specs.declared.element.Element.{Element}
-use Rattle.pictures.specs.declared.element.Element.TheVariants.{Group, Veil, Text, GroupEnd}
+use Rattle.pictures.specs.declared.element.Element.TheVariants.{Group, Veil, Text, GroupEnd, PathEnd}
 use Rattle.pictures.specs.declared.layers.Layer.{Layer}
 use Rattle.pictures.specs.declared.squares.Squares.{Squares}
 use Rattle.pictures.specs.declared.squares.Squares.TheVariants.{Small}
 use Rattle.pictures.specs.Lines.{each_from}
-use Rattle.pictures.specs.PageMap.{row_number, free_from, density_of, mark_of, mark_band, used_square, page_square, square, drawn_of, stroke_at, layer_shown}
+use Rattle.pictures.specs.PageMap.{row_number, free_from, density_of, mark_of, mark_band, used_square, page_square, square, layer_path, layer_shown, strokes}
 use Rattle.pictures.specs.Squares.{square_x, square_y, scale_of}
-
--- what is drawn of a page by its number
-abbrev pub numbered : Squares → List (Option Page) → ℕ → Option Page → List Element
-numbered squares pages number page = drawn_of squares pages number
 
 -- what is drawn of the next page by its number, and of those behind it
 pub page_on : (drawn : ℕ → Option Page → List Element) (pages : List (Option Page)) (k : ℕ) → k < length pages
@@ -28,23 +24,13 @@ pub page_on : (drawn : ℕ → Option Page → List Element) (pages : List (Opti
 page_on drawn pages k l =
     ap (each_from drawn k) (drop-cons pages k None l) ∙ ap (λ n. drawn k (get_or pages k None) ++ each_from drawn (k + 1) (drop n pages)) (sym (add-one k))
 
--- what a layer has of a page by its number
-abbrev pub layered : List (Option Page) → Layer → ℕ → Option Page → List Element
-layered pages layer number page = stroke_at layer pages number
+-- a layer, in parts
+pub layer_is : (pages : List (Option Page)) (layer : Layer) (path : Element) → path ≡ layer_path layer → layer_shown pages layer ≡ (path ∷ []) ++ (strokes pages layer ++ PathEnd ∷ [])
+layer_is pages layer path is = ap (λ e. e ∷ (strokes pages layer ++ PathEnd ∷ [])) (sym is)
 
 -- what is drawn of a layer
 abbrev pub layer_of : List (Option Page) → ℕ → Layer → List Element
 layer_of pages place layer = layer_shown pages layer
-
--- the number of a page, if it is the first of a row
-abbrev pub row_numbered : ℕ → Option Page → List Element
-row_numbered number page = row_number (square_x Small number) (square_y Small number) 1 number
-
--- the next number, and those behind it
-pub number_on : (pages : List (Option Page)) (k x y : ℕ) → x ≡ square_x Small k → y ≡ square_y Small k → k < length pages
-    → each_from row_numbered k (drop k pages) ≡ row_number x y 1 k ++ each_from row_numbered (k + 1) (drop (k + 1) pages)
-number_on pages k x y left top l =
-    page_on row_numbered pages k l ∙ ap (λ xs. xs ++ each_from row_numbered (k + 1) (drop (k + 1) pages)) (cc (left, top))
 
 -- what is drawn of a page, in parts
 pub square_is : (squares : Squares) (number x y scale bar bar' : ℕ) (page page' : Option PageView) → x ≡ square_x squares number → y ≡ square_y squares number → scale ≡ scale_of squares → bar' ≡ bar → page' ≡ page

@@ -70,15 +70,24 @@ fn put_quoted(out: &mut [u8], at: usize, first: &[u8], a: u32, second: &[u8], b:
     put(out, end, b"'")
 }
 
+/// Puts a colour between two texts.
+fn put_coloured(out: &mut [u8], at: usize, name: &[u8], colour: Colour, then: &[u8]) -> usize
+    requires { at + length name.now + length then.now + 7 ≤ length out.old }
+    ensures text { take result out.new ≡ take at out.old ++ (name.now ++ colour_code colour ++ then.now) }
+    ensures place { result ≤ at + length name.now + length then.now + 7 }
+{
+    let end = put(out, at, name);
+    let end = put(out, end, colour.code());
+    put(out, end, then)
+}
+
 /// Puts a colour after its name, and ends the element.
 fn put_colour(out: &mut [u8], at: usize, name: &[u8], colour: Colour) -> usize
     requires { at + length name.now + 10 ≤ length out.old }
     ensures text { take result out.new ≡ take at out.old ++ (name.now ++ colour_code colour ++ codes "'/>") }
     ensures place { result ≤ at + length name.now + 10 }
 {
-    let end = put(out, at, name);
-    let end = put(out, end, colour.code());
-    put(out, end, b"'/>")
+    put_coloured(out, at, name, colour, b"'/>")
 }
 
 /// Puts the beginning of a picture, all of which is seen.
@@ -141,9 +150,7 @@ fn put_path_colour(out: &mut [u8], at: usize, stroke: Colour) -> usize
     ensures text { take result out.new ≡ take at out.old ++ path_colour stroke }
     ensures place { result ≤ at + 40 }
 {
-    let end = put(out, at, b"' stroke='");
-    let end = put(out, end, stroke.code());
-    put(out, end, b"' d='")
+    put_coloured(out, at, b"' stroke='", stroke, b"' d='")
 }
 
 /// Puts the beginning of a path of lines of this width.

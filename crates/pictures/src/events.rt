@@ -1,5 +1,5 @@
 //! The quanta of a run, as events that viewers of traces read.
-ghost use Rattle.std.specs.Prelude.{◌≡◌, ◌≤◌, ◌<◌, ◌+◌, ◌-◌, ◌*◌, ◌/◌, ◌++◌, length, take, OnOk, OnErr};
+ghost use Rattle.std.specs.Prelude.{◌≡◌, ◌≤◌, ◌<◌, ◌+◌, ◌-◌, ◌*◌, ◌/◌, ◌++◌, length, take, decimal, OnOk, OnErr};
 ghost use Rattle.streams.specs.Streams.{GrowsByPart, failed};
 ghost use Rattle.quanta.specs.Intervals.{IsRising};
 ghost use Rattle.quanta.specs.Timetable.{last_end};
@@ -33,20 +33,26 @@ pub enum TraceEvent {
     Close,
 }
 
+/// Puts two numbers, each behind a text, and a text behind them.
+fn put_event(out: &mut [u8], first: &[u8], a: u64, second: &[u8], b: u64, last: &[u8]) -> usize
+    requires { length first.now + length second.now + length last.now + 40 ≤ length out.old }
+    ensures text { take result out.new ≡ first.now ++ decimal a ++ second.now ++ decimal b ++ last.now }
+    ensures place { result ≤ length first.now + length second.now + length last.now + 40 }
+{
+    let end = put_named(out, 0, first, a);
+    let end = put_named(out, end, second, b);
+    put(out, end, last)
+}
+
 /// Puts ticks of the mutators.
 fn put_between(out: &mut [u8], start: u64, ticks: u64) -> usize
     requires { 256 ≤ length out.old }
     ensures text { take result out.new ≡ between_text start ticks }
     ensures place { result ≤ 120 }
 {
-    let end = put_named(
-        out,
-        0,
-        b"{\"name\":\"mutators\",\"ph\":\"X\",\"ts\":",
-        start,
-    );
-    let end = put_named(out, end, b",\"dur\":", ticks);
-    put(out, end, b",\"pid\":1,\"tid\":2}")
+    let head = b"{\"name\":\"mutators\",\"ph\":\"X\",\"ts\":";
+    let tail = b",\"pid\":1,\"tid\":2}";
+    put_event(out, head, start, b",\"dur\":", ticks, tail)
 }
 
 /// Puts a quantum.
@@ -55,9 +61,9 @@ fn put_quantum(out: &mut [u8], start: u64, ticks: u64) -> usize
     ensures text { take result out.new ≡ quantum_line start ticks }
     ensures place { result < 256 }
 {
-    let end = put_named(out, 0, b"{\"name\":\"quantum\",\"ph\":\"X\",\"ts\":", start);
-    let end = put_named(out, end, b",\"dur\":", ticks);
-    put(out, end, b",\"pid\":1,\"tid\":1},")
+    let head = b"{\"name\":\"quantum\",\"ph\":\"X\",\"ts\":";
+    let tail = b",\"pid\":1,\"tid\":1},";
+    put_event(out, head, start, b",\"dur\":", ticks, tail)
 }
 
 /// Puts a share of the mutators.
@@ -66,14 +72,9 @@ fn put_share(out: &mut [u8], tick: u64, permille: u64) -> usize
     ensures text { take result out.new ≡ share_line tick permille }
     ensures place { result < 256 }
 {
-    let end = put_named(
-        out,
-        0,
-        b"{\"name\":\"utilisation\",\"ph\":\"C\",\"ts\":",
-        tick,
-    );
-    let end = put_named(out, end, b",\"pid\":1,\"args\":{\"permille\":", permille);
-    put(out, end, b"}},")
+    let head = b"{\"name\":\"utilisation\",\"ph\":\"C\",\"ts\":";
+    let middle = b",\"pid\":1,\"args\":{\"permille\":";
+    put_event(out, head, tick, middle, permille, b"}},")
 }
 
 impl DocumentLine for TraceEvent {

@@ -2,10 +2,12 @@
 ghost use Rattle.std.specs.Prelude.{◌≡◌, ◌<◌, ◌≤◌, ◌+◌, ◌++◌, OnOk, OnErr, IfSome, option_to_list};
 ghost use Rattle.streams.specs.Streams.{GrowsByPart, failed};
 ghost use Rattle.pictures.specs.Elements.{svg_text};
-ghost use Rattle.pictures.specs.PageMap.{has, has_free, middle_of, layer_path, stroke_of, stroke_at, strokes, layer_shown, row_numbers, layers_shown, squares_shown};
+ghost use Rattle.pictures.specs.PageMap.{has, has_free, middle_of, layer_path, stroke_of, stroke_at, layer_shown, row_number, layers_shown, squares_shown};
+ghost use Rattle.pictures.specs.Squares.{square_x, square_y};
 ghost use Rattle.pictures.specs.declared.squares.Squares.TheVariants.{Small};
 
 use crate::colour::Colour;
+use crate::each_page::{PageDrawing, write_pages};
 use crate::element::Element;
 use crate::page_map::{bar_length, density, write_number};
 use crate::squares::Squares;
@@ -141,17 +143,13 @@ fn write_stroke<K: Sink>(stroke: Option<Element>, sink: &mut K) -> Result<(), Wr
     }
 }
 
-/// Writes the lines that a layer has of all pages.
-fn write_strokes<K: Sink>(heap: &Heap, layer: Layer, sink: &mut K) -> Result<(), WriteFailed>
-    ensures ok { OnOk result (K.taken sink.new ≡ K.taken sink.old ++ svg_text (strokes heap.now.store.pages layer)) }
-    ensures err { OnErr result (GrowsByPart (K.taken sink.old) (K.taken sink.new)
-        (svg_text (strokes heap.now.store.pages layer))) }
-    ensures cause { K.failures sink.new ≡ K.failures sink.old + failed result }
-{
-    for page in 0..heap.pages() {
-        write_stroke(stroke_at(heap, layer, page as u32), sink)?;
+/// Of a page a layer has a line, if any.
+impl PageDrawing for Layer {
+    ghost drawn = { stroke_at };
+
+    fn write<K: Sink>(self, heap: &Heap, number: u32, sink: &mut K) -> Result<(), WriteFailed> {
+        write_stroke(stroke_at(heap, self, number), sink)
     }
-    Ok(())
 }
 
 /// Writes a layer.
@@ -162,7 +160,7 @@ fn write_layer<K: Sink>(heap: &Heap, layer: Layer, sink: &mut K) -> Result<(), W
     ensures cause { K.failures sink.new ≡ K.failures sink.old + failed result }
 {
     write_line(sink, layer.path())?;
-    write_strokes(heap, layer, sink)?;
+    write_pages(heap, layer, sink)?;
     write_line(sink, Element::PathEnd)
 }
 
@@ -180,19 +178,17 @@ fn write_layers<K: Sink>(heap: &Heap, layers: &[Layer], sink: &mut K) -> Result<
     Ok(())
 }
 
-/// Writes the numbers of the pages whose squares are the first of a row.
-fn write_row_numbers<K: Sink>(heap: &Heap, sink: &mut K) -> Result<(), WriteFailed>
-    ensures ok { OnOk result (K.taken sink.new ≡ K.taken sink.old ++ svg_text (row_numbers heap.now.store.pages)) }
-    ensures err { OnErr result (GrowsByPart (K.taken sink.old) (K.taken sink.new)
-        (svg_text (row_numbers heap.now.store.pages))) }
-    ensures cause { K.failures sink.new ≡ K.failures sink.old + failed result }
-{
-    for page in 0..heap.pages() {
-        let number = page as u32;
+/// The numbers of the pages whose small squares are the first of a row.
+#[derive(Clone, Copy, Debug, PartialEq, Eq)]
+pub(crate) struct RowNumbers;
+
+impl PageDrawing for RowNumbers {
+    ghost drawn = { λ of pages number. row_number (square_x Small number) (square_y Small number) 1 number };
+
+    fn write<K: Sink>(self, _heap: &Heap, number: u32, sink: &mut K) -> Result<(), WriteFailed> {
         let (x, y) = (Squares::Small.x(number), Squares::Small.y(number));
-        write_number(x, y, 1, number, sink)?;
+        write_number(x, y, 1, number, sink)
     }
-    Ok(())
 }
 
 /// Writes small squares of all pages.
@@ -203,6 +199,6 @@ pub(crate) fn write_small<K: Sink>(heap: &Heap, sink: &mut K) -> Result<(), Writ
         (svg_text (squares_shown Small heap.now.store.pages))) }
     ensures cause { K.failures sink.new ≡ K.failures sink.old + failed result }
 {
-    write_row_numbers(heap, sink)?;
+    write_pages(heap, RowNumbers, sink)?;
     write_layers(heap, &LAYERS, sink)
 }

@@ -4,6 +4,7 @@
 mod axis;
 mod caption;
 mod colour;
+mod each_page;
 mod element;
 mod events;
 mod frame;

@@ -3,10 +3,11 @@ ghost use Rattle.std.specs.Prelude.{◌≡◌, ◌<◌, ◌≤◌, ◌+◌, ◌^
 ghost use Rattle.streams.specs.Streams.{GrowsByPart, failed};
 ghost use Rattle.pictures.specs.Elements.{svg_text};
 ghost use Rattle.pictures.specs.PageMap as maps;
-ghost use Rattle.pictures.specs.PageMap.{row_number, free_from, free_bar, density_of, mark_of, used_square, page_square, drawn_of, each_shown, map_shown, map_told, pages_picture};
+ghost use Rattle.pictures.specs.PageMap.{row_number, free_from, free_bar, density_of, mark_of, used_square, page_square, drawn_of, map_shown, map_told, pages_picture};
 
 use crate::caption::{Caption, Words};
 use crate::colour::Colour;
+use crate::each_page::{PageDrawing, write_pages};
 use crate::element::{Anchor, Element};
 use crate::frame::{meaning, swatch, write_head};
 use crate::layers::write_small;
@@ -200,18 +201,13 @@ fn write_square<K: Sink>(
     write_page(x, y, scale, number, bar, heap.page(number as usize), sink)
 }
 
-/// Writes squares of all pages, each by itself.
-fn write_each<K: Sink>(heap: &Heap, squares: Squares, sink: &mut K) -> Result<(), WriteFailed>
-    ensures ok { OnOk result (K.taken sink.new
-        ≡ K.taken sink.old ++ svg_text (each_shown squares heap.now.store.pages)) }
-    ensures err { OnErr result (GrowsByPart (K.taken sink.old) (K.taken sink.new)
-        (svg_text (each_shown squares heap.now.store.pages))) }
-    ensures cause { K.failures sink.new ≡ K.failures sink.old + failed result }
-{
-    for page in 0..heap.pages() {
-        write_square(heap, squares, page as u32, sink)?;
+/// Of a page large squares have what is drawn of it by itself.
+impl PageDrawing for Squares {
+    ghost drawn = { drawn_of };
+
+    fn write<K: Sink>(self, heap: &Heap, number: u32, sink: &mut K) -> Result<(), WriteFailed> {
+        write_square(heap, self, number, sink)
     }
-    Ok(())
 }
 
 /// Writes the squares of all pages.
@@ -222,7 +218,7 @@ fn write_squares<K: Sink>(heap: &Heap, sink: &mut K) -> Result<(), WriteFailed>
 {
     match Squares::for_pages(heap.pages()) {
         Squares::Small => write_small(heap, sink),
-        squares => write_each(heap, squares, sink),
+        squares => write_pages(heap, squares, sink),
     }
 }
 

@@ -1,35 +1,25 @@
-use Rattle.std.proofs.Common.{[], ◌∷◌, ◌++◌, ap, sym, refl}
 use Rattle.std.proofs.lemmas.Result.{on_err_weaker, on_ok_weaker}
-use Rattle.pictures.specs.declared.element.Element.TheVariants.{PathEnd}
-use Rattle.pictures.specs.PageMap.{strokes}
-use Rattle.pictures.proofs.Parts.{at_err, none_yet, further, cut_short, all_of, in_last, to_last}
+use Rattle.pictures.proofs.Parts.{at_err, first_cut, second_cut, third_cut, all_three}
 use Rattle.pictures.proofs.Lines.{svg_is}
+use Rattle.pictures.proofs.SquareLemmas.{layer_is}
 use Rattle.pictures.proofs.layers.write_layer.Goals as goal
 
 pub returns-in_err-write_line-clause-err : goal.returns-in_err-write_line-clause-err
 returns-in_err-write_line-clause-err g c =
-    let behind = strokes c.args.heap.now.store.pages c.args.layer ++ PathEnd ∷ [] in
-    at_err c.from_residual.result _ (cut_short svg_is _ _ _ _ (none_yet svg_is _ _) (c.path.result ∷ []) behind (ap (λ e. e ∷ behind) (sym c.path.ensures)) _ c.in_err-write_line.ensures.err)
+    let is = layer_is c.args.heap.now.store.pages c.args.layer c.path.result c.path.ensures in
+    at_err c.from_residual.result _ (first_cut svg_is _ _ _ _ is _ _ c.in_err-write_line.ensures.err)
 
-pub returns-in_err-write_strokes-clause-err : goal.returns-in_err-write_strokes-clause-err
-returns-in_err-write_strokes-clause-err g c =
-    let shown = strokes c.args.heap.now.store.pages c.args.layer in
-    let behind = shown ++ PathEnd ∷ [] in
-    let so = further svg_is _ _ _ _ (none_yet svg_is _ _) (c.path.result ∷ []) behind (ap (λ e. e ∷ behind) (sym c.path.ensures)) _ c.in_ok-write_line.ensures.ok in
-    at_err c.from_residual-in_err-write_strokes.result _ (cut_short svg_is _ _ _ _ so shown (PathEnd ∷ []) refl _ c.in_err-write_strokes.ensures.err)
+pub returns-in_err-write_pages-clause-err : goal.returns-in_err-write_pages-clause-err
+returns-in_err-write_pages-clause-err g c =
+    let is = layer_is c.args.heap.now.store.pages c.args.layer c.path.result c.path.ensures in
+    at_err c.from_residual-in_err-write_pages.result _ (second_cut svg_is _ _ _ _ is _ _ c.in_ok-write_line.ensures.ok _ c.in_err-write_pages.ensures.err)
 
 pub returns-clause-ok : goal.returns-clause-ok
 returns-clause-ok g c =
-    let shown = strokes c.args.heap.now.store.pages c.args.layer in
-    let behind = shown ++ PathEnd ∷ [] in
-    let so = further svg_is _ _ _ _ (none_yet svg_is _ _) (c.path.result ∷ []) behind (ap (λ e. e ∷ behind) (sym c.path.ensures)) _ c.in_ok-write_line.ensures.ok in
-    let then = further svg_is _ _ _ _ so shown (PathEnd ∷ []) refl _ c.in_ok-write_strokes.ensures.ok in
-    on_ok_weaker c.write_line-2.result (to_last svg_is _ _ _ _ then _) c.write_line-2.ensures.ok
+    let is = layer_is c.args.heap.now.store.pages c.args.layer c.path.result c.path.ensures in
+    on_ok_weaker c.write_line-2.result (all_three svg_is _ _ _ _ is _ _ c.in_ok-write_line.ensures.ok _ c.in_ok-write_pages.ensures.ok _) c.write_line-2.ensures.ok
 
 pub returns-clause-err : goal.returns-clause-err
 returns-clause-err g c =
-    let shown = strokes c.args.heap.now.store.pages c.args.layer in
-    let behind = shown ++ PathEnd ∷ [] in
-    let so = further svg_is _ _ _ _ (none_yet svg_is _ _) (c.path.result ∷ []) behind (ap (λ e. e ∷ behind) (sym c.path.ensures)) _ c.in_ok-write_line.ensures.ok in
-    let then = further svg_is _ _ _ _ so shown (PathEnd ∷ []) refl _ c.in_ok-write_strokes.ensures.ok in
-    on_err_weaker c.write_line-2.result (in_last svg_is _ _ _ _ then _) c.write_line-2.ensures.err
+    let is = layer_is c.args.heap.now.store.pages c.args.layer c.path.result c.path.ensures in
+    on_err_weaker c.write_line-2.result (third_cut svg_is _ _ _ _ is _ _ c.in_ok-write_line.ensures.ok _ c.in_ok-write_pages.ensures.ok _) c.write_line-2.ensures.err

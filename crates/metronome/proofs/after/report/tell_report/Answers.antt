@@ -1,9 +1,0 @@
-use Rattle.std.proofs.Common.{arith}
-use Rattle.metronome.proofs.Failing.{none_read, one_written}
-use Rattle.metronome.proofs.after.report.tell_report.Goals as goal
-
-pub returns-in_err-write_report-clause-reads : goal.returns-in_err-write_report-clause-reads
-returns-in_err-write_report-clause-reads g c = none_read c.from_residual.result c.from_residual.ensures.1
-
-pub returns-in_err-write_report-clause-writes : goal.returns-in_err-write_report-clause-writes
-returns-in_err-write_report-clause-writes g c = omega (arith, one_written c.from_residual.result c.from_residual.ensures.1, c.in_err-write_report.ensures.cause)

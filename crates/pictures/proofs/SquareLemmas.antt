@@ -13,10 +13,10 @@ use Rattle.pictures.specs.declared.element.Element.{Element}
 use Rattle.pictures.specs.declared.element.Element.TheVariants.{Group, Veil, Text, GroupEnd, PathEnd}
 use Rattle.pictures.specs.declared.layers.Layer.{Layer}
 use Rattle.pictures.specs.declared.squares.Squares.{Squares}
-use Rattle.pictures.specs.declared.squares.Squares.TheVariants.{Small}
+use Rattle.pictures.specs.declared.squares.Squares.TheVariants.{Large, Middle, Small}
 use Rattle.pictures.specs.Lines.{each_from}
-use Rattle.pictures.specs.PageMap.{row_number, free_from, density_of, mark_of, mark_band, used_square, page_square, square, layer_path, layer_shown, strokes}
-use Rattle.pictures.specs.Squares.{square_x, square_y, scale_of}
+use Rattle.pictures.specs.PageMap.{row_number, free_from, density_of, mark_of, mark_band, used_square, page_square, square, layer_path, layer_shown, strokes, each_shown, squares_shown}
+use Rattle.pictures.specs.Squares.{squares_for, square_x, square_y, scale_of}
 
 -- what is drawn of the next page by its number, and of those behind it
 pub page_on : (drawn : ℕ → Option Page → List Element) (pages : List (Option Page)) (k : ℕ) → k < length pages
@@ -31,6 +31,15 @@ layer_is pages layer path is = ap (λ e. e ∷ (strokes pages layer ++ PathEnd �
 -- what is drawn of a layer
 abbrev pub layer_of : List (Option Page) → ℕ → Layer → List Element
 layer_of pages place layer = layer_shown pages layer
+
+-- squares that aren't small are drawn each by itself
+pub each_is : (pages : List (Option Page)) (squares : Squares) → squares ≡ squares_for (length pages) → (squares ≡ Small → ⊥) → each_shown squares pages ≡ squares_shown (squares_for (length pages)) pages
+each_is pages squares is larger = by squares larger ∙ ap (λ q. squares_shown q pages) is
+  where
+    by : (q : Squares) → (q ≡ Small → ⊥) → each_shown q pages ≡ squares_shown q pages
+    by Large never = refl
+    by Middle never = refl
+    by Small never = absurd (never refl)
 
 -- what is drawn of a page, in parts
 pub square_is : (squares : Squares) (number x y scale bar bar' : ℕ) (page page' : Option PageView) → x ≡ square_x squares number → y ≡ square_y squares number → scale ≡ scale_of squares → bar' ≡ bar → page' ≡ page

@@ -1,4 +1,7 @@
+use Rattle.std.proofs.Common.{[], ◌∷◌}
 use Rattle.std.proofs.lemmas.Result.{on_err_weaker, on_ok_weaker}
+use Rattle.pictures.specs.declared.element.Element.TheVariants.{PathEnd}
+use Rattle.pictures.specs.PageMap.{strokes}
 use Rattle.pictures.proofs.Parts.{at_err, first_cut, second_cut, third_cut, all_three}
 use Rattle.pictures.proofs.Lines.{svg_is}
 use Rattle.pictures.proofs.SquareLemmas.{layer_is}
@@ -6,8 +9,9 @@ use Rattle.pictures.proofs.layers.write_layer.Goals as goal
 
 pub returns-in_err-write_line-clause-err : goal.returns-in_err-write_line-clause-err
 returns-in_err-write_line-clause-err g c =
-    let is = layer_is c.args.heap.now.store.pages c.args.layer c.path.result c.path.ensures in
-    at_err c.from_residual.result _ (first_cut svg_is _ _ _ _ is _ _ c.in_err-write_line.ensures.err)
+    let pages = c.args.heap.now.store.pages in
+    let is = layer_is pages c.args.layer c.path.result c.path.ensures in
+    at_err c.from_residual.result _ (first_cut svg_is _ (strokes pages c.args.layer) (PathEnd ∷ []) _ is _ _ c.in_err-write_line.ensures.err)
 
 pub returns-in_err-write_pages-clause-err : goal.returns-in_err-write_pages-clause-err
 returns-in_err-write_pages-clause-err g c =

@@ -1,5 +1,5 @@
 -- What is counted of blocks, by the cells of their objects' shapes.
-use Rattle.std.proofs.Common.{◌≡◌, ◌≢◌, ℕ, ◌+◌, ◌*◌, ◌<◌, ◌≤◌, ◌==◌, Bool, true, false, ◌&&◌, if◌then◌else◌, List, [], length, Option, Some, None, ap, ◌∙◌, sym, subst, refl, arith}
+use Rattle.std.proofs.Common.{◌≡◌, ℕ, ◌+◌, ◌*◌, ◌<◌, ◌≤◌, ◌==◌, Bool, true, false, if◌then◌else◌, length, Some, None, ap, ◌∙◌, sym, subst, refl, arith}
 use Rattle.std.proofs.lemmas.Bool.{ne_eqb}
 use Rattle.std.specs.Prelude.{unwrap_or, Result, Ok, Err, OnOk}
 use Rattle.std.specs.BTreeMap.{IsOrdered, IsEmpty, get}
@@ -16,7 +16,7 @@ use Rattle.inspector.specs.declared.shapes.held.Cells.{Cells}
 use Rattle.inspector.specs.declared.shapes.held.Held.{Held}
 use Rattle.inspector.specs.Shapes.{any_shape, both, cells_of, cells_order, has_cells, held_at, held_by, held_of, nothing, places_on, row_by, AreRows}
 use Rattle.inspector.specs.Counted.{IsOfBlocks, IsCounted, held_before}
-use Rattle.inspector.proofs.ShapeSums.{both_none, before_first, before_next, before_page, before_end, none_held, old_held, main_held, of_before, of_first, of_more, nothing_held}
+use Rattle.inspector.proofs.ShapeSums.{both_none, before_first, before_next, before_page, before_end, main_held, of_before, of_first, of_more, nothing_held}
 
 -- the cells of a shape are those that an object of it has
 pub same_test : (shape : Shape) (c : Cells) → has_cells c shape ≡ is_eq (cells_order (cells_of shape) c)

@@ -1,5 +1,5 @@
 -- What is held of objects, summed block by block and page by page.
-use Rattle.std.proofs.Common.{◌≡◌, ℕ, ◌+◌, ◌*◌, ◌≤◌, ◌==◌, Bool, true, false, not, ◌&&◌, if◌then◌else◌, length, Option, Some, None, IfSome, ap, ◌∙◌, sym, subst, refl, arith, add-one}
+use Rattle.std.proofs.Common.{◌≡◌, ℕ, ◌+◌, ◌≤◌, ◌==◌, Bool, true, false, not, ◌&&◌, if◌then◌else◌, length, Option, Some, None, IfSome, ap, ◌∙◌, sym, subst, refl, arith, add-one}
 use Rattle.std.specs.Prelude.{unwrap_or}
 use Rattle.size_classes.specs.Sizes.{size_of, blocks_in}
 use Rattle.graph_heap.specs.declared.command.Shape.{Shape}

@@ -1,6 +1,6 @@
 use Rattle.std.proofs.Common.{rules, ◌≡◌, true, false}
 use Rattle.inspector.proofs.ShapeSums.{none_held, old_held}
-use Rattle.inspector.proofs.ShapeCounts.{all_ok, few_parts, counted_none, counted_part}
+use Rattle.inspector.proofs.ShapeCounts.{all_ok, counted_none, counted_part}
 use Rattle.inspector.proofs.shapes.counting.Counted.look_at.Goals as goal
 
 pub returns-in-Some : goal.returns-in-Some

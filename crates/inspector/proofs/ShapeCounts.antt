@@ -1,5 +1,5 @@
 -- What is counted of blocks, by the cells of their objects' shapes.
-use Rattle.std.proofs.Common.{◌≡◌, ◌≢◌, ℕ, ◌+◌, ◌*◌, ◌<◌, ◌≤◌, ◌==◌, Bool, true, false, ◌&&◌, if◌then◌else◌, List, [], length, Option, Some, None, ap, ◌∙◌, sym, subst, refl, arith}
+use Rattle.std.proofs.Common.{◌≡◌, ℕ, ◌+◌, ◌*◌, ◌≤◌, ◌==◌, Bool, true, false, if◌then◌else◌, length, Some, None, ap, ◌∙◌, sym, subst, refl, arith}
 use Rattle.std.proofs.lemmas.Bool.{ne_eqb}
 use Rattle.std.specs.Prelude.{unwrap_or, Result, Ok, Err, OnOk}
 use Rattle.std.specs.BTreeMap.{IsOrdered, IsEmpty, get}
@@ -16,7 +16,7 @@ use Rattle.inspector.specs.declared.shapes.held.Cells.{Cells}
 use Rattle.inspector.specs.declared.shapes.held.Held.{Held}
 use Rattle.inspector.specs.Shapes.{any_shape, both, cells_of, cells_order, has_cells, held_at, held_by, held_of, nothing, places_on, row_by, AreRows}
 use Rattle.inspector.specs.Counted.{IsOfBlocks, IsCounted, held_before}
-use Rattle.inspector.proofs.ShapeSums.{both_none, before_first, before_next, before_page, before_end, none_held, old_held, main_held, of_before, of_first, of_more, nothing_held}
+use Rattle.inspector.proofs.ShapeSums.{both_none, before_first, before_next, before_page, before_end, main_held, of_before, of_first, of_more, nothing_held}
 
 -- the cells of a shape are those that an object of it has
 pub same_test : (shape : Shape) (c : Cells) → has_cells c shape ≡ is_eq (cells_order (cells_of shape) c)
@@ -36,11 +36,7 @@ module _ (h : Held) where
   pub row_more : (size : ℕ) (v : BlockView) → Some (both h (held_by size v)) ≡ row_by (both h (held_by size v))
   row_more size v = sym (ap (λ (b : Bool). if b then None else Some (both h (held_by size v))) (ne_eqb (h.parts + 1) 0 (omega arith)))
 
-module _ (s : Store) (k index : ℕ) (old : Counted) (so : IsCounted s k index old) (page : k < 1048576) (place : index < 512) where
-  -- the figures of each shape so far are small
-  pub few_parts : (these : Shape → Bool) → IsOfBlocks (held_before these s k index) 536870912
-  few_parts these = of_more (held_before these s k index) (512 * k + index) 536870912 (so.few these) (omega (arith, page, place))
-
+module _ (s : Store) (k index : ℕ) (old : Counted) (so : IsCounted s k index old) where
   module _ (size : ℕ) (is : size ≡ size_in (page_at s.pages k)) (small : size ≤ 256) where
     few_more : (these : Shape → Bool) → IsOfBlocks (held_before these s k (index + 1)) (512 * k + (index + 1))
     few_more these = of_more (held_before these s k (index + 1)) (512 * k + index + 1) (512 * k + (index + 1)) (of_before these s k index size is (512 * k + index) small (so.few these)) (omega arith)

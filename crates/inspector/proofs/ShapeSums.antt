@@ -1,7 +1,7 @@
 -- What is held of objects, summed block by block and page by page.
-use Rattle.std.proofs.Common.{◌≡◌, ℕ, ◌+◌, ◌*◌, ◌≤◌, ◌==◌, Bool, true, false, not, ◌&&◌, if◌then◌else◌, length, Option, Some, None, IfSome, ap, ◌∙◌, sym, subst, refl, arith, add-one}
+use Rattle.std.proofs.Common.{◌≡◌, ℕ, ◌+◌, ◌≤◌, ◌==◌, Bool, true, false, not, ◌&&◌, if◌then◌else◌, length, Option, Some, None, IfSome, ap, ◌∙◌, sym, subst, refl, arith, add-one}
 use Rattle.std.specs.Prelude.{unwrap_or}
-use Rattle.size_classes.specs.Sizes.{size_of, blocks_in}
+use Rattle.size_classes.specs.Sizes.{blocks_in}
 use Rattle.graph_heap.specs.declared.command.Shape.{Shape}
 use Rattle.heap_model.specs.Pages.{Page, page_at}
 use Rattle.heap_model.specs.Store.{Store, size_in}
@@ -132,7 +132,3 @@ no_places (Some p) e = absurd (cc)
 pub places_seen : (o : Option Page) (v : PageView) → Some v ≡ view_of o → places_on o ≡ blocks_in v.class
 places_seen None v e = absurd (cc)
 places_seen (Some p) v e = ap blocks_in (class_told 0 0 p v e)
-
-pub size_seen : (o : Option Page) (v : PageView) → Some v ≡ view_of o → size_in o ≡ size_of v.class
-size_seen None v e = absurd (cc)
-size_seen (Some p) v e = ap size_of (class_told 0 0 p v e)

@@ -1,4 +1,4 @@
-use Rattle.std.proofs.Common.{◌++◌, ap, ◌∙◌}
+use Rattle.std.proofs.Common.{◌++◌, ap}
 use Rattle.std.specs.List.{flat_map}
 use Rattle.inspector.specs.Shapes.{all_line, shape_line, ShapesTold}
 use Rattle.inspector.proofs.TextLines.{of_bytes}

@@ -1,7 +1,7 @@
-use Rattle.std.proofs.Common.{rules, ◌≡◌, arith, ap, ◌∙◌, sym}
+use Rattle.std.proofs.Common.{◌≡◌, arith}
 use Rattle.heap_model.specs.Pages.{page_at}
 use Rattle.inspector.specs.Shapes.{places_on}
-use Rattle.inspector.proofs.ShapeSums.{no_places, places_seen, size_seen}
+use Rattle.inspector.proofs.ShapeSums.{no_places, places_seen}
 use Rattle.inspector.proofs.ShapeCounts.{counted_page}
 use Rattle.inspector.proofs.shapes.counting.Counted.look_through.Goals as goal
 

@@ -7,7 +7,6 @@ use Rattle.graph_heap.specs.declared.command.Command.{Command}
 use Rattle.graph_heap.specs.declared.command.Entry.{Entry}
 use Rattle.graph_heap.specs.declared.command.Reply.{Reply}
 use Rattle.heap_model.specs.Event.{Course, Event, Command_done, Does}
-use Rattle.heap_model.specs.State.{HeapState}
 use Rattle.heap_model.proofs.Settings.{does_settings}
 use Rattle.machine.specs.declared.collector.Busy.{Busy}
 use Rattle.machine.specs.declared.collector.BudgetOutOfRange.{BudgetOutOfRange}
@@ -20,7 +19,7 @@ use Rattle.heap_shared.specs.declared.member.NoEntry.{NoEntry}
 use Rattle.heap_shared.specs.declared.member.NoEntry.TheVariants.{NotYet}
 use Rattle.heap_shared.specs.Ring.{Ringed, IsAsAsked, TellsEntry}
 use Rattle.heap_shared.specs.Turns.{word_of, history_in, Told, HasTurn}
-use Rattle.heap_shared.specs.Members.{MemberView, turn_of, shown_by, HasHeap, IsMember, BearsAll, Enters, Leaves, Places, DoesIn, DoesInTurn, Finds, FindsEntry, Calls}
+use Rattle.heap_shared.specs.Members.{MemberView, turn_of, shown_by, HasHeap, IsMember, BearsAll, Enters, Leaves, Places, DoesIn, DoesInTurn, FindsEntry, Calls}
 use Rattle.heap_shared.proofs.Accounts.{goes_none, goes_one}
 use Rattle.heap_shared.proofs.Rings.{not_yet}
 use Rattle.heap_shared.proofs.Words.{word_more}
@@ -183,14 +182,11 @@ module _ (id : TableId) (c : SharedConfig) (b : Bool) (w : ℕ) (m : M) (now : R
   abbrev still : MemberView
   still = shown_by id c (m.0, (0, now) ∷ rest m.1)
 
-  stays : still ≡ v
+  pub stays : still ≡ v
   stays = ap (λ (l : List (ℕ × Ringed)). shown_by id c (m.0, l)) (sym at) ∙ shows
 
-  has_turn : v.turn ≡ Some now.course
+  pub has_turn : v.turn ≡ Some now.course
   has_turn = ap (λ (x : MemberView). x.turn) (sym shows) ∙ turn_was c b w m now now has is at
-
-  pub finds_so : {A : Type 0} (look : HeapState → A → Type 0) (a : A) → look now.course.heap a → Finds look v (Some a) still
-  finds_so look a met = (now.course, has_turn, met, stays)
 
   pub tells_so : (place : ℕ) (told : Result Entry NoEntry) → TellsEntry now.ring now.course.history place told → FindsEntry place v (Some told) still
   tells_so place told tells =

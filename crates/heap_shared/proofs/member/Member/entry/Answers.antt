@@ -1,9 +1,8 @@
-use Rattle.std.proofs.Common.{rules, ◌≡◌, ◌≢◌, true, Some, Err, subst, ap, sym, ◌∙◌}
+use Rattle.std.proofs.Common.{rules, ◌≡◌, ◌≢◌, true, Some, Err, subst, sym}
 use Rattle.std.specs.Prelude.{Option, ok_or}
-use Rattle.std.specs.Arc.{arc_value}
 use Rattle.graph_heap.specs.declared.command.Entry.{Entry}
 use Rattle.heap_shared.specs.declared.member.NoEntry.TheVariants.{NotYet, Gone}
-use Rattle.heap_shared.specs.Members.{MemberView, FindsEntry, shown_by}
+use Rattle.heap_shared.specs.Members.{MemberView, FindsEntry}
 use Rattle.heap_shared.specs.Ring.{TellsEntry}
 use Rattle.heap_shared.proofs.Members.{none_yet, tells_so, word_now}
 use Rattle.heap_shared.proofs.Rings.{tells}
@@ -11,13 +10,11 @@ use Rattle.heap_shared.proofs.member.Member.entry.Goals as goal
 
 pub returns-then-ago-eq0 : goal.returns-then-ago-eq0
 returns-then-ago-eq0 c =
-    let key = (arc_value c.self.inside.table).shared.key in
-    let seat = c.self.inside.seat in
     let has : c.self.inside.inside ≡ true = search rules in
     let none : c.entries_since-ago.result ≡ 0 = search rules in
     let since = c.entries_since-ago.ensures in
-    subst (λ (v : MemberView). FindsEntry c.args.place v (Some (Err NotYet)) (shown_by seat.table_id key seat.me)) c.self.view_is
-    (none_yet seat.table_id key _ _ seat.me has c.self.invariant.5 c.args.place _ since.since since.wraps none)
+    subst (λ (v : MemberView). FindsEntry c.args.place v (Some (Err NotYet)) v) c.self.view_is
+    (none_yet _ _ _ _ _ has c.self.invariant.5 c.args.place _ since.since since.wraps none)
 
 pub returns : goal.returns
 returns c =
@@ -27,5 +24,5 @@ returns c =
     let value = c.slot_mut.ensures.value in
     let found = c.entry_ago-entry.ensures in
     tells_so _ _ _ _ _ _ has c.self.invariant.5 value _ c.self.view_is c.args.place _
-    (subst (TellsEntry _ _ c.args.place) (sym c.ok_or.ensures) (subst (λ (o : Option Entry). TellsEntry _ _ c.args.place (ok_or o Gone)) (sym found.entry)
+    (subst (TellsEntry _ _ c.args.place) (sym c.ok_or.ensures.value) (subst (λ (o : Option Entry). TellsEntry _ _ c.args.place (ok_or o Gone)) (sym found.entry)
     (tells _ c.args.place _ _ (word_now _ _ _ _ _ has c.self.invariant.5 value) since.since since.wraps _ found.within some)))

@@ -22,7 +22,8 @@ returns c =
     let some : c.entries_since-ago.result ≢ 0 = search rules in
     let since = c.entries_since-ago.ensures in
     let value = c.slot_mut.ensures.value in
+    let now = c.slot_mut.result.now in
     let found = c.entry_ago-entry.ensures in
     tells_so _ _ _ _ _ _ has c.self.invariant.5 value _ c.self.view_is c.args.place _
-    (subst (TellsEntry _ _ c.args.place) (sym c.ok_or.ensures.value) (subst (λ (o : Option Entry). TellsEntry _ _ c.args.place (ok_or o Gone)) (sym found.entry)
-    (tells _ c.args.place _ _ (word_now _ _ _ _ _ has c.self.invariant.5 value) since.since since.wraps _ found.within some)))
+    (subst (TellsEntry now.ring now.course.history c.args.place) (sym c.ok_or.ensures.value) (subst (λ (o : Option Entry). TellsEntry now.ring now.course.history c.args.place (ok_or o Gone)) (sym found.entry)
+    (tells now.course.history c.args.place _ _ (word_now _ _ _ _ _ has c.self.invariant.5 value) since.since since.wraps _ found.within some)))

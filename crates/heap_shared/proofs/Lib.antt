@@ -2,6 +2,7 @@ pub mod Accounts
 pub mod Words
 pub mod Views
 pub mod Owners
+pub mod Rings
 pub mod Turns
 pub mod Splitting
 pub mod Charting

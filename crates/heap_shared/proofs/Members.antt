@@ -1,120 +1,125 @@
 -- What a member has, before and after its steps.
-use Rattle.std.proofs.Common.{◌≡◌, ◌≢◌, ℕ, ◌+◌, ◌%◌, Bool, true, false, true≢false, List, [], ◌∷◌, length, get_or, refl, sym, ap, ◌∙◌, subst, Some, None, Ok, Err}
+use Rattle.std.proofs.Common.{◌≡◌, ◌≢◌, ℕ, ◌+◌, ◌/◌, ◌%◌, ◌<◌, Bool, true, false, true≢false, List, [], ◌∷◌, length, get_or, refl, sym, ap, ◌∙◌, subst, Some, None, Ok, Err}
 use Rattle.std.specs.Prelude.{Option, Result}
 use Rattle.atomic_table.specs.Table.{Me, rest}
 use Rattle.atomic_table.specs.Seated.{TableId}
 use Rattle.graph_heap.specs.declared.command.Command.{Command}
 use Rattle.graph_heap.specs.declared.command.Entry.{Entry}
 use Rattle.graph_heap.specs.declared.command.Reply.{Reply}
-use Rattle.settings.specs.declared.config.Config.{Config}
 use Rattle.heap_model.specs.Event.{Course, Event, Command_done, Does}
-use Rattle.heap_model.specs.Settings.{settings_of, settings_by}
 use Rattle.heap_model.proofs.Settings.{does_settings}
 use Rattle.machine.specs.declared.collector.Busy.{Busy}
 use Rattle.machine.specs.declared.collector.BudgetOutOfRange.{BudgetOutOfRange}
 use Rattle.machine.specs.declared.collector.Spent.{Spent}
 use Rattle.machine.specs.Recorded.{begin_done, quantum_done}
 use Rattle.heap_shared.specs.declared.rule.Known.{Known}
+use Rattle.heap_shared.specs.declared.shared_heap.SharedConfig.{SharedConfig}
 use Rattle.heap_shared.specs.Accounts.{IsWithin, GoesOn}
-use Rattle.heap_shared.specs.Turns.{word_of, Told, HasTurn}
-use Rattle.heap_shared.specs.Members.{MemberView, turn_of, shown_by, HasHeap, IsMember, BearsAll, Enters, Leaves, Places, DoesIn, DoesInTurn, Calls}
+use Rattle.heap_shared.specs.declared.member.NoEntry.{NoEntry}
+use Rattle.heap_shared.specs.declared.member.NoEntry.TheVariants.{NotYet}
+use Rattle.heap_shared.specs.Ring.{Ringed, IsAsAsked, TellsEntry}
+use Rattle.heap_shared.specs.Turns.{word_of, history_in, Told, HasTurn}
+use Rattle.heap_shared.specs.Members.{MemberView, turn_of, shown_by, HasHeap, IsMember, BearsAll, Enters, Leaves, Places, DoesIn, DoesInTurn, FindsEntry, Calls}
 use Rattle.heap_shared.proofs.Accounts.{goes_none, goes_one}
+use Rattle.heap_shared.proofs.Rings.{not_yet}
 use Rattle.heap_shared.proofs.Words.{word_more}
 
 abbrev M : Type 0
-M = Me Course Known
+M = Me Ringed Known
 
 -- who hasn't the turn carries nothing
-pub carries_none : (c : Config) (b : Bool) (w : ℕ) (m : M) → b ≡ false → IsMember c b w m → (m.1 ≡ []) × (m.0.inside ≡ false)
+pub carries_none : (c : SharedConfig) (b : Bool) (w : ℕ) (m : M) → b ≡ false → IsMember c b w m → (m.1 ≡ []) × (m.0.inside ≡ false)
 carries_none c true w m e is = absurd (true≢false e)
 carries_none c false w m e is = is
 
 -- who has it carries the heap
-pub carries_one : (c : Config) (b : Bool) (w : ℕ) (m : M) → b ≡ true → IsMember c b w m → HasHeap c w m
+pub carries_one : (c : SharedConfig) (b : Bool) (w : ℕ) (m : M) → b ≡ true → IsMember c b w m → HasHeap c w m
 carries_one c true w m e is = is
 carries_one c false w m e is = absurd (true≢false (sym e))
 
-pub carried : (c : Config) (b : Bool) (w : ℕ) (m : M) → b ≡ true → IsMember c b w m → (old : Course) × (m.1 ≡ (0, old) ∷ rest m.1)
-carried c b w m e is = let one = carries_one c b w m e is in (one.course, one.carried ∙ ap (λ (l : List (ℕ × Course)). (0, one.course) ∷ rest l) (sym one.carried))
+pub carried : (c : SharedConfig) (b : Bool) (w : ℕ) (m : M) → b ≡ true → IsMember c b w m → (old : Ringed) × (m.1 ≡ (0, old) ∷ rest m.1)
+carried c b w m e is = let one = carries_one c b w m e is in (one.held, one.carried ∙ ap (λ (l : List (ℕ × Ringed)). (0, one.held) ∷ rest l) (sym one.carried))
 
 -- a member's invariant, with another last part
 pub with_last : {A B C D E F G : Type 0} → A × B × C × D × E × F → G → A × B × C × D × E × G
 with_last i x = (i.0, i.1, i.2, i.3, i.4, x)
 
-inside_still : (c : Config) (b : Bool) (w : ℕ) (m : M) → b ≡ true → HasHeap c w m → IsMember c b w m
+inside_still : (c : SharedConfig) (b : Bool) (w : ℕ) (m : M) → b ≡ true → HasHeap c w m → IsMember c b w m
 inside_still c b w m has held = subst (λ (x : Bool). IsMember c x w m) (sym has) held
 
 -- what is lent is what is carried
-lent : (r now : Course) (l : List (ℕ × Course)) → l ≡ (0, r) ∷ [] → l ≡ (0, now) ∷ rest l → r ≡ now
-lent r now l is e = ap (λ (x : List (ℕ × Course)). (get_or x 0 (0, r)).1) (sym is ∙ e)
+lent : (r now : Ringed) (l : List (ℕ × Ringed)) → l ≡ (0, r) ∷ [] → l ≡ (0, now) ∷ rest l → r ≡ now
+lent r now l is e = ap (λ (x : List (ℕ × Ringed)). (get_or x 0 (0, r)).1) (sym is ∙ e)
 
-module _ (c : Config) (b : Bool) (w : ℕ) (m : M) (now k : Course) (yes : b ≡ true) (is : IsMember c b w m) (at : m.1 ≡ (0, now) ∷ rest m.1) where
+module _ (c : SharedConfig) (b : Bool) (w : ℕ) (m : M) (now k : Ringed) (yes : b ≡ true) (is : IsMember c b w m) (at : m.1 ≡ (0, now) ∷ rest m.1) where
   abbrev one : HasHeap c w m
   one = carries_one c b w m yes is
 
-  abbrev same : one.course ≡ now
-  same = lent one.course now m.1 one.carried at
+  abbrev same : one.held ≡ now
+  same = lent one.held now m.1 one.carried at
 
   none_left : rest m.1 ≡ []
   none_left = ap rest one.carried
 
-  pub turn_was : turn_of m.1 ≡ Some now
+  pub turn_was : turn_of m.1 ≡ Some now.course
   turn_was = ap turn_of at
 
-  goes_now : GoesOn m.0.from m.0.to m.0.seen now.history
-  goes_now = subst (λ (r : Course). GoesOn m.0.from m.0.to m.0.seen r.history) same one.goes
+  goes_now : GoesOn m.0.from m.0.to m.0.seen now.course.history
+  goes_now = subst (λ (r : Ringed). GoesOn m.0.from m.0.to m.0.seen r.course.history) same one.goes
 
-  number_now : w ≡ word_of now.history
-  number_now = one.number ∙ ap (λ (r : Course). word_of r.history) same
+  number_now : w ≡ word_of now.course.history
+  number_now = one.number ∙ ap (λ (r : Ringed). word_of r.course.history) same
 
-  -- the same settings
-  settled : (e : Event) → Does now e k → settings_of k.heap ≡ settings_by c
-  settled e d = does_settings now e k d ∙ (ap (λ (r : Course). settings_of r.heap) (sym same) ∙ one.settings)
+  -- the same settings, and as many entries
+  settled : (e : Event) → Does now.course e k.course → k.ring ≡ now.ring → IsAsAsked c k
+  settled e d kept =
+      let asked : IsAsAsked c now = subst (IsAsAsked c) same one.asked in
+      (does_settings now.course e k.course d ∙ asked.0, kept ∙ asked.1)
 
   -- a command was done
-  pub commanded : (v : ℕ) (mu : ℕ) (command : Command) (told : Reply) → IsWithin m.0.from m.0.to mu → v ≡ (w + 2) % 18446744073709551616 → Does now (Command_done mu command told) k → IsMember c b v (m.0, (0, k) ∷ rest m.1)
-  commanded v mu command told within is_more d =
+  pub commanded : (v : ℕ) (mu : ℕ) (command : Command) (told : Reply) → IsWithin m.0.from m.0.to mu → v ≡ (w + 2) % 18446744073709551616 → Does now.course (Command_done mu command told) k.course → k.ring ≡ now.ring → IsMember c b v (m.0, (0, k) ∷ rest m.1)
+  commanded v mu command told within is_more d kept =
       let entry : Entry = record { mutator = mu; command = command; reply = told } in inside_still c b v _ yes (record {
-        course = k;
+        held = k;
         inside = one.inside;
-        carried = ap (λ (l : List (ℕ × Course)). (0, k) ∷ l) none_left;
-        goes = subst (GoesOn m.0.from m.0.to m.0.seen) (sym d.history) (goes_one m.0.from m.0.to m.0.seen now.history entry within goes_now);
-        settings = settled (Command_done mu command told) d;
-        number = is_more ∙ (word_more now.history entry w number_now ∙ ap word_of (sym d.history));
+        carried = ap (λ (l : List (ℕ × Ringed)). (0, k) ∷ l) none_left;
+        goes = subst (GoesOn m.0.from m.0.to m.0.seen) (sym d.history) (goes_one m.0.from m.0.to m.0.seen now.course.history entry within goes_now);
+        asked = settled (Command_done mu command told) d kept;
+        number = is_more ∙ (word_more now.course.history entry w number_now ∙ ap word_of (sym d.history));
       })
 
   -- the collector did something, and the history is the same
-  pub collected : (e : Event) → Does now e k → k.history ≡ now.history → IsMember c b w (m.0, (0, k) ∷ rest m.1)
-  collected e d still = inside_still c b w _ yes (record {
-    course = k;
+  pub collected : (e : Event) → Does now.course e k.course → k.ring ≡ now.ring → k.course.history ≡ now.course.history → IsMember c b w (m.0, (0, k) ∷ rest m.1)
+  collected e d kept still = inside_still c b w _ yes (record {
+    held = k;
     inside = one.inside;
-    carried = ap (λ (l : List (ℕ × Course)). (0, k) ∷ l) none_left;
+    carried = ap (λ (l : List (ℕ × Ringed)). (0, k) ∷ l) none_left;
     goes = subst (GoesOn m.0.from m.0.to m.0.seen) (sym still) goes_now;
-    settings = settled e d;
+    asked = settled e d kept;
     number = number_now ∙ ap word_of (sym still);
   })
 
   -- it was done in the turn
-  pub done_in : (id : TableId) (v : MemberView) → shown_by id c m ≡ v → {A : Type 0} (event : A → Event) (a : A) → Does now (event a) k → DoesInTurn event v (Some a) (shown_by id c (m.0, (0, k) ∷ rest m.1))
+  pub done_in : (id : TableId) (v : MemberView) → shown_by id c m ≡ v → {A : Type 0} (event : A → Event) (a : A) → Does now.course (event a) k.course → DoesInTurn event v (Some a) (shown_by id c (m.0, (0, k) ∷ rest m.1))
   done_in id v shows event a d = subst (λ (x : MemberView). DoesInTurn event x (Some a) (shown_by id c (m.0, (0, k) ∷ rest m.1))) shows
-      (subst (λ (t : Option Course). DoesIn t event (shown_by id c m) (Some a) (shown_by id c (m.0, (0, k) ∷ rest m.1))) (sym turn_was) (a, k, refl, d, refl))
+      (subst (λ (t : Option Course). DoesIn t event (shown_by id c m) (Some a) (shown_by id c (m.0, (0, k) ∷ rest m.1))) (sym turn_was) (a, k.course, refl, d, refl))
 
-  pub called : (id : TableId) (v : MemberView) → shown_by id c m ≡ v → (mu : ℕ) (command : Command) (told : Reply) → IsWithin m.0.from m.0.to mu → Does now (Command_done mu command told) k
+  pub called : (id : TableId) (v : MemberView) → shown_by id c m ≡ v → (mu : ℕ) (command : Command) (told : Reply) → IsWithin m.0.from m.0.to mu → Does now.course (Command_done mu command told) k.course
       → Calls v mu command (Ok told) (shown_by id c (m.0, (0, k) ∷ rest m.1))
-  called id v shows mu command told within d = subst (λ (x : MemberView). Calls x mu command (Ok told) (shown_by id c (m.0, (0, k) ∷ rest m.1))) shows (now, k, turn_was, within, d, refl)
+  called id v shows mu command told within d = subst (λ (x : MemberView). Calls x mu command (Ok told) (shown_by id c (m.0, (0, k) ∷ rest m.1))) shows (now.course, k.course, turn_was, within, d, refl)
 
 -- without the turn nothing is done
-pub no_turn : (c : Config) (b : Bool) (w : ℕ) (m : M) → b ≡ false → IsMember c b w m → turn_of m.1 ≡ None
+pub no_turn : (c : SharedConfig) (b : Bool) (w : ℕ) (m : M) → b ≡ false → IsMember c b w m → turn_of m.1 ≡ None
 no_turn c b w m isnt is = ap turn_of (carries_none c b w m isnt is).0
 
 -- with it there is a heap
-pub some_turn : (c : Config) (b : Bool) (w : ℕ) (m : M) → b ≡ true → IsMember c b w m → turn_of m.1 ≢ None
-some_turn c b w m has is none = let one = carries_one c b w m has is in let z : Some one.course ≡ None = sym (ap turn_of one.carried) ∙ none in cc
+pub some_turn : (c : SharedConfig) (b : Bool) (w : ℕ) (m : M) → b ≡ true → IsMember c b w m → turn_of m.1 ≢ None
+some_turn c b w m has is none = let one = carries_one c b w m has is in let z : Some one.held.course ≡ None = sym (ap turn_of one.carried) ∙ none in cc
 
 -- who shows no heap carries none
-pub empty_handed : (c : Config) (b : Bool) (w : ℕ) (m : M) → turn_of m.1 ≡ None → IsMember c b w m → m.1 ≡ []
+pub empty_handed : (c : SharedConfig) (b : Bool) (w : ℕ) (m : M) → turn_of m.1 ≡ None → IsMember c b w m → m.1 ≡ []
 empty_handed c false w m none is = is.0
-empty_handed c true w m none is = absurd (let z : Some is.course ≡ None = sym (ap turn_of is.carried) ∙ none in cc)
+empty_handed c true w m none is = absurd (let z : Some is.held.course ≡ None = sym (ap turn_of is.carried) ∙ none in cc)
 
 -- who has given the turn back
 pub left_none : (old : MemberView) (had : Bool) (new : MemberView) → Leaves old had new → new.turn ≡ None
@@ -125,35 +130,35 @@ pub left_heap : (old : MemberView) (had : Bool) (new : MemberView) → Leaves ol
 left_heap old false new l = ap (λ (v : MemberView). v.heap) l.1
 left_heap old true new l = ap (λ (v : MemberView). v.heap) l.3
 
-pub not_done : (id : TableId) {A : Type 0} (event : A → Event) (c : Config) (b : Bool) (w : ℕ) (m : M) → b ≡ false → IsMember c b w m → DoesInTurn event (shown_by id c m) None (shown_by id c m)
+pub not_done : (id : TableId) {A : Type 0} (event : A → Event) (c : SharedConfig) (b : Bool) (w : ℕ) (m : M) → b ≡ false → IsMember c b w m → DoesInTurn event (shown_by id c m) None (shown_by id c m)
 not_done id event c b w m isnt is = subst (λ (t : Option Course). DoesIn t event (shown_by id c m) None (shown_by id c m)) (sym (no_turn c b w m isnt is)) (refl, refl)
 
 -- the turn was taken
-pub entered : (c : Config) (n found : ℕ) (v : Known) (m : M) → v.config ≡ Some c → HasTurn v found m → n ≡ found → HasHeap c n m
+pub entered : (c : SharedConfig) (n found : ℕ) (v : Known) (m : M) → v.config ≡ Some c → HasTurn v found m → n ≡ found → HasHeap c n m
 entered c n found v m config h is = subst (HasHeap c n) (sym h.has) (record {
-  course = h.course;
+  held = h.held;
   inside = refl;
   carried = refl;
-  goes = goes_none v.from v.to h.course.history;
-  settings = h.settings c config;
+  goes = goes_none v.from v.to h.held.course.history;
+  asked = h.asked c config;
   number = is ∙ h.word;
 })
 
 -- what a member is told, as it is shown
-pub bears_all : (id : TableId) (c : Config) (m : M) (log : List Entry) → m.0.config ≡ Some c → Told log m.0 → BearsAll log (shown_by id c m)
+pub bears_all : (id : TableId) (c : SharedConfig) (m : M) (log : List Entry) → m.0.config ≡ Some c → Told log m.0 → BearsAll log (shown_by id c m)
 bears_all id c m log config told = record { own = told.own; learnt = told.learnt; below = told.below c config }
 
-pub enters_so : (id : TableId) (c : Config) (found : ℕ) (b : Bool) (w : ℕ) (old m : M) → b ≡ false → IsMember c b w old → old.0.config ≡ Some c → HasTurn old.0 found m → Enters (shown_by id c old) (Ok tt) (shown_by id c m)
+pub enters_so : (id : TableId) (c : SharedConfig) (found : ℕ) (b : Bool) (w : ℕ) (old m : M) → b ≡ false → IsMember c b w old → old.0.config ≡ Some c → HasTurn old.0 found m → Enters (shown_by id c old) (Ok tt) (shown_by id c m)
 enters_so id c found b w old m isnt is config h = (
-  h.course,
+  h.held.course,
   no_turn c b w old isnt is,
   ap (shown_by id c) h.has,
-  bears_all id c old h.course.history config h.told,
-  h.settings c config,
+  bears_all id c old h.held.course.history config h.told,
+  (h.asked c config).0,
 )
 
 -- the word was looked at
-pub places_so : (id : TableId) (c : Config) (b : Bool) (w : ℕ) (old new : M) (n : ℕ) → b ≡ false → IsMember c b w old → old.0.config ≡ Some c
+pub places_so : (id : TableId) (c : SharedConfig) (b : Bool) (w : ℕ) (old new : M) (n : ℕ) → b ≡ false → IsMember c b w old → old.0.config ≡ Some c
     → (new ≡ (record old.0 { seen = new.0.seen }, old.1)) × Told new.0.seen old.0 × (n ≡ length new.0.seen % 9223372036854775808)
     → Places (shown_by id c old) (Some n) (shown_by id c new)
 places_so id c b w old new n isnt is config did = (
@@ -171,3 +176,40 @@ begin_same now k (Err busy) d = ap (λ (r : Course). r.history) d.1
 pub quantum_same : (now k : Course) (budget : ℕ) (a : Result Spent BudgetOutOfRange) → Does now (quantum_done budget a) k → k.history ≡ now.history
 quantum_same now k budget (Ok spent) d = d.history
 quantum_same now k budget (Err refused) d = ap (λ (r : Course). r.history) d.1
+
+-- what is found in the turn
+module _ (id : TableId) (c : SharedConfig) (b : Bool) (w : ℕ) (m : M) (now : Ringed) (has : b ≡ true) (is : IsMember c b w m) (at : m.1 ≡ (0, now) ∷ rest m.1) (v : MemberView) (shows : shown_by id c m ≡ v) where
+  abbrev still : MemberView
+  still = shown_by id c (m.0, (0, now) ∷ rest m.1)
+
+  pub stays : still ≡ v
+  stays = ap (λ (l : List (ℕ × Ringed)). shown_by id c (m.0, l)) (sym at) ∙ shows
+
+  pub has_turn : v.turn ≡ Some now.course
+  has_turn = ap (λ (x : MemberView). x.turn) (sym shows) ∙ turn_was c b w m now now has is at
+
+  pub tells_so : (place : ℕ) (told : Result Entry NoEntry) → TellsEntry now.ring now.course.history place told → FindsEntry place v (Some told) still
+  tells_so place told tells =
+      let asked : IsAsAsked c now = subst (IsAsAsked c) (same c b w m now now has is at) (one c b w m now now has is at).asked in
+      let kept : now.ring ≡ v.ring = asked.1 ∙ ap (λ (x : MemberView). x.ring) shows in
+      (now.course, has_turn, subst (λ (k : ℕ). TellsEntry k now.course.history place told) kept tells, stays)
+
+-- there is no entry yet
+pub none_yet : (id : TableId) (c : SharedConfig) (b : Bool) (w : ℕ) (m : M) → b ≡ true → IsMember c b w m → (place ago : ℕ) → (place + ago) % 9223372036854775808 ≡ (w / 2) % 9223372036854775808 → ago < 9223372036854775808 → ago ≡ 0
+    → FindsEntry place (shown_by id c m) (Some (Err NotYet)) (shown_by id c m)
+none_yet id c b w m has is place ago since wraps none =
+    let one = carries_one c b w m has is in (one.held.course, ap turn_of one.carried, not_yet one.held.course.history place w ago one.number since wraps none, refl)
+
+-- the word that it has in the turn is that of its history
+pub word_now : (c : SharedConfig) (b : Bool) (w : ℕ) (m : M) (now : Ringed) → b ≡ true → IsMember c b w m → m.1 ≡ (0, now) ∷ rest m.1 → w ≡ word_of now.course.history
+word_now c b w m now has is at = number_now c b w m now now has is at
+
+-- the turn was given back
+pub leaves_so : (id : TableId) (c : SharedConfig) (b : Bool) (w : ℕ) (m new : M) → b ≡ true → IsMember c b w m → new ≡ (record m.0 { seen = history_in m.1; inside = false }, []) → Leaves (shown_by id c m) true (shown_by id c new)
+leaves_so id c b w m new has is did =
+    let one = carries_one c b w m has is in (
+      one.held.course,
+      ap turn_of one.carried,
+      one.goes,
+      ap (shown_by id c) did ∙ ap (λ (l : List (ℕ × Ringed)). record (shown_by id c m) { seen = history_in l; turn = None }) one.carried,
+    )

@@ -12,6 +12,9 @@ use Rattle.atomic_table.specs.contracts.shared.Seat as seat
 use Rattle.atomic_table.specs.contracts.shared.Shared as table
 use Rattle.atomic_table.proofs.Rights.{right_send}
 use Rattle.atomic_table.proofs.Sent.{seat_keyless, owns_keyless, shares_keyless}
+use Rattle.circular_buffer.specs.contracts.cells.Deed as deed
+use Rattle.circular_buffer.specs.contracts.heap.HeapCircularBuffer as buffer
+use Rattle.circular_buffer.proofs.Crosses.{Cells-send, Deed-send}
 use Rattle.heap_shared.specs.contracts.member.Member.{the_row}
 use Rattle.heap_shared.specs.contracts.rule.Known as known
 use Rattle.heap_shared.specs.contracts.shared_heap.SharedHeap as heap
@@ -34,9 +37,16 @@ lease_sync T = record { shared = λ d b o ν q. part_keyless (lease.the_row T gl
 lease_send : (T : RattleType) → IsSend (lease.the_row T global.the_row ghosts)
 lease_send T = right_send T global.the_row ghosts crossing.frees
 
+-- a ring of entries
+deed_send : (T : RattleType) → IsSend (deed.the_row T global.the_row ghosts)
+deed_send T = Deed-send T global.the_row ghosts crossing.frees
+
+buffer_send : (T : RattleType) → IsSend T → IsSend (buffer.the_row T global.the_row ghosts)
+buffer_send T s = search (sendable, crossing.crosses, Cells-send, deed_send) depth 40 fits 20000
+
 -- a heap with its history
 heap_sends : IsSend heap.the_row
-heap_sends = search (sendable, crossing.crosses, history_sends) depth 40 fits 20000
+heap_sends = search (sendable, crossing.crosses, history_sends, buffer_send) depth 40 fits 20000
 
 seat_sends : IsSend (seat.the_row heap.the_row known.the_row)
 seat_sends = seat_send heap.the_row known.the_row heap_sends

@@ -1,6 +1,6 @@
 -- A member's mutators are cut in two, a seat is made that can't say anything, and a member learns what another can tell: each keeps
 -- the rule of the word.
-use Rattle.std.proofs.Common.{◌≡◌, ◌≢◌, ℕ, zero, suc, ◌<◌, ◌≤◌, Bool, true, false, true≢false, List, [], ◌∷◌, ◌++◌, length, set, refl, sym, ap, ◌∙◌, arith, Some, None}
+use Rattle.std.proofs.Common.{◌≡◌, ◌≢◌, ℕ, zero, suc, ◌<◌, ◌≤◌, true, false, List, [], ◌∷◌, ◌++◌, length, set, refl, sym, ap, ◌∙◌, arith, Some, None}
 use Rattle.std.specs.List.{All}
 use Rattle.std.specs.Prelude.{Option as Maybe}
 use Rattle.std.proofs.lemmas.List.Elements.{All-append, All-cons, All-nil}
@@ -8,23 +8,36 @@ use mathlib.Core.Option.{Option, none, some, some-ne-none}
 use lib.ListN.{get_elem?}
 use Rattle.atomic_table.specs.Table.{State, Splits, Joins}
 use Rattle.graph_heap.specs.declared.command.Entry.{Entry}
-use Rattle.settings.specs.declared.config.Config.{Config}
-use Rattle.heap_model.specs.Event.{Course}
 use Rattle.heap_shared.specs.declared.rule.Account.{Account}
 use Rattle.heap_shared.specs.declared.rule.Known.{Known}
+use Rattle.heap_shared.specs.declared.shared_heap.SharedConfig.{SharedConfig}
 use Rattle.heap_shared.specs.Accounts.{IsWithin, BearsOut, account_of}
+use Rattle.heap_shared.specs.Ring.{Ringed}
 use Rattle.heap_shared.specs.Turns.{Turn, free, taken, before_cut, behind_cut, told_by, learning, nobody, IsTurn, Knows, Keeps}
 use Rattle.heap_shared.proofs.Accounts.{bears_fewer}
 use Rattle.heap_shared.proofs.Owners.{given, given_within, given_else, given_other, apart_some}
-use Rattle.heap_shared.proofs.Views.{others_and_new, others_two}
+use Rattle.heap_shared.proofs.Turns.{both_ways}
+use Rattle.heap_shared.proofs.Views.{below_there, others_and_new, others_two}
 
 abbrev S : Type 0
-S = State Course Known
+S = State Ringed Known
 
-both_ways : (b : Bool) → b ≡ false → b ≡ true → ⊥
-both_ways b isnt holds = true≢false (sym holds ∙ isnt)
+-- Mutators change their owner, all of them those of one member: the others know the same.
+module _ (c : SharedConfig) (log : List Entry) (owner now : ℕ → Option ℕ) (whose : ℕ) (stays : (m : ℕ) (x : Option ℕ) → owner m ≡ x → x ≢ some whose → now m ≡ x) where
+  gone_still : (xs : List Account) → All (λ a. (m : ℕ) → IsWithin a.from a.to m → owner m ≡ none) xs → All (λ a. (m : ℕ) → IsWithin a.from a.to m → now m ≡ none) xs
+  gone_still xs gone j d lt m w = stays m none (gone j d lt m w) (λ e. some-ne-none whose (sym e))
 
-module _ (c : Config) (log : List Entry) (owner : ℕ → Option ℕ) (id new : ℕ) (v : Known) (fresh : id < new) (low : v.from ≤ v.cut) (high : v.cut ≤ v.to) (knows : Knows c log owner id v) where
+  others_same : (k : ℕ) (u : Known) → k ≢ whose → Knows c log owner k u → Knows c log now k u
+  others_same k u apart knows = record {
+    config = knows.config;
+    range = knows.range;
+    own = knows.own;
+    owns = λ m w. stays m (some k) (knows.owns m w) (apart_some k whose apart);
+    learnt = knows.learnt;
+    gone = gone_still u.learnt knows.gone;
+  }
+
+module _ (c : SharedConfig) (log : List Entry) (owner : ℕ → Option ℕ) (id new : ℕ) (v : Known) (fresh : id < new) (low : v.from ≤ v.cut) (high : v.cut ≤ v.to) (knows : Knows c log owner id v) where
   abbrev split : ℕ → Option ℕ
   split = given v.cut v.to (some new) owner
 
@@ -41,7 +54,7 @@ module _ (c : Config) (log : List Entry) (owner : ℕ → Option ℕ) (id new : 
     own = bears_fewer log (account_of v) v.from v.cut (omega arith) high knows.own;
     owns = λ m w. given_else v.cut v.to (some new) owner m (λ r. omega (arith, w.1, r.0)) ∙ knows.owns m (w.0, omega (arith, w.1, high));
     learnt = knows.learnt;
-    gone = λ j d lt m w. stays m none (knows.gone j d lt m w) (λ e. some-ne-none id (sym e));
+    gone = gone_still c log owner split id stays v.learnt knows.gone;
   }
 
   pub right_knows : Knows c log split new (behind_cut v)
@@ -55,16 +68,9 @@ module _ (c : Config) (log : List Entry) (owner : ℕ → Option ℕ) (id new : 
   }
 
   pub rest_knows : (k : ℕ) (u : Known) → k ≢ id → Knows c log owner k u → Knows c log split k u
-  rest_knows k u apart theirs = record {
-    config = theirs.config;
-    range = theirs.range;
-    own = theirs.own;
-    owns = λ m w. stays m (some k) (theirs.owns m w) (apart_some k id apart);
-    learnt = theirs.learnt;
-    gone = λ j d lt m w. stays m none (theirs.gone j d lt m w) (λ e. some-ne-none id (sym e));
-  }
+  rest_knows = others_same c log owner split id stays
 
-turn_split : (c : Config) (s : S) (log : List Entry) (id : ℕ) (v : Known) → v.inside ≡ false → (t : Turn) → IsTurn c s log t
+turn_split : (c : SharedConfig) (s : S) (log : List Entry) (id : ℕ) (v : Known) → v.inside ≡ false → (t : Turn) → IsTurn c s log t
     → IsTurn c (record { words = s.words; homes = s.homes; views = set s.views id (before_cut v) ++ behind_cut v ∷ [] }) log t
 turn_split c s log id v out (free r) is = (is.0, is.1, is.2, is.3, others_and_new (λ k u. u.inside ≡ false) s.views id (before_cut v) (behind_cut v) out refl (λ k u apart below e. is.4 k u e))
 turn_split c s log id v out (taken by) is = (
@@ -73,16 +79,11 @@ turn_split c s log id v out (taken by) is = (
   others_and_new (λ k u. u.inside ≡ true → (k ≡ by) × (u.seen ≡ log)) s.views id (before_cut v) (behind_cut v) (λ so. absurd (both_ways v.inside out so)) (λ so. absurd (both_ways false refl so)) (λ k u apart below e. is.2 k u e),
 )
 
-there_below : (vs : List Known) (k : ℕ) (v : Known) → get_elem? vs k ≡ some v → k < length vs
-there_below [] k v e = absurd (some-ne-none v (sym e))
-there_below (x ∷ xs) zero v e = omega arith
-there_below (x ∷ xs) (suc k) v e = (let r = there_below xs k v e in omega (arith, r))
-
 -- a member's mutators are cut in two
-pub splits : (c : Config) (id : ℕ) (v : Known) → v.inside ≡ false → v.from ≤ v.cut → v.cut ≤ v.to → Splits (Keeps c) id v (before_cut v) (behind_cut v)
+pub splits : (c : SharedConfig) (id : ℕ) (v : Known) → v.inside ≡ false → v.from ≤ v.cut → v.cut ≤ v.to → Splits (Keeps c) id v (before_cut v) (behind_cut v)
 splits c id v out low high s k at =
     let new = length s.views in
-    let fresh = there_below s.views id v at in
+    let fresh = below_there s.views id v at in
     let knows = k.known id v at in record {
       log = k.log;
       turn = k.turn;
@@ -97,7 +98,7 @@ splits c id v out low high s k at =
     }
 
 -- nobody says nothing
-nobody_knows : (c : Config) (log : List Entry) (owner : ℕ → Option ℕ) (k : ℕ) → Knows c log owner k nobody
+nobody_knows : (c : SharedConfig) (log : List Entry) (owner : ℕ → Option ℕ) (k : ℕ) → Knows c log owner k nobody
 nobody_knows c log owner k = record {
   config = λ d is. let z : None ≡ Some d = is in cc;
   range = omega arith;
@@ -107,7 +108,7 @@ nobody_knows c log owner k = record {
   gone = All-nil (λ (a : Account). (m : ℕ) → IsWithin a.from a.to m → owner m ≡ none);
 }
 
-turn_spared : (c : Config) (s : S) (log : List Entry) (id : ℕ) (v : Known) → get_elem? s.views id ≡ some v → (t : Turn) → IsTurn c s log t
+turn_spared : (c : SharedConfig) (s : S) (log : List Entry) (id : ℕ) (v : Known) → get_elem? s.views id ≡ some v → (t : Turn) → IsTurn c s log t
     → IsTurn c (record { words = s.words; homes = s.homes; views = set s.views id v ++ nobody ∷ [] }) log t
 turn_spared c s log id v at (free r) is = (is.0, is.1, is.2, is.3, others_and_new (λ k u. u.inside ≡ false) s.views id v nobody (is.4 id v at) refl (λ k u apart below e. is.4 k u e))
 turn_spared c s log id v at (taken by) is = (
@@ -117,7 +118,7 @@ turn_spared c s log id v at (taken by) is = (
 )
 
 -- a seat is made that can't say anything
-pub spares : (c : Config) (id : ℕ) (v : Known) → Splits (Keeps c) id v v nobody
+pub spares : (c : SharedConfig) (id : ℕ) (v : Known) → Splits (Keeps c) id v v nobody
 spares c id v s k at = record {
   log = k.log;
   turn = k.turn;
@@ -128,26 +129,23 @@ spares c id v s k at = record {
   below = k.below;
 }
 
-module _ (c : Config) (log : List Entry) (owner : ℕ → Option ℕ) (id other : ℕ) (v w : Known) (apart : id ≢ other) (knows : Knows c log owner id v) (theirs : Knows c log owner other w) where
+module _ (c : SharedConfig) (log : List Entry) (owner : ℕ → Option ℕ) (id other : ℕ) (v w : Known) (apart : id ≢ other) (knows : Knows c log owner id v) (theirs : Knows c log owner other w) where
   abbrev freed : ℕ → Option ℕ
   freed = given w.from w.to none owner
 
   keeps_owner : (m : ℕ) (x : Option ℕ) → owner m ≡ x → x ≢ some other → freed m ≡ x
   keeps_owner m x is off = given_other w.from w.to none (some other) owner m x (theirs.owns m) is off
 
-  still_gone : (xs : List Account) → All (λ a. (m : ℕ) → IsWithin a.from a.to m → owner m ≡ none) xs → All (λ a. (m : ℕ) → IsWithin a.from a.to m → freed m ≡ none) xs
-  still_gone xs gone j d lt m r = keeps_owner m none (gone j d lt m r) (λ e. some-ne-none other (sym e))
-
   abbrev Gone : Account → Type 0
   Gone a = (m : ℕ) → IsWithin a.from a.to m → freed m ≡ none
 
-  told_so : (x : Maybe Config) → All (BearsOut log) (told_by x w)
+  told_so : (x : Maybe SharedConfig) → All (BearsOut log) (told_by x w)
   told_so None = All-nil (BearsOut log)
   told_so (Some d) = All-cons (BearsOut log) (account_of w) w.learnt theirs.own theirs.learnt
 
-  told_gone : (x : Maybe Config) → All Gone (told_by x w)
+  told_gone : (x : Maybe SharedConfig) → All Gone (told_by x w)
   told_gone None = All-nil Gone
-  told_gone (Some d) = All-cons Gone (account_of w) w.learnt (λ m r. given_within w.from w.to none owner m r) (still_gone w.learnt theirs.gone)
+  told_gone (Some d) = All-cons Gone (account_of w) w.learnt (λ m r. given_within w.from w.to none owner m r) (gone_still c log owner freed other keeps_owner w.learnt theirs.gone)
 
   pub both_know : Knows c log freed id (learning v w)
   both_know = record {
@@ -156,20 +154,13 @@ module _ (c : Config) (log : List Entry) (owner : ℕ → Option ℕ) (id other 
     own = knows.own;
     owns = λ m r. keeps_owner m (some id) (knows.owns m r) (apart_some id other apart);
     learnt = All-append (BearsOut log) v.learnt (told_by w.config w) knows.learnt (told_so w.config);
-    gone = All-append Gone v.learnt (told_by w.config w) (still_gone v.learnt knows.gone) (told_gone w.config);
+    gone = All-append Gone v.learnt (told_by w.config w) (gone_still c log owner freed other keeps_owner v.learnt knows.gone) (told_gone w.config);
   }
 
   pub rest_still : (k : ℕ) (u : Known) → k ≢ other → Knows c log owner k u → Knows c log freed k u
-  rest_still k u off has = record {
-    config = has.config;
-    range = has.range;
-    own = has.own;
-    owns = λ m r. keeps_owner m (some k) (has.owns m r) (apart_some k other off);
-    learnt = has.learnt;
-    gone = still_gone u.learnt has.gone;
-  }
+  rest_still = others_same c log owner freed other keeps_owner
 
-turn_learnt : (c : Config) (s : S) (log : List Entry) (id other : ℕ) (v w : Known) → id ≢ other → get_elem? s.views id ≡ some v → (t : Turn) → IsTurn c s log t
+turn_learnt : (c : SharedConfig) (s : S) (log : List Entry) (id other : ℕ) (v w : Known) → id ≢ other → get_elem? s.views id ≡ some v → (t : Turn) → IsTurn c s log t
     → IsTurn c (record { words = s.words; homes = s.homes; views = set (set s.views id (learning v w)) other nobody }) log t
 turn_learnt c s log id other v w apart at (free r) is = (is.0, is.1, is.2, is.3, others_two (λ k u. u.inside ≡ false) s.views id other (learning v w) nobody (is.4 id v at) refl (λ k u off far e. is.4 k u e) apart)
 turn_learnt c s log id other v w apart at (taken by) is = (
@@ -187,7 +178,7 @@ there_else (x ∷ xs) (suc id) zero u w n e = e
 there_else (x ∷ xs) (suc id) (suc other) u w n e = there_else xs id other u w (λ h. n (ap suc h)) e
 
 -- a member learns what another can tell
-pub learns : (c : Config) (id : ℕ) (v : Known) (other : ℕ) (w : Known) → Joins (Keeps c) id v other w (learning v w) nobody
+pub learns : (c : SharedConfig) (id : ℕ) (v : Known) (other : ℕ) (w : Known) → Joins (Keeps c) id v other w (learning v w) nobody
 learns c id v other w s k at off there =
     let apart : id ≢ other = λ e. off (sym e) in
     let was = there_else s.views id other (learning v w) w off there in

@@ -11,27 +11,26 @@ use lib.ListN.{get_elem?}
 use Rattle.atomic_table.specs.Table.{State, Me, Act, step, keeps, takes, gives, stepped, opening, carried_after, Valid, Allows}
 use Rattle.atomic_table.proofs.Lists.{set_again}
 use Rattle.graph_heap.specs.declared.command.Entry.{Entry}
-use Rattle.settings.specs.declared.config.Config.{Config}
-use Rattle.heap_model.specs.Event.{Course}
-use Rattle.heap_model.specs.Settings.{settings_of, settings_by}
 use Rattle.heap_shared.specs.declared.rule.Account.{Account}
 use Rattle.heap_shared.specs.declared.rule.Known.{Known}
 use Rattle.heap_shared.specs.declared.rule.TheConstants.{TURN_WORD}
+use Rattle.heap_shared.specs.declared.shared_heap.SharedConfig.{SharedConfig}
 use Rattle.heap_shared.specs.Accounts.{IsWithin, BearsOut, GoesOn, AreBelow, account_of}
+use Rattle.heap_shared.specs.Ring.{Ringed, IsAsAsked}
 use Rattle.heap_shared.specs.Turns.{Turn, free, taken, newcomer, word_of, IsTurn, Knows, Keeps, Told, HasTurn, Entered, Left, Looked, Cut}
 use Rattle.heap_shared.proofs.Accounts.{bears_more, bears_all}
 use Rattle.heap_shared.proofs.Views.{others}
 use Rattle.heap_shared.proofs.Words.{odd, half, half_odd}
 
 abbrev S : Type 0
-S = State Course Known
+S = State Ringed Known
 
 -- what isn't true is false
 not_true : (b : Bool) → (b ≡ true → ⊥) → b ≡ false
 not_true true n = absurd (n refl)
 not_true false n = refl
 
-both_ways : (b : Bool) → b ≡ false → b ≡ true → ⊥
+pub both_ways : (b : Bool) → b ≡ false → b ≡ true → ⊥
 both_ways b isnt holds = true≢false (sym holds ∙ isnt)
 
 -- the word stays
@@ -46,12 +45,12 @@ still_there : (ws : List ℕ) (n : ℕ) → TURN_WORD < length ws → TURN_WORD 
 still_there ws n there = subst (λ (l : ℕ). TURN_WORD < l) (sym (length-set ws TURN_WORD n)) there
 
 -- nothing is done
-unchanged : (c : Config) (s : S) (id : ℕ) (v : Known) (carried : List (ℕ × Course)) → Keeps c s → get_elem? s.views id ≡ some v → Keeps c (stepped s TURN_WORD (get_or s.words TURN_WORD 0) id carried v keeps)
+unchanged : (c : SharedConfig) (s : S) (id : ℕ) (v : Known) (carried : List (ℕ × Ringed)) → Keeps c s → get_elem? s.views id ≡ some v → Keeps c (stepped s TURN_WORD (get_or s.words TURN_WORD 0) id carried v keeps)
 unchanged c s id v carried k at =
     subst (Keeps c) (λ i. record { words = sym (same_word s.words) i; homes = s.homes; views = sym (set_again s.views id v at) i }) k
 
 -- who has seen the whole history knows the same else
-whole : (c : Config) (log : List Entry) (owner : ℕ → Option ℕ) (k : ℕ) (v : Known) (inside : Bool) → Knows c log owner k v → Knows c log owner k (record v { seen = log; inside = inside })
+whole : (c : SharedConfig) (log : List Entry) (owner : ℕ → Option ℕ) (k : ℕ) (v : Known) (inside : Bool) → Knows c log owner k v → Knows c log owner k (record v { seen = log; inside = inside })
 whole c log owner k v inside knows = record {
   config = knows.config;
   range = knows.range;
@@ -62,66 +61,66 @@ whole c log owner k v inside knows = record {
 }
 
 -- a history is what its members are told
-told : (c : Config) (s : S) (kept : Keeps c s) (id : ℕ) (v : Known) → get_elem? s.views id ≡ some v → Told kept.log v
+told : (c : SharedConfig) (s : S) (kept : Keeps c s) (id : ℕ) (v : Known) → get_elem? s.views id ≡ some v → Told kept.log v
 told c s kept id v at = record {
   own = (kept.known id v at).own;
   learnt = (kept.known id v at).learnt;
-  below = λ d is. subst (λ (x : Config). AreBelow x.mutators kept.log) (sym ((kept.known id v at).config d is)) kept.below;
+  below = λ d is. subst (λ (x : SharedConfig). AreBelow x.config.mutators kept.log) (sym ((kept.known id v at).config d is)) kept.below;
 }
 
 -- a new heap has one member, who isn't inside
-idle : (c : Config) (k : ℕ) (v : Known) → get_elem? (newcomer c ∷ []) k ≡ some v → v.inside ≡ false
+idle : (c : SharedConfig) (k : ℕ) (v : Known) → get_elem? (newcomer c ∷ []) k ≡ some v → v.inside ≡ false
 idle c zero v e = ap (λ (u : Known). u.inside) (sym (some-injective _ _ e))
 idle c (suc k) v e = absurd (some-ne-none v (sym e))
 
 abbrev alone : ℕ → Option ℕ
 alone m = some 0
 
-some_config : (c d : Config) → Some c ≡ Some d → d ≡ c
+some_config : (c d : SharedConfig) → Some c ≡ Some d → d ≡ c
 some_config c d e = cc
 
-newcomer_knows : (c : Config) → Knows c [] alone 0 (newcomer c)
+newcomer_knows : (c : SharedConfig) → Knows c [] alone 0 (newcomer c)
 newcomer_knows c = record {
   config = λ d is. some_config c d is;
   range = omega arith;
-  own = bears_all [] 0 c.mutators;
+  own = bears_all [] 0 c.config.mutators;
   owns = λ m w. refl;
   learnt = All-nil (BearsOut []);
   gone = All-nil (λ (a : Account). (m : ℕ) → IsWithin a.from a.to m → alone m ≡ none);
 }
 
-first_knows : (c : Config) (k : ℕ) (v : Known) → get_elem? (newcomer c ∷ []) k ≡ some v → Knows c [] alone k v
+first_knows : (c : SharedConfig) (k : ℕ) (v : Known) → get_elem? (newcomer c ∷ []) k ≡ some v → Knows c [] alone k v
 first_knows c zero v e = subst (Knows c [] alone 0) (some-injective _ _ e) (newcomer_knows c)
 first_knows c (suc k) v e = absurd (some-ne-none v (sym e))
 
-module _ (c : Config) where
+module _ (c : SharedConfig) where
   -- a new heap
-  pub opens : (ws : List ℕ) (r : Course) → TURN_WORD < length ws → get_or ws TURN_WORD 0 ≡ 0 → r.history ≡ [] → settings_of r.heap ≡ settings_by c → Keeps c (opening ws (r ∷ []) (newcomer c))
-  opens ws r there number empty settings = record {
+  pub opens : (ws : List ℕ) (r : Ringed) → TURN_WORD < length ws → get_or ws TURN_WORD 0 ≡ 0 → r.course.history ≡ [] → IsAsAsked c r → Keeps c (opening ws (r ∷ []) (newcomer c))
+  opens ws r there number empty asked = record {
     log = [];
     turn = free r;
     owner = alone;
     has_word = there;
-    stands = (number, refl, empty, settings, idle c);
+    stands = (number, refl, empty, asked, idle c);
     known = first_knows c;
-    below = All-nil (λ (e : Entry). e.mutator < c.mutators);
+    below = All-nil (λ (e : Entry). e.mutator < c.config.mutators);
   }
 
-module _ (c : Config) (slots : ℕ) where
+module _ (c : SharedConfig) (slots : ℕ) where
   -- what is told of a turn that is taken
   abbrev Takes : S → ℕ → ℕ → Known → Type 0
-  Takes s n id v = (w : Known) × (a : Act Course) × Valid s.homes [] a × Keeps c (stepped s TURN_WORD (n + 1) id [] w a) × HasTurn v n (w, carried_after [] a)
+  Takes s n id v = (w : Known) × (a : Act Ringed) × Valid s.homes [] a × Keeps c (stepped s TURN_WORD (n + 1) id [] w a) × HasTurn v n (w, carried_after [] a)
 
   take_turn : (s : S) (n id : ℕ) (v : Known) (kept : Keeps c s) (t : Turn) → IsTurn c s kept.log t → get_elem? s.views id ≡ some v → n % 2 ≡ 0 → get_or s.words TURN_WORD 0 ≡ n → Takes s n id v
   take_turn s n id v kept (taken by) is at even here = absurd (odd (length kept.log) n (sym here ∙ is.0) even)
   take_turn s n id v kept (free r) is at even here =
       let number : n ≡ word_of kept.log = sym here ∙ is.0 in
       let log = kept.log in
-      let w : Known = record v { seen = r.history; inside = true } in
+      let w : Known = record v { seen = r.course.history; inside = true } in
       let same : record v { seen = log; inside = true } ≡ w = ap (λ (xs : List Entry). record v { seen = xs; inside = true }) (sym is.2) in (
         w,
         takes 0 r,
-        ap (λ (hs : List (Option Course)). get_elem? hs 0) is.1,
+        ap (λ (hs : List (Option Ringed)). get_elem? hs 0) is.1,
         record {
           log = log;
           turn = taken id;
@@ -129,17 +128,17 @@ module _ (c : Config) (slots : ℕ) where
           has_word = still_there s.words (n + 1) kept.has_word;
           stands = (
             new_word s.words (n + 1) kept.has_word ∙ ap (λ (x : ℕ). x + 1) number,
-            ap (λ (hs : List (Option Course)). set hs 0 none) is.1,
+            ap (λ (hs : List (Option Ringed)). set hs 0 none) is.1,
             others (λ k u. u.inside ≡ true → (k ≡ id) × (u.seen ≡ log)) s.views id w (λ _. (refl, is.2)) (λ k u apart e inside. absurd (both_ways u.inside (is.4 k u e) inside)),
           );
           known = others (Knows c log kept.owner) s.views id w (subst (Knows c log kept.owner id) same (whole c log kept.owner id v true (kept.known id v at))) (λ k u apart e. kept.known k u e);
           below = kept.below;
         },
         record {
-          course = r;
+          held = r;
           has = refl;
           told = subst (λ (xs : List Entry). Told xs v) (sym is.2) (told c s kept id v at);
-          settings = λ d it_is. is.3 ∙ ap settings_by (sym ((kept.known id v at).config d it_is));
+          asked = λ d it_is. subst (λ (x : SharedConfig). IsAsAsked x r) (sym ((kept.known id v at).config d it_is)) is.3;
           word = number ∙ ap word_of (sym is.2);
         },
       )
@@ -162,9 +161,9 @@ module _ (c : Config) (slots : ℕ) where
         ((λ hit. absurd (miss hit)), λ _. refl),
       ))
 
-  pub enters : (id n : ℕ) (m : Me Course Known) → m.1 ≡ [] → n % 2 ≡ 0 → Allows (Keeps c) slots id m TURN_WORD (λ x. either (eqb x n) (n + 1) x) (Entered (step slots TURN_WORD n (n + 1) none) m)
+  pub enters : (id n : ℕ) (m : Me Ringed Known) → m.1 ≡ [] → n % 2 ≡ 0 → Allows (Keeps c) slots id m TURN_WORD (λ x. either (eqb x n) (n + 1) x) (Entered (step slots TURN_WORD n (n + 1) none) m)
   enters id n m none-carried even =
-      subst (λ (y : Me Course Known). Allows (Keeps c) slots id y TURN_WORD (λ x. either (eqb x n) (n + 1) x) (Entered (step slots TURN_WORD n (n + 1) none) y)) (λ i. (m.0, sym none-carried i)) (enters_from id n m.0 even)
+      subst (λ (y : Me Ringed Known). Allows (Keeps c) slots id y TURN_WORD (λ x. either (eqb x n) (n + 1) x) (Entered (step slots TURN_WORD n (n + 1) none) y)) (λ i. (m.0, sym none-carried i)) (enters_from id n m.0 even)
 
   -- entries of a member's own mutators are no one else's
   not_theirs : (owner : ℕ → Option ℕ) (id : ℕ) (v : Known) (added : List Entry) → ((m : ℕ) → IsWithin v.from v.to m → owner m ≡ some id) → All (λ e. IsWithin v.from v.to e.mutator) added
@@ -193,47 +192,47 @@ module _ (c : Config) (slots : ℕ) where
     gone = knows.gone;
   }
 
-  give_turn : (s : S) (new id : ℕ) (v : Known) (r : Course) (kept : Keeps c s) (t : Turn) → IsTurn c s kept.log t → get_elem? s.views id ≡ some v → v.inside ≡ true
-      → GoesOn v.from v.to v.seen r.history → (d : Config) → v.config ≡ Some d → settings_of r.heap ≡ settings_by d → new ≡ word_of r.history
-      → Keeps c (stepped s TURN_WORD new id ((0, r) ∷ []) (record v { seen = r.history; inside = false }) gives)
-  give_turn s new id v r kept (free was) is at inside goes d config settings number = absurd (both_ways v.inside (is.4 id v at) inside)
-  give_turn s new id v r kept (taken by) is at inside goes d config settings number =
+  give_turn : (s : S) (new id : ℕ) (v : Known) (r : Ringed) (kept : Keeps c s) (t : Turn) → IsTurn c s kept.log t → get_elem? s.views id ≡ some v → v.inside ≡ true
+      → GoesOn v.from v.to v.seen r.course.history → (d : SharedConfig) → v.config ≡ Some d → IsAsAsked d r → new ≡ word_of r.course.history
+      → Keeps c (stepped s TURN_WORD new id ((0, r) ∷ []) (record v { seen = r.course.history; inside = false }) gives)
+  give_turn s new id v r kept (free was) is at inside goes d config asked number = absurd (both_ways v.inside (is.4 id v at) inside)
+  give_turn s new id v r kept (taken by) is at inside goes d config asked number =
       let mine = is.2 id v at inside in
       let log = kept.log in
       let added = goes.0 in
       let knows = kept.known id v at in
       let foreign = not_theirs kept.owner id v added knows.owns goes.2 in
-      let grown : log ++ added ≡ r.history = ap (λ (xs : List Entry). xs ++ added) (sym mine.1) ∙ goes.1 in
-      let w : Known = record v { seen = r.history; inside = false } in
-      let below_new : AreBelow c.mutators (log ++ added) = All-append (λ (e : Entry). e.mutator < c.mutators) log added kept.below (λ j e lt. (let h = goes.2 j e lt in let top = knows.range in omega (arith, h.1, top))) in
+      let grown : log ++ added ≡ r.course.history = ap (λ (xs : List Entry). xs ++ added) (sym mine.1) ∙ goes.1 in
+      let w : Known = record v { seen = r.course.history; inside = false } in
+      let below_new : AreBelow c.config.mutators (log ++ added) = All-append (λ (e : Entry). e.mutator < c.config.mutators) log added kept.below (λ j e lt. (let h = goes.2 j e lt in let top = knows.range in omega (arith, h.1, top))) in
       record {
-        log = r.history;
+        log = r.course.history;
         turn = free r;
         owner = kept.owner;
         has_word = still_there s.words new kept.has_word;
         stands = (
           new_word s.words new kept.has_word ∙ number,
-          ap (λ (hs : List (Option Course)). set hs 0 (some r)) is.1,
+          ap (λ (hs : List (Option Ringed)). set hs 0 (some r)) is.1,
           refl,
-          settings ∙ ap settings_by (knows.config d config),
+          subst (λ (x : SharedConfig). IsAsAsked x r) (knows.config d config) asked,
           others (λ k u. u.inside ≡ false) s.views id w refl (λ k u apart e. not_true u.inside (λ so. apart ((is.2 k u e so).0 ∙ sym mine.0))),
         );
-        known = others (Knows c r.history kept.owner) s.views id w
+        known = others (Knows c r.course.history kept.owner) s.views id w
             (subst (λ (xs : List Entry). Knows c xs kept.owner id (record v { seen = xs; inside = false })) grown (knows_after log added kept.owner id v foreign knows))
             (λ k u apart e. subst (λ (xs : List Entry). Knows c xs kept.owner k u) grown (others_know log added kept.owner id k u foreign apart (kept.known k u e)));
-        below = subst (AreBelow c.mutators) grown below_new;
+        below = subst (AreBelow c.config.mutators) grown below_new;
       }
 
-  leaves_from : (id new : ℕ) (v : Known) (r : Course) → v.inside ≡ true → GoesOn v.from v.to v.seen r.history → (d : Config) → v.config ≡ Some d → settings_of r.heap ≡ settings_by d → new ≡ word_of r.history
+  leaves_from : (id new : ℕ) (v : Known) (r : Ringed) → v.inside ≡ true → GoesOn v.from v.to v.seen r.course.history → (d : SharedConfig) → v.config ≡ Some d → IsAsAsked d r → new ≡ word_of r.course.history
       → Allows (Keeps c) slots id (v, (0, r) ∷ []) TURN_WORD (λ _. new) (λ _. Left (step slots TURN_WORD new 0 none) (v, (0, r) ∷ []) new)
-  leaves_from id new v r inside goes d config settings number s k wide at below =
-      (record v { seen = r.history; inside = false }, gives, tt, give_turn s new id v r k k.turn k.stands at inside goes d config settings number, refl)
+  leaves_from id new v r inside goes d config asked number s k wide at below =
+      (record v { seen = r.course.history; inside = false }, gives, tt, give_turn s new id v r k k.turn k.stands at inside goes d config asked number, refl)
 
   -- the turn is given back
-  pub leaves : (id new : ℕ) (m : Me Course Known) (r : Course) → m.1 ≡ (0, r) ∷ [] → m.0.inside ≡ true → GoesOn m.0.from m.0.to m.0.seen r.history → (d : Config) → m.0.config ≡ Some d → settings_of r.heap ≡ settings_by d → new ≡ word_of r.history
+  pub leaves : (id new : ℕ) (m : Me Ringed Known) (r : Ringed) → m.1 ≡ (0, r) ∷ [] → m.0.inside ≡ true → GoesOn m.0.from m.0.to m.0.seen r.course.history → (d : SharedConfig) → m.0.config ≡ Some d → IsAsAsked d r → new ≡ word_of r.course.history
       → Allows (Keeps c) slots id m TURN_WORD (λ _. new) (λ _. Left (step slots TURN_WORD new 0 none) m new)
-  leaves id new m r carried inside goes d config settings number =
-      subst (λ (y : Me Course Known). Allows (Keeps c) slots id y TURN_WORD (λ _. new) (λ _. Left (step slots TURN_WORD new 0 none) y new)) (λ i. (m.0, sym carried i)) (leaves_from id new m.0 r inside goes d config settings number)
+  leaves id new m r carried inside goes d config asked number =
+      subst (λ (y : Me Ringed Known). Allows (Keeps c) slots id y TURN_WORD (λ _. new) (λ _. Left (step slots TURN_WORD new 0 none) y new)) (λ i. (m.0, sym carried i)) (leaves_from id new m.0 r inside goes d config asked number)
 
   -- another view of a member that isn't inside leaves the turn as it is
   turn_stays : (s : S) (id : ℕ) (w : Known) (log : List Entry) (t : Turn) → IsTurn c s log t → w.inside ≡ false
@@ -265,9 +264,9 @@ module _ (c : Config) (slots : ℕ) where
       (w, keeps, tt, view_changes s k id w out knows, (refl, told c s k id v at, number_is s k.log k.turn k.stands))
 
   -- the word is looked at
-  pub looks : (id : ℕ) (m : Me Course Known) → m.1 ≡ [] → m.0.inside ≡ false → Allows (Keeps c) slots id m TURN_WORD (λ n. n) (Looked (step slots TURN_WORD 0 0 none) m)
+  pub looks : (id : ℕ) (m : Me Ringed Known) → m.1 ≡ [] → m.0.inside ≡ false → Allows (Keeps c) slots id m TURN_WORD (λ n. n) (Looked (step slots TURN_WORD 0 0 none) m)
   looks id m none-carried out =
-      subst (λ (y : Me Course Known). Allows (Keeps c) slots id y TURN_WORD (λ n. n) (Looked (step slots TURN_WORD 0 0 none) y)) (λ i. (m.0, sym none-carried i)) (looks_from id m.0 out)
+      subst (λ (y : Me Ringed Known). Allows (Keeps c) slots id y TURN_WORD (λ n. n) (Looked (step slots TURN_WORD 0 0 none) y)) (λ i. (m.0, sym none-carried i)) (looks_from id m.0 out)
 
   either_same : (x n : ℕ) → either (eqb x n) n x ≡ x
   either_same x n = dite (ℕ_discrete x n) (λ (hit : x ≡ n). ap (λ b. either b n x) (eq-eqb x n hit) ∙ sym hit) (λ (miss : x ≢ n). ap (λ b. either b n x) (ne_eqb x n miss))
@@ -280,6 +279,6 @@ module _ (c : Config) (slots : ℕ) where
       (w, keeps, tt, subst (λ y. Keeps c (stepped s TURN_WORD y id [] w keeps)) (sym (either_same x n)) (view_changes s k id w out knows), refl)
 
   -- a place is named at which the member's mutators are to be cut in two
-  pub cuts : (id n : ℕ) (m : Me Course Known) → m.1 ≡ [] → m.0.inside ≡ false → Allows (Keeps c) slots id m TURN_WORD (λ x. either (eqb x n) n x) (Cut (step slots TURN_WORD n n none) m)
+  pub cuts : (id n : ℕ) (m : Me Ringed Known) → m.1 ≡ [] → m.0.inside ≡ false → Allows (Keeps c) slots id m TURN_WORD (λ x. either (eqb x n) n x) (Cut (step slots TURN_WORD n n none) m)
   cuts id n m none-carried out =
-      subst (λ (y : Me Course Known). Allows (Keeps c) slots id y TURN_WORD (λ x. either (eqb x n) n x) (Cut (step slots TURN_WORD n n none) y)) (λ i. (m.0, sym none-carried i)) (cuts_from id n m.0 out)
+      subst (λ (y : Me Ringed Known). Allows (Keeps c) slots id y TURN_WORD (λ x. either (eqb x n) n x) (Cut (step slots TURN_WORD n n none) y)) (λ i. (m.0, sym none-carried i)) (cuts_from id n m.0 out)

@@ -14,7 +14,7 @@ others P vs id w mine rest k v e = ⊎_elim
     (λ (t : (k ≢ id) × (get_elem? vs k ≡ some v)). rest k v t.0 t.1)
     (at_set vs id k w v e)
 
-below_there : (vs : List Known) (k : ℕ) (v : Known) → get_elem? vs k ≡ some v → k < length vs
+pub below_there : (vs : List Known) (k : ℕ) (v : Known) → get_elem? vs k ≡ some v → k < length vs
 below_there [] k v e = absurd (some-ne-none v (sym e))
 below_there (x ∷ xs) zero v e = omega arith
 below_there (x ∷ xs) (suc k) v e = (let r = below_there xs k v e in omega (arith, r))

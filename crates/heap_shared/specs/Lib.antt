@@ -1,5 +1,6 @@
 pub mod Past
 pub mod Accounts
+pub mod Ring
 pub mod Turns
 pub mod Members
 pub mod Merged

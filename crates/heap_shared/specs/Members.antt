@@ -6,7 +6,6 @@ use Rattle.graph_heap.specs.declared.command.Entry.{Entry}
 use Rattle.graph_heap.specs.declared.command.Reply.{Reply}
 use Rattle.atomic_table.specs.Table.{Me}
 use Rattle.atomic_table.specs.Seated.{TableId}
-use Rattle.settings.specs.declared.config.Config.{Config}
 use Rattle.heap_model.specs.Event.{Course, Event, Command_done, Does}
 use Rattle.heap_model.specs.Settings.{HeapSettings, settings_of, settings_by}
 use Rattle.heap_model.specs.State.{HeapState}
@@ -20,14 +19,18 @@ use Rattle.heap_shared.specs.declared.member.NoMember.{NoMember}
 use Rattle.heap_shared.specs.declared.member.NoMember.TheVariants as members
 use Rattle.heap_shared.specs.declared.member.NotDone.{NotDone}
 use Rattle.heap_shared.specs.declared.member.NotDone.TheVariants as undone
+use Rattle.heap_shared.specs.declared.member.NoEntry.{NoEntry}
+use Rattle.heap_shared.specs.declared.shared_heap.SharedConfig.{SharedConfig}
 use Rattle.heap_shared.specs.Accounts.{IsWithin, BearsOut, GoesOn, AreBelow}
+use Rattle.heap_shared.specs.Ring.{Ringed, IsAsAsked, TellsEntry}
 use Rattle.heap_shared.specs.Turns.{word_of}
 
--- Which heap it is, and its settings; the member's own account, with what it has seen of the history up to its last turn or
+-- Which heap it is, its settings, and how many of the last entries it keeps; the member's own account, with what it has seen of the history up to its last turn or
 -- look; the accounts that it has learnt; and the heap with its history, while it has the turn.
 pub record MemberView : Type 0 where
   pub heap : TableId
   pub settings : HeapSettings
+  pub ring : ℕ
   pub from : ℕ
   pub to : ℕ
   pub seen : List Entry
@@ -35,15 +38,16 @@ pub record MemberView : Type 0 where
   pub turn : Option Course
 
 -- the heap that is carried
-abbrev pub turn_of : List (ℕ × Course) → Option Course
+abbrev pub turn_of : List (ℕ × Ringed) → Option Course
 turn_of [] = None
-turn_of (x ∷ xs) = Some x.1
+turn_of (x ∷ xs) = Some x.1.course
 
 -- what a member of a heap shows
-abbrev pub shown_by : TableId → Config → Me Course Known → MemberView
+abbrev pub shown_by : TableId → SharedConfig → Me Ringed Known → MemberView
 shown_by id c m = record {
   heap = id;
-  settings = settings_by c;
+  settings = settings_by c.config;
+  ring = c.ring;
   from = m.0.from;
   to = m.0.to;
   seen = m.0.seen;
@@ -51,18 +55,18 @@ shown_by id c m = record {
   turn = turn_of m.1;
 }
 
--- who has the turn at a heap of this configuration carries it, with what it has seen and entries of its own mutators; the
+-- who has the turn at a heap that was asked for so carries it, with what it has seen and entries of its own mutators; the
 -- number is what the word gets when it gives the turn back
-pub record HasHeap (c : Config) (word : ℕ) (m : Me Course Known) : Type 0 where
-  pub course : Course
+pub record HasHeap (c : SharedConfig) (word : ℕ) (m : Me Ringed Known) : Type 0 where
+  pub held : Ringed
   pub inside : m.0.inside ≡ true
-  pub carried : m.1 ≡ (0, course) ∷ []
-  pub goes : GoesOn m.0.from m.0.to m.0.seen course.history
-  pub settings : settings_of course.heap ≡ settings_by c
-  pub number : word ≡ word_of course.history
+  pub carried : m.1 ≡ (0, held) ∷ []
+  pub goes : GoesOn m.0.from m.0.to m.0.seen held.course.history
+  pub asked : IsAsAsked c held
+  pub number : word ≡ word_of held.course.history
 
 -- whether a member has the turn
-abbrev pub IsMember : Config → Bool → ℕ → Me Course Known → Type 0
+abbrev pub IsMember : SharedConfig → Bool → ℕ → Me Ringed Known → Type 0
 IsMember c false word m = (m.1 ≡ []) × (m.0.inside ≡ false)
 IsMember c true word m = HasHeap c word m
 
@@ -106,6 +110,11 @@ DoesInTurn event old answer new = DoesIn old.turn event old answer new
 abbrev pub Finds : {A : Type 0} → (HeapState → A → Type 0) → MemberView → Option A → MemberView → Type 0
 Finds look old None new = (old.turn ≡ None) × (new ≡ old)
 Finds look old (Some a) new = (r : Course) × (old.turn ≡ Some r) × look r.heap a × (new ≡ old)
+
+-- What there is at a place of the history is told while the member has the turn; without it nothing is. Nothing changes.
+abbrev pub FindsEntry : ℕ → MemberView → Option (Result Entry NoEntry) → MemberView → Type 0
+FindsEntry place old None new = (old.turn ≡ None) × (new ≡ old)
+FindsEntry place old (Some told) new = (r : Course) × (old.turn ≡ Some r) × TellsEntry old.ring r.history place told × (new ≡ old)
 
 -- A command of one of the member's mutators is one event of the heap with its history. Without the turn, or for another
 -- mutator, nothing is done.

@@ -1,5 +1,6 @@
 //! A heap that threads share where none of them waits in here: a member takes its turn where no other has it, does as many
-//! commands of its own mutators as it likes, and gives the turn back. The history of the heap exists in proofs alone.
+//! commands of its own mutators as it likes, and gives the turn back. The history of the heap exists in proofs alone, but for
+//! its last entries, where a ring for them is asked for.
 #![tactic(auto)]
 
 mod crossing;
@@ -7,12 +8,14 @@ mod fitting;
 mod ghost_history;
 mod laws;
 mod member;
+mod ring;
 mod rule;
 mod shared_heap;
 
 pub use crossing::members_cross;
 pub use ghost_history::GhostHistory;
 pub use laws::histories_merge;
-pub use member::{Member, NoMember, NoTurn, NotDone};
+pub use member::{Member, NoEntry, NoMember, NoTurn, NotDone};
+pub use ring::Ring;
 pub use rule::{Account, Known, TurnRule};
-pub use shared_heap::SharedHeap;
+pub use shared_heap::{SharedConfig, SharedHeap};

@@ -1,11 +1,11 @@
 //! Members of a shared heap.
-ghost use Rattle.std.specs.Prelude.{◌≡◌, ◌∷◌, ◌++◌, [], IfOk, IfSome, MatchResult, Ok, Err, None};
+ghost use Rattle.std.specs.Prelude.{◌≡◌, ◌<◌, ◌+◌, ◌%◌, ◌∷◌, ◌++◌, [], IfOk, IfSome, MatchResult, Ok, Err, None};
 ghost use Rattle.std.specs.Fn.{FnOnceReturnsAt, FnOnceReturnsAtMut};
 ghost use Rattle.heap_model.specs.Settings.{settings_by};
 ghost use Rattle.machine.specs.Headline.{AlwaysHolds};
 ghost use Rattle.machine.specs.Space.{FindsSpace, FoundSpace};
 ghost use Rattle.machine.specs.Recorded.{begin_done, quantum_done};
-ghost use Rattle.heap_shared.specs.Members.{Enters, Leaves, Places, Calls, DoesInTurn, Finds, Adds, Learns, IsPromised};
+ghost use Rattle.heap_shared.specs.Members.{Enters, Leaves, Places, Calls, DoesInTurn, Finds, FindsEntry, Adds, Learns, IsPromised};
 ghost use Rattle.heap_shared.specs.Methods.{IsMethodOf};
 ghost use mathlib.Core.List.{IsPrefix};
 
@@ -13,9 +13,9 @@ use crate::fitting::fitting_first;
 use crate::rule::{
     Cut, Enter, Halve, Known, Learn, Leave, Look, Spare, TURN_WORD, TurnRule, WORDS,
 };
-use crate::shared_heap::SharedHeap;
+use crate::shared_heap::{SharedConfig, SharedHeap};
 use atomic_table::{Refused, Seat, Table};
-use graph_heap::{Command, NoMemory, Reply};
+use graph_heap::{Command, Entry, NoMemory, Reply};
 use machine::{BudgetOutOfRange, Busy, Heap, Spent};
 use settings::Config;
 use std::alloc::Global;
@@ -29,7 +29,7 @@ use std::sync::Arc;
 #[derive(Drop)]
 pub struct Member {
     before: Apart,
-    table: Arc<Table<SharedHeap, Known, Config, TurnRule, Global>, Global>,
+    table: Arc<Table<SharedHeap, Known, SharedConfig, TurnRule, Global>, Global>,
     seat: Seat<SharedHeap, Known>,
     /// What the word is to be once this member gives the turn back.
     word: u64,
@@ -37,6 +37,17 @@ pub struct Member {
     to: u32,
     inside: bool,
     behind: Apart,
+}
+
+/// How many places there are until they begin anew.
+const PLACES: u64 = 9_223_372_036_854_775_808;
+
+/// How many entries there are from a place on, where the history has a length, as both wrap.
+fn entries_since(place: u64, length: u64) -> u64
+    ensures since { (place + result) % 9223372036854775808 ≡ length % 9223372036854775808 }
+    ensures wraps { result < 9223372036854775808 }
+{
+    length.wrapping_sub(place) % PLACES
 }
 
 /// Memory that is never written, as long as two cache lines.
@@ -58,6 +69,15 @@ pub enum NotDone {
     Outside,
     /// The mutator isn't one of the member's.
     NotYours,
+}
+
+/// Why there is no entry at a place.
+#[derive(Clone, Copy, Debug, PartialEq, Eq)]
+pub enum NoEntry {
+    /// It is the place behind the last entry.
+    NotYet,
+    /// The entry there isn't one of the last ones, that the ring has room for.
+    Gone,
 }
 
 /// Why there is no other member.
@@ -87,17 +107,35 @@ impl Model for Member {
 }
 
 impl Member {
-    /// The first member of a new heap, which calls for all mutators. Refused only for lack of memory.
+    /// The first member of a new heap, which calls for all mutators. Of the history no entry is kept. Refused only for lack
+    /// of memory.
     pub fn new(alloc: Global, config: &Config) -> Result<Member, NoMemory>
-        ensures settings { IfOk result (λ m. m.settings ≡ settings_by config.now) }
+        ensures settings { IfOk result (λ m. (m.settings ≡ settings_by config.now) × (m.ring ≡ 0)) }
         ensures mutators { IfOk result (λ m. (m.from ≡ 0) × (m.to ≡ config.now.mutators)) }
         ensures seen { IfOk result (λ m. (m.seen ≡ []) × (m.learnt ≡ [])) }
         ensures turn { IfOk result (λ m. m.turn ≡ None) }
     {
-        let heap = SharedHeap::new(alloc, config)?;
+        Member::with_ring(
+            alloc,
+            &SharedConfig {
+                config: *config,
+                ring: 0,
+            },
+        )
+    }
+
+    /// The same, of a heap that keeps the last entries of its history, as many as are asked for. All memory for them is
+    /// taken here.
+    pub fn with_ring(alloc: Global, asked: &SharedConfig) -> Result<Member, NoMemory>
+        ensures settings { IfOk result (λ m. (m.settings ≡ settings_by asked.now.config) × (m.ring ≡ asked.now.ring)) }
+        ensures mutators { IfOk result (λ m. (m.from ≡ 0) × (m.to ≡ asked.now.config.mutators)) }
+        ensures seen { IfOk result (λ m. (m.seen ≡ []) × (m.learnt ≡ [])) }
+        ensures turn { IfOk result (λ m. m.turn ≡ None) }
+    {
+        let heap = SharedHeap::new(alloc, asked)?;
         let mut slots = Vec::with_capacity(alloc, 1)?;
         slots.push_reserved(heap);
-        match Table::new(alloc, &[0; WORDS], slots, config) {
+        match Table::new(alloc, &[0; WORDS], slots, asked) {
             Ok((table, seat)) => {
                 let table = Arc::new(alloc, table)?;
                 Ok(Member {
@@ -106,7 +144,7 @@ impl Member {
                     seat,
                     word: 0,
                     from: 0,
-                    to: config.mutators,
+                    to: asked.config.mutators,
                     inside: false,
                     behind: [0; 16],
                 })
@@ -282,6 +320,24 @@ impl Member {
             return None;
         }
         Some(self.seat.slot_mut(&self.table.shared, 0).inspect(look))
+    }
+
+    /// The entry at a place of the history, where the member has the turn. Places count from 0, and wrap at 2^63.
+    pub fn entry(&mut self, place: u64) -> Option<Result<Entry, NoEntry>>
+        ensures { FindsEntry place self.old result self.new }
+    {
+        if !self.inside {
+            return None;
+        }
+        let ago = entries_since(place, self.word / 2);
+        if ago == 0 {
+            return Some(Err(NoEntry::NotYet));
+        }
+        let entry = self
+            .seat
+            .slot_mut(&self.table.shared, 0)
+            .entry_ago(ago as usize);
+        Some(entry.ok_or(NoEntry::Gone))
     }
 
     /// Learns what another member can tell of the history, once that has given the turn back, where both are of one heap; of

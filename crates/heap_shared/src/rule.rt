@@ -1,8 +1,7 @@
 //! The rule of the word by which members take turns, and what a step on it tells.
-use crate::shared_heap::SharedHeap;
+use crate::shared_heap::{SharedConfig, SharedHeap};
 use atomic_table::{Play, Split, TableRule};
 use graph_heap::Entry;
-use settings::Config;
 use std::collections::LinkedList;
 
 /// How many words the table has. One counts: the others keep what lies beside the table in memory off its cache line.
@@ -19,10 +18,10 @@ pub struct Account {
     pub seen: LinkedList<Entry>,
 }
 
-/// What a member knows: the configuration of the heap; its account; where its mutators were cut last; the accounts of
+/// What a member knows: what was asked of the heap; its account; where its mutators were cut last; the accounts of
 /// those that it has learnt from; and whether it has the turn. No value of it is made.
 pub struct Known {
-    pub config: Option<Config>,
+    pub config: Option<SharedConfig>,
     pub from: u32,
     pub to: u32,
     pub cut: u32,
@@ -36,7 +35,7 @@ pub struct Known {
 /// of its own mutators the history has no more than that.
 pub struct TurnRule;
 
-impl TableRule<SharedHeap, Known, Config> for TurnRule {
+impl TableRule<SharedHeap, Known, SharedConfig> for TurnRule {
     ghost use Rattle.heap_shared.specs.Turns.{Keeps, newcomer};
 
     ghost holds = { Keeps };

@@ -4,23 +4,33 @@ ghost use Rattle.std.specs.Fn.{FnOnceReturnsAt, FnOnceReturnsAtMut};
 ghost use Rattle.heap_model.specs.Event.{Does};
 ghost use Rattle.heap_model.specs.Event as done;
 ghost use Rattle.heap_model.specs.Opening.{IsOpening};
-ghost use Rattle.heap_model.specs.Settings.{settings_of, settings_by};
 ghost use Rattle.machine.specs.Headline.{AlwaysHolds};
 ghost use Rattle.machine.specs.Space.{FindsSpace, FoundSpace};
 ghost use Rattle.machine.specs.Recorded.{begin_done, quantum_done};
 ghost use Rattle.heap_shared.specs.Methods.{IsMethodOf};
+ghost use Rattle.heap_shared.specs.Ring.{IsAsAsked, entry_ago};
 
 use crate::ghost_history::GhostHistory;
-use graph_heap::{Command, NoMemory, Reply};
+use crate::ring::Ring;
+use graph_heap::{Command, Entry, NoMemory, Reply};
 use machine::{BudgetOutOfRange, Busy, Heap, Spent};
 use settings::Config;
 use std::alloc::Global;
 use std::marker::Model;
 
-/// A heap. Contracts see it with the history of its commands, which is always legal.
+/// What a shared heap is made of: its configuration, and how many entries its ring has room for.
+#[derive(Clone, Copy, Debug, PartialEq, Eq)]
+pub struct SharedConfig {
+    pub config: Config,
+    pub ring: usize,
+}
+
+/// A heap, and a ring of the last entries of its history. Contracts see it with the history of its commands, which is
+/// always legal, and of which the ring is the end; and with the capacity of the ring.
 pub struct SharedHeap {
     heap: Heap,
     history: GhostHistory,
+    ring: Ring,
 }
 
 impl Drop for SharedHeap {
@@ -29,32 +39,39 @@ impl Drop for SharedHeap {
         let SharedHeap {
             heap: _,
             history: _,
+            ring: _,
         } = self;
     }
 }
 
 impl Model for SharedHeap {
-    ghost use Rattle.heap_model.specs.Event.{Course, IsCourse};
+    ghost use Rattle.std.specs.Prelude.{◌≡◌};
+    ghost use Rattle.circular_buffer.specs.Buffer.{keep_last};
+    ghost use Rattle.heap_model.specs.Event.{IsCourse};
     ghost use Rattle.heap_shared.specs.Past.{course_of};
+    ghost use Rattle.heap_shared.specs.Ring.{Ringed};
 
-    ghost Value = { Course };
+    ghost Value = { Ringed };
 
-    ghost view = { λ a. course_of a.heap a.history.past };
+    ghost view = { λ a. record { course = course_of a.heap a.history.past; ring = a.ring.entries.capacity } };
 
-    ghost invariant = { λ a. IsCourse (course_of a.heap a.history.past) };
+    ghost invariant = { λ a. IsCourse (course_of a.heap a.history.past)
+        × (a.ring.entries.items ≡ keep_last a.ring.entries.capacity a.history.past.history) };
 }
 
 impl SharedHeap {
     /// A new heap, without history. Refused only for lack of memory.
-    pub fn new(alloc: Global, config: &Config) -> Result<SharedHeap, NoMemory>
-        ensures heap { IfOk result (λ r. IsOpening r.heap) }
-        ensures settings { IfOk result (λ r. settings_of r.heap ≡ settings_by config.now) }
-        ensures history { IfOk result (λ r. r.history ≡ []) }
+    pub fn new(alloc: Global, asked: &SharedConfig) -> Result<SharedHeap, NoMemory>
+        ensures heap { IfOk result (λ r. IsOpening r.course.heap) }
+        ensures asked { IfOk result (λ r. IsAsAsked asked.now r) }
+        ensures history { IfOk result (λ r. r.course.history ≡ []) }
     {
-        let heap = Heap::new(alloc, config)?;
+        let heap = Heap::new(alloc, &asked.config)?;
+        let ring = Ring::new(alloc, asked.ring)?;
         Ok(SharedHeap {
             heap,
             history: GhostHistory::empty(),
+            ring,
         })
     }
 
@@ -68,24 +85,36 @@ impl SharedHeap {
     ) -> Reply
         requires callable { F.IsAlwaysCallable method }
         requires does { IsMethodOf mutator command (FnOnceReturnsAtMut F.FnOnce method) }
-        ensures { Does self.old (done.Command_done mutator command result) self.new }
+        ensures does { Does self.old.course (done.Command_done mutator command result) self.new.course }
+        ensures ring { self.new.ring ≡ self.old.ring }
     {
         let reply = method(&mut self.heap);
         self.history.enter(mutator, command, reply);
+        self.ring.enter(mutator, command, reply);
         reply
+    }
+
+    /// The entry of the history that was entered so many entries ago, 1 for the last, where it is one of the last ones,
+    /// which the ring has room for.
+    pub fn entry_ago(&self, ago: usize) -> Option<Entry>
+        ensures entry { result ≡ entry_ago self.now.ring self.now.course.history ago }
+        ensures within { self.now.ring < 9223372036854775808 }
+    {
+        self.ring.entry_ago(ago)
     }
 
     /// What is found of the heap.
     pub fn inspect<T, F: FnOnce(&Heap) -> T + Drop>(&self, look: F) -> T
         requires { F.IsAlwaysCallable look }
-        ensures { FnOnceReturnsAt F.FnOnce look self.now.heap result }
+        ensures { FnOnceReturnsAt F.FnOnce look self.now.course.heap result }
     {
         look(&self.heap)
     }
 
     /// Begins a cycle of the collector, unless one is running.
     pub fn begin(&mut self) -> Result<(), Busy>
-        ensures { Does self.old (begin_done result) self.new }
+        ensures does { Does self.old.course (begin_done result) self.new.course }
+        ensures ring { self.new.ring ≡ self.old.ring }
     {
         self.heap.begin()?;
         self.history.begin();
@@ -94,16 +123,17 @@ impl SharedHeap {
 
     /// Spends units of a budget on the cycle that is running.
     pub fn quantum(&mut self, budget: u32) -> Result<Spent, BudgetOutOfRange>
-        ensures { Does self.old (quantum_done budget result) self.new }
+        ensures does { Does self.old.course (quantum_done budget result) self.new.course }
+        ensures ring { self.new.ring ≡ self.old.ring }
     {
         self.heap.quantum(budget)
     }
 
     /// What the type promises, of whatever events led here and of whatever are done next. It does nothing.
     pub fn promise(&self)
-        ensures headline { AlwaysHolds self.now }
-        ensures space { FindsSpace self.now }
-        ensures found { FoundSpace self.now }
+        ensures headline { AlwaysHolds self.now.course }
+        ensures space { FindsSpace self.now.course }
+        ensures found { FoundSpace self.now.course }
     {
         let _history = &self.history;
     }

@@ -1,7 +1,7 @@
 use Rattle.std.proofs.Common.{rules, ◌≡◌, ◌≤◌, ◌<◌, sym, ap, ◌∙◌, subst, arith}
 use Rattle.atomic_table.specs.Table.{Me}
-use Rattle.heap_model.specs.Event.{Course}
 use Rattle.heap_shared.specs.declared.rule.Known.{Known}
+use Rattle.heap_shared.specs.Ring.{Ringed}
 use Rattle.heap_shared.proofs.Turns.{cuts}
 use Rattle.heap_shared.proofs.Splitting.{splits}
 use Rattle.heap_shared.proofs.Members.{carries_none}
@@ -32,12 +32,12 @@ split_seat-seat-requires c =
     let from : c.from-cut.result ≡ c.args.from = search rules in
     let low : c.self.inside.from ≤ c.args.from = search rules in
     let high : c.args.from ≤ c.self.inside.to = search rules in
-    let cut = ap (λ (y : Me Course Known). y.0.cut) did.2 in
-    let starts = ap (λ (y : Me Course Known). y.0.from) did.2 in
-    let ends = ap (λ (y : Me Course Known). y.0.to) did.2 in (
+    let cut = ap (λ (y : Me Ringed Known). y.0.cut) did.2 in
+    let starts = ap (λ (y : Me Ringed Known). y.0.from) did.2 in
+    let ends = ap (λ (y : Me Ringed Known). y.0.to) did.2 in (
       did.0 ∙ (c.self.invariant.0 ∙ sym (ap (λ t. t.shared.table_id) d)),
       omega (arith, words),
-      splits key seat.id seat.me.0 (ap (λ (y : Me Course Known). y.0.inside) did.2 ∙ out.1)
+      splits key seat.id seat.me.0 (ap (λ (y : Me Ringed Known). y.0.inside) did.2 ∙ out.1)
           (omega (arith, cut, starts, from, low, c.self.invariant.3))
           (omega (arith, cut, ends, from, high, c.self.invariant.4)),
     )

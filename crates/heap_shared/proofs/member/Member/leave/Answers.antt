@@ -1,7 +1,9 @@
 use Rattle.std.proofs.Common.{rules, ◌≡◌, ◌<◌, true, sym, ap, ◌∙◌, subst}
 use Rattle.std.specs.Arc.{arc_value}
 use Rattle.heap_shared.proofs.Turns.{leaves}
-use Rattle.heap_shared.proofs.Members.{carries_one}
+use Rattle.atomic_table.specs.Seated.{TableId}
+use Rattle.heap_shared.specs.Members.{MemberView, Leaves, shown_by}
+use Rattle.heap_shared.proofs.Members.{carries_one, leaves_so}
 use Rattle.heap_shared.proofs.member.Member.leave.Goals as goal
 
 pub store-requires : goal.store-requires
@@ -17,5 +19,16 @@ store-requires c =
     let me = c.self.inside.seat.me in (
       c.self.invariant.0 ∙ sym (ap (λ t. t.shared.table_id) d),
       words,
-      leaves key _ id word me one.course one.carried one.inside one.goes held c.self.invariant.2 one.settings one.number,
+      leaves key _ id word me one.held one.carried one.inside one.goes held c.self.invariant.2 one.asked one.number,
     )
+
+pub returns-clause-leaves : goal.returns-clause-leaves
+returns-clause-leaves c =
+    let key = (arc_value c.self.inside.table).shared.key in
+    let table = c.self.inside.seat.table_id in
+    let me = c.self.inside.seat.me in
+    let seat = c.store.new.seat in
+    let did = c.store.ensures in
+    let has : c.self.inside.inside ≡ true = search rules in
+    subst (λ (v : MemberView). Leaves v true (shown_by seat.table_id key seat.me)) c.self.view_is
+    (subst (λ (t : TableId). Leaves (shown_by table key me) true (shown_by t key seat.me)) (sym did.0) (leaves_so table key _ _ me seat.me has c.self.invariant.5 did.2))

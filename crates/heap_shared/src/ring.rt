@@ -1,0 +1,65 @@
+//! The last entries of a history.
+ghost use Rattle.std.specs.Prelude.{◌≡◌, ◌-◌, ◌<◌, ◌∷◌, ◌++◌, [], length, slice_get, IfOk, None, if◌then◌else◌, nat_le};
+ghost use Rattle.circular_buffer.specs.Buffer.{buffer, keep_last};
+
+use circular_buffer::HeapCircularBuffer;
+use graph_heap::{Command, Entry, NoMemory, Reply};
+use std::alloc::Global;
+
+/// The last entries of a history, at most as many as its capacity. All its memory is taken when it is made.
+pub struct Ring {
+    entries: HeapCircularBuffer<Entry, Global>,
+}
+
+impl Drop for Ring {
+    fn drop(self) {
+        let Ring { entries: _ } = self;
+    }
+}
+
+impl Ring {
+    /// One without entries, of this capacity. Refused only for lack of memory.
+    pub(crate) fn new(alloc: Global, capacity: usize) -> Result<Ring, NoMemory>
+        ensures { IfOk result (λ r. r.entries ≡ buffer [] capacity) }
+    {
+        let entries = HeapCircularBuffer::with_capacity(alloc, capacity)?;
+        Ok(Ring { entries })
+    }
+
+    /// A command was done, with this reply. Where the ring is full, its oldest entry goes.
+    #[inline(always)]
+    pub(crate) fn enter(&mut self, mutator: u32, command: Command, reply: Reply)
+        ensures { self.new.entries ≡ buffer
+            (keep_last self.old.entries.capacity
+            (self.old.entries.items ++ (record { mutator = mutator; command = command; reply = reply }) ∷ []))
+            self.old.entries.capacity }
+    {
+        if self.entries.capacity() != 0 {
+            self.push(Entry {
+                mutator,
+                command,
+                reply,
+            });
+        }
+    }
+
+    /// The same, where the ring has room for entries.
+    #[inline(never)]
+    fn push(&mut self, entry: Entry)
+        ensures { self.new.entries ≡ buffer (keep_last self.old.entries.capacity (self.old.entries.items ++ entry ∷ []))
+            self.old.entries.capacity }
+    {
+        self.entries.push_back(entry);
+    }
+
+    /// The entry that was entered so many entries ago, 1 for the last, where the ring has it.
+    pub(crate) fn entry_ago(&self, ago: usize) -> Option<Entry>
+        ensures entry { result ≡ (if nat_le ago (length self.now.entries.items)
+            then slice_get self.now.entries.items (length self.now.entries.items - ago)
+            else None) }
+        ensures within { self.now.entries.capacity < 9223372036854775808 }
+    {
+        let place = self.entries.len().checked_sub(ago)?;
+        self.entries.get(place).copied()
+    }
+}

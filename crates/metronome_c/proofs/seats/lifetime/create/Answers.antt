@@ -24,6 +24,6 @@ pub returns : goal.returns
 returns c =
     let s = c.args.settings.now in
     let f : None ≡ fault_of Library s = ap result_err (sym c.in-Ok.is) ∙ c.check.ensures.fault in
-    let new = c.in-Ok-new.ensures in
-    creates_one (IsNewSeat c.args.ring) _ _ _ _ c.in-Ok-new.made s _ (sym c.is_open.ensures ∙ c.if-is_open.false) (sym c.is_closed.ensures ∙ c.if-not-is_closed.false) f (c.put.ensures ∙ ap Some c.in-Ok-new-2.ensures.ok) (search rules)
+    let new = c.in-Ok-with_ring.ensures in
+    creates_one (IsNewSeat c.args.ring) _ _ _ _ c.in-Ok-with_ring.made s _ (sym c.is_open.ensures ∙ c.if-is_open.false) (sym c.is_closed.ensures ∙ c.if-not-is_closed.false) f (c.put.ensures ∙ ap Some c.in-Ok-new.ensures.ok) (search rules)
     (record { config = c.in-Ok.config; of = c.in-Ok.ensures.values; settings = new.settings; mutators = new.mutators; seen = new.seen; turn = new.turn })

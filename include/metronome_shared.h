@@ -47,6 +47,51 @@ typedef struct metronome_seat {
 
 #define METRONOME_NO_SEAT { 0, 0 }
 
+/* Which command an entry of the history is of. Its numbers and words stand in the order given here, and all others are 0. */
+enum metronome_command_kind {
+    METRONOME_NEW = 0,             /* dst; of the shape its metronome_shape_kind, refs, words */
+    METRONOME_LOAD = 1,            /* dst, obj, i */
+    METRONOME_STORE = 2,           /* obj, i, src */
+    METRONOME_COMPARE_STORE = 3,   /* obj, i, expect, replacement */
+    METRONOME_GET = 4,             /* obj, i */
+    METRONOME_PUT = 5,             /* obj, i; word */
+    METRONOME_COMPARE_PUT = 6,     /* obj, i; old, replacement */
+    METRONOME_COPY = 7,            /* dst, src */
+    METRONOME_CLEAR = 8,           /* dst */
+    METRONOME_LOAD_STATIC = 9,     /* dst, k */
+    METRONOME_STORE_STATIC = 10,   /* k, src */
+    METRONOME_COMPARE_STATIC = 11, /* k, expect, replacement */
+    METRONOME_SAME = 12,           /* a, b */
+    METRONOME_DESCRIBE = 13,       /* a */
+    METRONOME_JOIN = 14,
+    METRONOME_RETIRE = 15
+};
+
+typedef struct metronome_command {
+    uint32_t kind; /* a metronome_command_kind */
+    uint32_t first;
+    uint32_t second;
+    uint32_t third;
+    uint32_t fourth;
+    uint64_t first_word;
+    uint64_t second_word;
+} metronome_command;
+
+/* What there is at a place of the history. */
+enum metronome_entry_kind {
+    METRONOME_GONE = 0,    /* no entry any more: it isn't one of the last that are kept */
+    METRONOME_ENTERED = 1, /* an entry */
+    METRONOME_NOT_YET = 2  /* no entry yet: it is the place behind the last one */
+};
+
+typedef struct metronome_entry {
+    uint32_t kind; /* a metronome_entry_kind; unless it is ENTERED all else is 0 */
+    uint32_t mutator;
+    metronome_command command;
+    metronome_answer answer;
+    metronome_shape shape; /* where the answer is DESCRIBED */
+} metronome_entry;
+
 /* ---- Seats. Where NO_HEAP is the status for a handle that holds no seat, here and below, BAD_HANDLE is the status for what is no
  * handle ---- */
 
@@ -59,6 +104,17 @@ uint32_t metronome_seat_create_for(metronome_seat *seat, const metronome_setting
 /* The same, for this header's version. */
 METRONOME_NONNULL static inline uint32_t metronome_seat_create(metronome_seat *seat, const metronome_settings *settings) {
     return metronome_seat_create_for(seat, settings, METRONOME_VERSION);
+}
+
+/* The same, of a heap that keeps the last `ring` entries of its history, for metronome_seat_entry: 72 bytes each, all taken here.
+ * metronome_seat_create keeps none. Programs call metronome_seat_create_logged. */
+uint32_t metronome_seat_create_logged_for(metronome_seat *seat, const metronome_settings *settings, size_t ring,
+                                          uint32_t version) METRONOME_NONNULL;
+
+/* The same, for this header's version. */
+METRONOME_NONNULL static inline uint32_t metronome_seat_create_logged(metronome_seat *seat, const metronome_settings *settings,
+                                                                      size_t ring) {
+    return metronome_seat_create_logged_for(seat, settings, ring, METRONOME_VERSION);
 }
 
 /* Makes one more seat at the same heap, where `made` holds none. It calls for the mutators of `seat` from number `from` on, and
@@ -123,6 +179,14 @@ metronome_answer metronome_seat_join(metronome_seat *seat, uint32_t mutator) MET
 
 /* A mutator of the seat is live no more, as by metronome_leave. */
 metronome_answer metronome_seat_retire(metronome_seat *seat, uint32_t mutator) METRONOME_NONNULL;
+
+/* ---- The log, in the turn of any seat ---- */
+
+/* What there is at a place of the history, which counts from 0, as metronome_seat_place does: all that metronome_seat_place counts,
+ * are entries, and nothing else, so neither metronome_seat_begin nor metronome_seat_quantum. A program that keeps the next place
+ * that it hasn't read goes on from place to place until there is NOT_YET an entry; of those that are GONE it was too late.
+ * OK; OUTSIDE or NO_HEAP, and *entry is left as it was. */
+uint32_t metronome_seat_entry(metronome_seat *seat, uint64_t place, metronome_entry *entry) METRONOME_NONNULL;
 
 /* ---- The collector, in the turn of any seat, as in metronome.h ---- */
 

@@ -48,6 +48,11 @@ public:
     // The first seat of a new heap: it calls for all mutators.
     std::uint32_t try_open(const metronome_settings &settings) noexcept { return metronome_seat_create(&seat, &settings); }
 
+    // The same, of a heap that keeps so many of the last entries of its history.
+    std::uint32_t try_open_logged(const metronome_settings &settings, std::size_t ring) noexcept {
+        return metronome_seat_create_logged(&seat, &settings, ring);
+    }
+
     // One more seat, which calls for this one's mutators from a number on.
     std::uint32_t try_another(std::uint32_t from, Seat &made) noexcept {
         return &made == this ? std::uint32_t{METRONOME_OPEN} : metronome_seat_another(&seat, &made.seat, from);
@@ -66,6 +71,7 @@ public:
 
 #ifdef __cpp_exceptions
     explicit Seat(const metronome_settings &settings) { detail::need(try_open(settings)); }
+    Seat(const metronome_settings &settings, std::size_t ring) { detail::need(try_open_logged(settings, ring)); }
 
     Seat another(std::uint32_t from) {
         Seat made;
@@ -111,6 +117,11 @@ public:
         return detail::status_of(found);
     }
 
+    // What there is at a place of the history.
+    std::uint32_t try_entry(std::uint64_t place, metronome_entry &entry) noexcept {
+        return metronome_seat_entry(seat, place, &entry);
+    }
+
     // BUSY where a cycle is running already.
     std::uint32_t try_begin() noexcept { return metronome_seat_begin(seat); }
     std::uint32_t try_quantum(std::uint32_t budget, metronome_spent &spent) noexcept {
@@ -140,6 +151,12 @@ public:
         metronome_answer answer{};
         detail::need(try_call(answer, command, given...));
         return answer;
+    }
+
+    metronome_entry entry(std::uint64_t place) {
+        metronome_entry entry{};
+        detail::need(try_entry(place, entry));
+        return entry;
     }
 
     // Whether a cycle began: none was running.

@@ -3,6 +3,7 @@ use std::ffi::c_void;
 use std::os::raw::c_char;
 
 use crate::flow::{Flow, Work};
+use crate::log::EntryTold;
 use crate::refusal::{Refusal, Result};
 
 /// The version of metronome.h of which these declarations are.
@@ -95,6 +96,7 @@ pub fn version() -> u32 {
 
 /// How a command ends.
 #[repr(C)]
+#[derive(Default)]
 pub(crate) struct Answer {
     kind: u32,
     pub(crate) number: u64,
@@ -335,10 +337,17 @@ extern "C" {
     pub(crate) fn metronome_text_into(status: u32, text: *mut c_char, length: usize) -> usize;
     pub(crate) fn metronome_version() -> u32;
     pub(crate) fn metronome_seat_create_for(seat: *mut SeatHandle, settings: *const Settings, version: u32) -> u32;
+    pub(crate) fn metronome_seat_create_logged_for(
+        seat: *mut SeatHandle,
+        settings: *const Settings,
+        ring: usize,
+        version: u32,
+    ) -> u32;
     pub(crate) fn metronome_seat_another(seat: *mut SeatHandle, made: *mut SeatHandle, from: u32) -> u32;
     pub(crate) fn metronome_seat_enter(seat: *mut SeatHandle) -> u32;
     pub(crate) fn metronome_seat_leave(seat: *mut SeatHandle) -> u32;
     pub(crate) fn metronome_seat_place(seat: *mut SeatHandle, place: *mut u64) -> u32;
+    pub(crate) fn metronome_seat_entry(seat: *mut SeatHandle, place: u64, entry: *mut EntryTold) -> u32;
     pub(crate) fn metronome_seat_learn(seat: *mut SeatHandle, other: *mut SeatHandle) -> u32;
     pub(crate) fn metronome_seat_destroy(seat: *mut SeatHandle);
     pub(crate) fn metronome_seat_new_plain(seat: *mut SeatHandle, mutator: u32, dst: u32, refs: u32, words: u32) -> Answer;

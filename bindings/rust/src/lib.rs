@@ -43,6 +43,7 @@
 mod calls;
 mod flow;
 mod heap;
+mod log;
 mod mutator;
 mod record;
 mod refusal;
@@ -54,6 +55,7 @@ mod walk;
 pub use calls::{version, Counts, CycleLimit, Page, Settings};
 pub use flow::{Flow, Work};
 pub use heap::{Heap, Pacing, Phase, Spent};
+pub use log::{Command, Entry, Logged};
 pub use mutator::Mutator;
 pub use record::Recording;
 pub use refusal::{Refusal, Result};

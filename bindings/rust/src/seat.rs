@@ -73,9 +73,20 @@ impl Drop for Gate {
 impl Shared {
     /// Makes a heap. Refused: `BadSetting`, `BadSchedule`, `NoMemory`, `OtherVersion`.
     pub fn new(settings: &Settings) -> Result<Shared> {
-        let mut handle = SeatHandle::NONE;
         // SAFETY: both live through the call, and the handle holds none.
-        done(unsafe { calls::metronome_seat_create_for(&mut handle, settings, calls::VERSION) })?;
+        Shared::opened(|handle| unsafe { calls::metronome_seat_create_for(handle, settings, calls::VERSION) })
+    }
+
+    /// The same, of a heap that keeps the last `ring` entries of its history, for [`Turn::entry`]: 72 bytes each, all taken here.
+    pub fn logged(settings: &Settings, ring: usize) -> Result<Shared> {
+        // SAFETY: as above.
+        Shared::opened(|handle| unsafe { calls::metronome_seat_create_logged_for(handle, settings, ring, calls::VERSION) })
+    }
+
+    /// The heap whose first seat a call makes.
+    fn opened(create: impl FnOnce(&mut SeatHandle) -> u32) -> Result<Shared> {
+        let mut handle = SeatHandle::NONE;
+        done(create(&mut handle))?;
         Ok(Shared { gate: Arc::new(Gate { lock: Mutex::new(handle) }) })
     }
 

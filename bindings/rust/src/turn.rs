@@ -4,6 +4,7 @@ use std::sync::MutexGuard;
 
 use crate::calls::{self, done, Answer, Counts, Page, SeatHandle, ShapeTold, SpentTold};
 use crate::heap::{Pacing, Phase, Spent};
+use crate::log::{EntryTold, Logged};
 use crate::refusal::{Refusal, Result};
 use crate::root::{Compared, Description, Shape};
 
@@ -200,6 +201,15 @@ impl<'s> Turn<'s> {
             pacing.owed -= pacing.words;
         }
         Ok(())
+    }
+
+    /// What there is at a place of the history, from 0, as [`crate::Seat::place`] counts them: of a heap made by
+    /// [`crate::Shared::logged`].
+    pub fn entry(&mut self, place: u64) -> Logged {
+        let mut told = EntryTold::default();
+        // SAFETY: as above, and `told` lives through the call.
+        unsafe { calls::metronome_seat_entry(self.seat, place, &mut told) };
+        Logged::of(&told)
     }
 
     /// The phase of the collector.

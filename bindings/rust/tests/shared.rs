@@ -3,7 +3,9 @@ use std::panic::{catch_unwind, AssertUnwindSafe};
 use std::sync::mpsc;
 use std::thread;
 
-use metronome::{Compared, Description, Pacing, Page, Phase, Refusal, Result, Seat, Settings, Shape, Shared};
+use metronome::{
+    Command, Compared, Description, Entry, Logged, Pacing, Page, Phase, Refusal, Result, Seat, Settings, Shape, Shared,
+};
 
 /// Four mutators of four slots, and one static.
 const SMALL: Settings = Settings { statics: 1, ..Settings::new(16, 4, 4) };
@@ -26,6 +28,40 @@ fn mutators_go_to_seats() -> Result<()> {
     shared.enter().clear(1, 0)?;
     assert_eq!(shared.enter().clear(2, 0).err(), Some(Refusal::NotYours));
     assert_eq!((shared.place(), last.place()), (3, 3));
+    Ok(())
+}
+
+#[test]
+fn the_last_entries_are_logged() -> Result<()> {
+    let shared = Shared::logged(&SMALL, 3)?;
+    let mut seat = shared.seat(1)?;
+    let shape = Shape::Plain { refs: 1, words: 2 };
+    let mut turn = seat.enter();
+    assert_eq!(turn.entry(0), Logged::NotYet);
+    turn.clear(1, 3)?;
+    turn.new_plain(1, 0, 1, 2)?;
+    assert_eq!(turn.compare_put(1, 0, 1, 5, 6)?, Compared::Kept(0));
+    drop(turn);
+    let mut turn = shared.enter();
+    assert_eq!(turn.describe(0, 2).err(), Some(Refusal::NullSlot));
+    assert!(turn.begin());
+    assert_eq!((turn.entry(0), turn.entry(4)), (Logged::Gone, Logged::NotYet));
+    let entries = [
+        (1, Command::New { dst: 0, shape }, Ok(1)),
+        (1, Command::ComparePut { obj: 0, i: 1, old: 5, replacement: 6 }, Ok(0)),
+        (0, Command::Describe { a: 2 }, Err(Refusal::NullSlot)),
+    ];
+    for (place, (mutator, command, answer)) in (1..).zip(entries) {
+        assert_eq!(turn.entry(place), Logged::Entered(Entry { mutator, command, answer, shape: None }));
+    }
+    drop(turn);
+    let mut turn = seat.enter();
+    turn.describe(1, 0)?;
+    let described = Entry { mutator: 1, command: Command::Describe { a: 0 }, answer: Ok(1), shape: Some(shape) };
+    assert_eq!((turn.entry(1), turn.entry(4)), (Logged::Gone, Logged::Entered(described)));
+    drop(turn);
+    assert_eq!(Shared::new(&SMALL)?.enter().entry(0), Logged::NotYet);
+    assert_eq!(Shared::logged(&SMALL, usize::MAX).err(), Some(Refusal::NoMemory));
     Ok(())
 }
 

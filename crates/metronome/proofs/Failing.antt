@@ -24,6 +24,7 @@ use Rattle.player.specs.Surveying.{NewRun, Surveyed}
 use Rattle.player.proofs.Lines.{ends_otherwise, nothing_written}
 use Rattle.pictures.specs.GraphDrawn.{GraphDrawn}
 use Rattle.inspector.specs.Taking.{TellsCycles}
+use Rattle.plans.specs.Live.{TellsMostLive}
 use Rattle.sizing.specs.Measuring.{RunMeasured}
 use Rattle.sizing.specs.AllocationProfile.{AllocationProfile}
 use Rattle.sizing.specs.declared.arrivals.keeping.Conformance.{Conformance}
@@ -184,4 +185,5 @@ of_answer Says (Err why) (Err other) is none = ap writes_failed is ∙ none
 pub answer_unwritten : (question : Question) (config : Settings) (given : Given) (answered : Result Answer PlayFault) → IsAnswer question config given answered → writes_failed answered ≡ 0
 answer_unwritten questions.History config given answered w = of_answer _ w.0 answered w.2 (entries_unwritten config given w.0 w.1)
 answer_unwritten (questions.Cycles layout) config given answered w = of_answer _ w.0 answered w.2 (surveyed_unwritten TellsCycles config given w.0 w.1)
+answer_unwritten questions.Plan config given answered w = of_answer _ w.0 answered w.2 (surveyed_unwritten TellsMostLive config given w.0 w.1)
 answer_unwritten (questions.Pages pace) config given answered w = of_answer _ w.0 answered w.2 (surveyed_unwritten RunMeasured config given w.0 w.1)

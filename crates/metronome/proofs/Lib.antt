@@ -2,7 +2,6 @@ pub mod Finishing
 pub mod Writing
 pub mod Reading
 pub mod Telling
-pub mod Reported
 pub mod Sharing
 pub mod Covering
 pub mod Failing

@@ -20,10 +20,10 @@ use Rattle.inspector.specs.declared.cycles.text.Layout.{Layout}
 use Rattle.inspector.specs.declared.cycles.text.Layout.TheVariants.{Columns, Commas}
 use Rattle.metronome.specs.Answered.{Answered}
 use Rattle.metronome.specs.OverTime.{TimeDrawn}
-use Rattle.metronome.specs.Told.{ReportTold, TextWritten}
+use Rattle.metronome.specs.Told.{ReportTold}
 use Rattle.metronome.specs.Loaded.{LoadTold, LoadCountsReads}
 use Rattle.metronome.specs.After.{AfterPlay}
-use Rattle.metronome.specs.Telling.{report_by, PictureDrawn, GraphTold, TellsWhy, WindowsTold}
+use Rattle.metronome.specs.Telling.{HeapReported, PictureDrawn, GraphTold, TellsWhy, WindowsTold}
 
 -- what is written of each command
 abbrev pub style_of : Bool → Style
@@ -39,7 +39,7 @@ abbrev pub JobDone : KnownFiles → Job → Config → Given → Taken → Resul
 JobDone files (Play history) config = TracePlayed (style_of history) config
 JobDone files Check config = Answered questions.History config
 JobDone files (Threads turns budget) config = ScriptsRun turns budget config
-JobDone files (Inspect by after) config = AfterPlay (λ p. TextWritten Done (report_by by p.course.heap)) after config
+JobDone files (Inspect by after) config = AfterPlay (λ p. HeapReported by p.course.heap) after config
 JobDone files (Cycles csv) config = Answered (questions.Cycles (layout_of csv)) config
 JobDone files (Path id after) config =
     AfterPlay (λ p. ReportTold (TellsWhy id p.course.heap (present_of p.course))) after config

@@ -1,7 +1,5 @@
 -- What is written of a job's results.
-use Rattle.std.specs.Prelude.{◌≡◌, ℕ, ◌⊎◌, List, ◌++◌, Result, Ok, Err, String, string_bytes}
-use Rattle.std.specs.declared.alloc.Global.{Global}
-use Rattle.graph_heap.specs.declared.no_memory.NoMemory.{NoMemory as Refused}
+use Rattle.std.specs.Prelude.{◌≡◌, ℕ, ◌⊎◌, List, ◌++◌, Result, Ok, Err}
 use Rattle.trace.specs.declared.fault.PlayFault.{PlayFault}
 use Rattle.trace.specs.declared.fault.PlayFault.TheVariants.{Write, NoMemory}
 use Rattle.streams.specs.Streams.{Taken, GrowsByPart}
@@ -26,11 +24,6 @@ ReportTold IsReport taken (Err fault) =
 -- a fault ended what comes before the telling: nothing is written
 abbrev pub NothingTold : PlayFault → Taken → Result Ending RunFault → Type 0
 NothingTold why taken result = (result ≡ Err (Text why)) × (taken.after ≡ taken.before)
-
--- a text is written that was put together in memory; nothing is where memory was refused
-abbrev pub WrittenIfMade : Result (String Global) Refused → Taken → Result Ending RunFault → Type 0
-WrittenIfMade (Ok text) taken result = TextWritten Done (string_bytes text) taken result
-WrittenIfMade (Err why) taken result = NothingTold NoMemory taken result
 
 -- once something was taken of an input, this is reported of it; or a fault ended the taking
 abbrev pub ToldOf : {A : Type 0} → (A → Taken → Result Ending RunFault → Type 0) → Result A PlayFault → Taken

@@ -12,7 +12,6 @@ mod plan_job;
 mod progress;
 mod run;
 mod time_job;
-mod written;
 
 use fault::RunFault;
 use files::HostFiles;

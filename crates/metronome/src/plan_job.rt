@@ -6,12 +6,11 @@ ghost use Rattle.metronome.specs.Faults.{failed_reads, failed_writes};
 ghost use Rattle.metronome.specs.Told.{ReportTold};
 
 use crate::fault::{Ending, RunFault};
-use crate::written::write_text;
 use graph_heap::NoMemory;
 use plans::plans_report;
 use settings::Config;
 use std::alloc::Global;
-use streams::Sink;
+use streams::{Sink, write_all};
 
 /// What is told of the plans for so many live words.
 fn plans_text(alloc: Global, config: &Config, live: u64) -> Result<String, NoMemory>
@@ -32,5 +31,7 @@ pub fn plan_job<K: Sink>(
     ensures reads { failed_reads result ≡ 0 }
     ensures writes { K.failures sink.new ≡ K.failures sink.old + failed_writes result }
 {
-    write_text(plans_text(alloc, config, live), sink)
+    let text = plans_text(alloc, config, live)?;
+    write_all(sink, text.as_bytes())?;
+    Ok(Ending::Done)
 }

@@ -10,6 +10,7 @@ pub mod Keeping
 pub mod KeptCalls
 pub mod Opened
 pub mod Planning
+pub mod Ring
 pub mod Kept
 pub mod Lending
 pub mod Lifetime

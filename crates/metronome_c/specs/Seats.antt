@@ -87,11 +87,12 @@ abbrev pub ShapesSeat : Result MemberView Status → ℕ → Command → Result 
 ShapesSeat old m c new before told =
     DoesSeat old m c new (λ outcome. (told.0 ≡ answered outcome) × (told.1 ≡ shape_told before outcome))
 
--- A seat at a new heap of these settings: it calls for all mutators, nothing was done yet, and it hasn't the turn.
-pub record IsNewSeat (s : Settings) (m : MemberView) : Type 0 where
+-- A seat at a new heap of these settings, which keeps so many of its last entries: it calls for all mutators, nothing was
+-- done yet, and it hasn't the turn.
+pub record IsNewSeat (ring : ℕ) (s : Settings) (m : MemberView) : Type 0 where
   pub config : Config
   pub of : IsOf s config
-  pub settings : m.settings ≡ settings_by config
+  pub settings : (m.settings ≡ settings_by config) × (m.ring ≡ ring)
   pub mutators : (m.from ≡ 0) × (m.to ≡ config.mutators)
   pub seen : (m.seen ≡ []) × (m.learnt ≡ [])
   pub turn : m.turn ≡ None

@@ -6,5 +6,6 @@ mod figures;
 mod handle;
 mod laws;
 mod lifetime;
+mod ring;
 mod seat;
 mod turns;

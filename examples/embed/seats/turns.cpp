@@ -85,6 +85,25 @@ static void check_turns() {
     IS(METRONOME_OK, turn->try_whole_cycle(1000));
 }
 
+// The log of a heap that keeps two entries.
+static void check_log() {
+    Gate gate;
+    Seat seat;
+    metronome_answer answer{};
+    metronome_entry entry{};
+    std::optional<Turn> turn;
+    IS(METRONOME_OK, seat.try_open_logged(SETTINGS, 2));
+    IS(METRONOME_OK, Turn::try_enter(gate, seat, turn));
+    for (std::uint32_t slot = 0; slot < 3; slot++) IS(METRONOME_OK, turn->try_call(answer, metronome_seat_clear, 1, slot));
+    IS(METRONOME_OK, turn->try_entry(0, entry));
+    CHECK(entry.kind == METRONOME_GONE);
+    IS(METRONOME_OK, turn->try_entry(2, entry));
+    CHECK(entry.kind == METRONOME_ENTERED && entry.mutator == 1 && entry.answer.kind == METRONOME_DONE);
+    CHECK(entry.command.kind == METRONOME_CLEAR && entry.command.first == 2);
+    IS(METRONOME_OK, turn->try_entry(3, entry));
+    CHECK(entry.kind == METRONOME_NOT_YET);
+}
+
 // What a mutator's thread does: it adds to a word of an object, two calls in a turn.
 static void count_up(Gate &gate, Seat seat, std::uint32_t mutator, Seat &back) {
     for (std::uint32_t n = 0; n < ROUNDS; n++) {
@@ -152,6 +171,8 @@ static void check_throwing() {
     CHECK(Turn(gate, other).call(metronome_seat_same, 2, 0, 1).number == 1);
     seat.learn(other);
     CHECK(seat.place() == 2);
+    Seat logged(SETTINGS, 1);
+    CHECK(Turn(gate, logged).entry(0).kind == METRONOME_NOT_YET);
 }
 
 #else
@@ -163,6 +184,7 @@ static void check_throwing() {}
 int main() {
     check_seats();
     check_turns();
+    check_log();
     check_threads();
     check_throwing();
     std::printf("%d passed, %d failed\n", passed, failed);

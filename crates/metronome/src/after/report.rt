@@ -1,6 +1,6 @@
 //! A report of the heap.
-ghost use Rattle.std.specs.Prelude.{◌≡◌, ◌+◌, IfOk, string_bytes};
-ghost use Rattle.streams.specs.Streams.{taken_by};
+ghost use Rattle.std.specs.Prelude.{◌≡◌, ◌+◌, ◌++◌, IfOk, OnOk, OnErr, string_bytes};
+ghost use Rattle.streams.specs.Streams.{GrowsByPart, failed, taken_by};
 ghost use Rattle.inspector.specs.Filling.{sizes_told};
 ghost use Rattle.inspector.specs.Report.{report_of};
 ghost use Rattle.inspector.specs.Shapes.{ShapesTold};
@@ -10,14 +10,22 @@ ghost use Rattle.metronome.specs.Telling.{HeapReported};
 ghost use Rattle.metronome.specs.Told.{ReportTold, TextWritten};
 
 use crate::fault::{Ending, RunFault};
-use crate::written::write_text;
 use command_line::Report;
 use graph_heap::NoMemory;
 use inspector::{report, report_sizes, shapes_text};
 use machine::Heap;
 use player::Player;
 use std::alloc::Global;
-use streams::{Sink, WriteFailed};
+use streams::{Sink, WriteFailed, write_all};
+
+/// Writes a report page by page, of which a sink fails in one way.
+fn write_pages<K: Sink>(heap: &Heap, sink: &mut K) -> Result<(), WriteFailed>
+    ensures ok { OnOk result (K.taken sink.new ≡ K.taken sink.old ++ report_of heap.now) }
+    ensures err { OnErr result (GrowsByPart (K.taken sink.old) (K.taken sink.new) (report_of heap.now)) }
+    ensures cause { K.failures sink.new ≡ K.failures sink.old + failed result }
+{
+    report(heap, sink).map_err(|_| WriteFailed)
+}
 
 /// Writes a report page by page.
 fn tell_pages<K: Sink>(heap: &Heap, sink: &mut K) -> Result<Ending, RunFault>
@@ -25,8 +33,17 @@ fn tell_pages<K: Sink>(heap: &Heap, sink: &mut K) -> Result<Ending, RunFault>
     ensures reads { failed_reads result ≡ 0 }
     ensures writes { K.failures sink.new ≡ K.failures sink.old + failed_writes result }
 {
-    report(heap, sink).map_err(|_| WriteFailed)?;
+    write_pages(heap, sink)?;
     Ok(Ending::Done)
+}
+
+/// Writes a report by size class, of which a sink fails in one way.
+fn write_sizes<K: Sink>(heap: &Heap, sink: &mut K) -> Result<(), WriteFailed>
+    ensures ok { OnOk result (K.taken sink.new ≡ K.taken sink.old ++ sizes_told heap.now) }
+    ensures err { OnErr result (GrowsByPart (K.taken sink.old) (K.taken sink.new) (sizes_told heap.now)) }
+    ensures cause { K.failures sink.new ≡ K.failures sink.old + failed result }
+{
+    report_sizes(heap, sink).map_err(|_| WriteFailed)
 }
 
 /// Writes a report by size class.
@@ -35,7 +52,7 @@ fn tell_sizes<K: Sink>(heap: &Heap, sink: &mut K) -> Result<Ending, RunFault>
     ensures reads { failed_reads result ≡ 0 }
     ensures writes { K.failures sink.new ≡ K.failures sink.old + failed_writes result }
 {
-    report_sizes(heap, sink).map_err(|_| WriteFailed)?;
+    write_sizes(heap, sink)?;
     Ok(Ending::Done)
 }
 
@@ -52,7 +69,9 @@ fn tell_shapes<K: Sink>(alloc: Global, heap: &Heap, sink: &mut K) -> Result<Endi
     ensures reads { failed_reads result ≡ 0 }
     ensures writes { K.failures sink.new ≡ K.failures sink.old + failed_writes result }
 {
-    write_text(shapes_report(alloc, heap), sink)
+    let text = shapes_report(alloc, heap)?;
+    write_all(sink, text.as_bytes())?;
+    Ok(Ending::Done)
 }
 
 /// Writes a report of the heap of a player.

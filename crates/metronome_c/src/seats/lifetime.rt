@@ -9,7 +9,7 @@ ghost use Rattle.metronome_c.specs.Status.{status_number};
 use crate::seats::seat::MetronomeSeat;
 use crate::status::Status;
 use crate::text::VERSION;
-use heap_shared::Member;
+use heap_shared::{Member, SharedConfig};
 use settings::{Config, Ranges, Settings};
 
 /// Makes a heap of these settings and the first seat at it, where the handle is closed and the program was built for
@@ -20,18 +20,18 @@ pub extern "C" fn metronome_seat_create_for(
     settings: &Settings,
     version: u32,
 ) -> u32
-    ensures same { version ≡ 2 → Creates IsNewSeat (seat_in seat.old) settings.now (seat_in seat.new) result }
+    ensures same { version ≡ 2 → Creates (IsNewSeat 0) (seat_in seat.old) settings.now (seat_in seat.new) result }
     ensures other { version ≢ 2 → (seat_in seat.new ≡ seat_in seat.old) × (result ≡ status_number OtherVersion) }
 {
     if version != VERSION {
         return Status::OtherVersion.number();
     }
-    create(seat, settings)
+    create(seat, settings, 0)
 }
 
-/// Makes a heap of these settings and the first seat at it, where the handle is closed.
-fn create(seat: &mut MetronomeSeat, settings: &Settings) -> u32
-    ensures { Creates IsNewSeat (seat_in seat.old) settings.now (seat_in seat.new) result }
+/// Makes a heap of these settings, with a ring of this capacity, and the first seat at it, where the handle is closed.
+pub(super) fn create(seat: &mut MetronomeSeat, settings: &Settings, ring: usize) -> u32
+    ensures { Creates (IsNewSeat ring) (seat_in seat.old) settings.now (seat_in seat.new) result }
 {
     if seat.is_open() {
         return Status::Open.number();
@@ -44,7 +44,7 @@ fn create(seat: &mut MetronomeSeat, settings: &Settings) -> u32
         Err(fault) => return Status::of_fault(fault).number(),
     };
     let alloc = seat.alloc;
-    let Ok(made) = Member::new(alloc, &config) else {
+    let Ok(made) = Member::with_ring(alloc, &SharedConfig { config, ring }) else {
         return Status::NoMemory.number();
     };
     let Ok(boxed) = Box::new(alloc, made) else {

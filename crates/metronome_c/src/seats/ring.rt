@@ -1,0 +1,186 @@
+//! The last entries of the history of a heap that threads share: for a log, which a program reads in its turns.
+ghost use Rattle.std.specs.Prelude.{◌≡◌, ◌≢◌};
+ghost use Rattle.heap_shared.specs.Members.{FindsEntry};
+ghost use Rattle.metronome_c.specs.declared.status.Status.TheVariants.{OtherVersion};
+ghost use Rattle.metronome_c.specs.Figures.{IsTold};
+ghost use Rattle.metronome_c.specs.Lifetime.{Creates};
+ghost use Rattle.metronome_c.specs.Opened.{seat_in};
+ghost use Rattle.metronome_c.specs.Ring.{asked, command_of, entry_of, entry_found, entry_told};
+ghost use Rattle.metronome_c.specs.Seats.{AsksSeat, IsNewSeat};
+ghost use Rattle.metronome_c.specs.Status.{status_number};
+
+use crate::answer::{Answer, MetronomeShape};
+use crate::figures::tell;
+use crate::seats::lifetime::create;
+use crate::seats::seat::MetronomeSeat;
+use crate::status::Status;
+use crate::text::VERSION;
+use graph_heap::{Command, Entry};
+use heap_shared::NoEntry;
+use settings::Settings;
+
+/// A command: which one it is, by its place among the variants of `graph_heap::Command`, and its numbers and words in
+/// their order there, and 0 where it has no more. Of a shape the numbers are its kind, and how many cells of each kind it
+/// has.
+#[repr(C)]
+#[derive(Clone, Copy, Debug, PartialEq, Eq)]
+pub struct MetronomeCommand {
+    pub kind: u32,
+    pub first: u32,
+    pub second: u32,
+    pub third: u32,
+    pub fourth: u32,
+    pub first_word: u64,
+    pub second_word: u64,
+}
+
+/// What there is at a place of a history: of kind 1 an entry, of kind 0 none any more, of kind 2 none yet. An entry says whose
+/// command it was, the command, its answer, and the shape that this tells, or a plain one without cells.
+#[repr(C)]
+#[derive(Clone, Copy, Debug, PartialEq, Eq)]
+pub struct MetronomeEntry {
+    pub kind: u32,
+    pub mutator: u32,
+    pub command: MetronomeCommand,
+    pub answer: Answer,
+    pub shape: MetronomeShape,
+}
+
+/// A shape without cells.
+const NO_CELLS: MetronomeShape = MetronomeShape {
+    kind: 0,
+    refs: 0,
+    words: 0,
+};
+
+/// No entry any more.
+const NO_ENTRY: MetronomeEntry = MetronomeEntry {
+    kind: 0,
+    mutator: 0,
+    command: MetronomeCommand {
+        kind: 0,
+        first: 0,
+        second: 0,
+        third: 0,
+        fourth: 0,
+        first_word: 0,
+        second_word: 0,
+    },
+    answer: Answer { kind: 0, number: 0 },
+    shape: NO_CELLS,
+};
+
+impl MetronomeCommand {
+    /// A command of this kind, with these numbers and words.
+    fn of_kind(kind: u32, numbers: [u32; 4], words: [u64; 2]) -> MetronomeCommand
+        ensures { result ≡ asked kind numbers words }
+    {
+        MetronomeCommand {
+            kind,
+            first: numbers[0],
+            second: numbers[1],
+            third: numbers[2],
+            fourth: numbers[3],
+            first_word: words[0],
+            second_word: words[1],
+        }
+    }
+
+    /// The command, as C sees it.
+    fn from_command(command: Command) -> MetronomeCommand
+        ensures { result ≡ command_of command }
+    {
+        let (kind, numbers, words) = match command {
+            Command::New { dst, shape } => {
+                let MetronomeShape { kind, refs, words } = MetronomeShape::from_shape(shape);
+                (0, [dst, kind, refs, words], [0; 2])
+            }
+            Command::Load { dst, obj, i } => (1, [dst, obj, i, 0], [0; 2]),
+            Command::Store { obj, i, src } => (2, [obj, i, src, 0], [0; 2]),
+            Command::CompareStore {
+                obj,
+                i,
+                expect,
+                new,
+            } => (3, [obj, i, expect, new], [0; 2]),
+            Command::Get { obj, i } => (4, [obj, i, 0, 0], [0; 2]),
+            Command::Put { obj, i, word } => (5, [obj, i, 0, 0], [word, 0]),
+            Command::ComparePut { obj, i, old, new } => (6, [obj, i, 0, 0], [old, new]),
+            Command::Copy { dst, src } => (7, [dst, src, 0, 0], [0; 2]),
+            Command::Clear { dst } => (8, [dst, 0, 0, 0], [0; 2]),
+            Command::LoadStatic { dst, k } => (9, [dst, k, 0, 0], [0; 2]),
+            Command::StoreStatic { k, src } => (10, [k, src, 0, 0], [0; 2]),
+            Command::CompareStatic { k, expect, new } => (11, [k, expect, new, 0], [0; 2]),
+            Command::Same { a, b } => (12, [a, b, 0, 0], [0; 2]),
+            Command::Describe { a } => (13, [a, 0, 0, 0], [0; 2]),
+            Command::Join => (14, [0; 4], [0; 2]),
+            Command::Leave => (15, [0; 4], [0; 2]),
+        };
+        MetronomeCommand::of_kind(kind, numbers, words)
+    }
+}
+
+impl MetronomeEntry {
+    /// The entry, as C sees it.
+    fn from_entry(entry: Entry) -> MetronomeEntry
+        ensures { result ≡ entry_of entry }
+    {
+        MetronomeEntry {
+            kind: 1,
+            mutator: entry.mutator,
+            command: MetronomeCommand::from_command(entry.command),
+            answer: Answer::from_outcome(Ok(entry.reply)),
+            shape: NO_CELLS.told_by(Ok(entry.reply)),
+        }
+    }
+
+    /// What there is at a place, as C sees it.
+    fn from_found(found: Result<Entry, NoEntry>) -> MetronomeEntry
+        ensures { result ≡ entry_found found }
+    {
+        match found {
+            Ok(entry) => MetronomeEntry::from_entry(entry),
+            Err(NoEntry::Gone) => NO_ENTRY,
+            Err(NoEntry::NotYet) => MetronomeEntry {
+                kind: 2,
+                ..NO_ENTRY
+            },
+        }
+    }
+}
+
+/// Makes a heap of these settings and the first seat at it, as `metronome_seat_create_for` does, which keeps the last
+/// entries of its history, so many. All memory for them is taken here.
+#[unsafe(no_mangle)]
+pub extern "C" fn metronome_seat_create_logged_for(
+    seat: &mut MetronomeSeat,
+    settings: &Settings,
+    ring: usize,
+    version: u32,
+) -> u32
+    ensures same { version ≡ 2 → Creates (IsNewSeat ring) (seat_in seat.old) settings.now (seat_in seat.new) result }
+    ensures other { version ≢ 2 → (seat_in seat.new ≡ seat_in seat.old) × (result ≡ status_number OtherVersion) }
+{
+    if version != VERSION {
+        return Status::OtherVersion.number();
+    }
+    create(seat, settings, ring)
+}
+
+/// Tells what there is at a place of the history, from 0, as it wraps at 2^63, in the turn of the seat.
+#[unsafe(no_mangle)]
+pub extern "C" fn metronome_seat_entry(
+    seat: &mut MetronomeSeat,
+    place: u64,
+    entry: &mut MetronomeEntry,
+) -> u32
+    ensures { AsksSeat (FindsEntry place) entry_told (seat_in seat.old) (seat_in seat.new)
+        (λ found. IsTold found entry.old entry.new result) }
+{
+    let found = match seat.ask(|member| member.entry(place)) {
+        Ok(Some(found)) => Ok(MetronomeEntry::from_found(found)),
+        Ok(None) => Err(Status::Outside),
+        Err(why) => Err(why),
+    };
+    tell(entry, found)
+}

@@ -1,0 +1,233 @@
+/*
+ * log [ROUNDS]: the log of a heap that threads share. First rings of several capacities: after each drawn command each place is
+ * asked for. Then four threads of a mutator each do drawn commands, and note each with its answer, while another thread reads the
+ * log; in the end the ring has all entries: of each mutator they are the commands that were noted, in their order, and what was
+ * read meanwhile were the same ones.
+ */
+#include "model.h"
+#include <pthread.h>
+#include <stdio.h>
+#include <stdlib.h>
+#include <string.h>
+
+enum { THREADS = 4, AT_MOST = 16, SHORT = 12 };
+
+static int passed, failed;
+
+static void check(int holds, int line) {
+    if (holds) {
+        passed++;
+    } else {
+        failed++;
+        fprintf(stderr, "failed: line %d\n", line);
+    }
+}
+
+#define CHECK(holds) check(holds, __LINE__)
+#define IS(status, call) check((call) == (uint32_t)(status), __LINE__)
+
+/* A command with these numbers. */
+static metronome_command numbered(uint32_t kind, uint32_t first, uint32_t second, uint32_t third, uint32_t fourth) {
+    metronome_command it = { kind, first, second, third, fourth, 0, 0 };
+    return it;
+}
+
+/* The same of a word cell, with these words. */
+static metronome_command worded(uint32_t kind, uint32_t obj, uint32_t i, uint64_t first_word, uint64_t second_word) {
+    metronome_command it = { kind, obj, i, 0, 0, first_word, second_word };
+    return it;
+}
+
+/* A drawn command, as the log has it. */
+static metronome_command logged(const struct command *command) {
+    const struct command it = *command;
+    uint32_t a = it.slots[0], b = it.slots[1], c = it.slots[2];
+    switch (it.kind) {
+    case NEW_PLAIN: return numbered(METRONOME_NEW, a, METRONOME_PLAIN, it.i, it.j);
+    case NEW_REFS: return numbered(METRONOME_NEW, a, METRONOME_REF_ARRAY, it.i, 0);
+    case NEW_WORDS: return numbered(METRONOME_NEW, a, METRONOME_WORD_ARRAY, 0, it.j);
+    case LOAD: return numbered(METRONOME_LOAD, a, b, it.i, 0);
+    case STORE: return numbered(METRONOME_STORE, a, it.i, b, 0);
+    case COMPARE_STORE: return numbered(METRONOME_COMPARE_STORE, a, it.i, b, c);
+    case GET: return worded(METRONOME_GET, a, it.i, 0, 0);
+    case PUT: return worded(METRONOME_PUT, a, it.i, it.word, 0);
+    case COMPARE_PUT: return worded(METRONOME_COMPARE_PUT, a, it.i, it.old, it.word);
+    case COPY: return numbered(METRONOME_COPY, a, b, 0, 0);
+    case CLEAR: return numbered(METRONOME_CLEAR, a, 0, 0, 0);
+    case LOAD_STATIC: return numbered(METRONOME_LOAD_STATIC, a, it.i, 0, 0);
+    case STORE_STATIC: return numbered(METRONOME_STORE_STATIC, it.i, a, 0, 0);
+    case COMPARE_STATIC: return numbered(METRONOME_COMPARE_STATIC, it.i, a, b, 0);
+    case SAME: return numbered(METRONOME_SAME, a, b, 0, 0);
+    case DESCRIBE: return numbered(METRONOME_DESCRIBE, a, 0, 0, 0);
+    case JOIN: return numbered(METRONOME_JOIN, 0, 0, 0, 0);
+    default: return numbered(METRONOME_RETIRE, 0, 0, 0, 0);
+    }
+}
+
+static int same_command(const metronome_command *a, const metronome_command *b) {
+    return a->kind == b->kind && a->first == b->first && a->second == b->second && a->third == b->third
+        && a->fourth == b->fourth && a->first_word == b->first_word && a->second_word == b->second_word;
+}
+
+static int same_entry(const metronome_entry *a, const metronome_entry *b) {
+    return a->kind == b->kind && a->mutator == b->mutator && same_command(&a->command, &b->command)
+        && a->answer.kind == b->answer.kind && a->answer.number == b->answer.number && a->shape.kind == b->shape.kind
+        && a->shape.refs == b->shape.refs && a->shape.words == b->shape.words;
+}
+
+/* Does a drawn command in the turn, and says what the log is to have of it. */
+static metronome_entry note_drawn(metronome_seat *seat, struct model *model, uint64_t *seed) {
+    metronome_entry entry;
+    metronome_shape shape = { 0, 0, 0 };
+    struct command it = draw_command(model, seed);
+    memset(&entry, 0, sizeof entry);
+    entry.kind = METRONOME_ENTERED;
+    entry.mutator = model->mutator;
+    entry.command = logged(&it);
+    entry.answer = call(seat, model->mutator, &it, &shape);
+    entry.shape = shape;
+    metronome_shape told = UNTOLD;
+    if (entry.answer.kind == METRONOME_DESCRIBED) told = shape;
+    is_as_modelled(model, &it, entry.answer, &told); /* the model goes on */
+    return entry;
+}
+
+/* Each place up to the one behind the next, and the same places once more, as they wrap. */
+static void check_places(metronome_seat *seat, const metronome_entry *noted, uint64_t count, uint64_t ring) {
+    for (uint64_t place = 0; place <= count + 1; place++)
+        for (int again = 0; again < 2; again++) {
+            metronome_entry entry, none;
+            memset(&entry, 7, sizeof entry);
+            memset(&none, 0, sizeof none);
+            none.kind = place == count ? METRONOME_NOT_YET : METRONOME_GONE;
+            IS(METRONOME_OK, metronome_seat_entry(seat, place + ((uint64_t)again << 63), &entry));
+            CHECK(same_entry(&entry, place < count && count - place <= ring ? &noted[place] : &none));
+        }
+}
+
+static void check_ring(uint64_t ring) {
+    metronome_settings settings = METRONOME_SETTINGS(4, 2, SLOTS);
+    metronome_seat seat = METRONOME_NO_SEAT;
+    metronome_entry noted[SHORT + 1], entry;
+    metronome_spent spent;
+    struct model model;
+    uint64_t seed = 88172645463325252u + ring;
+    settings.statics = STATICS;
+    memset(&entry, 7, sizeof entry);
+    const metronome_entry untold = entry;
+    IS(METRONOME_NO_HEAP, metronome_seat_entry(&seat, 0, &entry));
+    IS(METRONOME_OTHER_VERSION, metronome_seat_create_logged_for(&seat, &settings, ring, METRONOME_VERSION + 1));
+    IS(METRONOME_OK, metronome_seat_create_logged(&seat, &settings, ring));
+    IS(METRONOME_OPEN, metronome_seat_create_logged(&seat, &settings, ring));
+    IS(METRONOME_OUTSIDE, metronome_seat_entry(&seat, 0, &entry));
+    CHECK(same_entry(&entry, &untold) && open_model(&model, 1, SHORT));
+    IS(METRONOME_OK, metronome_seat_enter(&seat));
+    for (uint64_t count = 0; count <= SHORT; count++) {
+        check_places(&seat, noted, count, ring);
+        noted[count] = note_drawn(&seat, &model, &seed);
+        IS(count == 0 ? METRONOME_OK : METRONOME_BUSY, metronome_seat_begin(&seat)); /* no entry, as the next */
+        if (count == 1) IS(METRONOME_OK, metronome_seat_quantum(&seat, 256, &spent));
+    }
+    metronome_seat_destroy(&seat);
+    close_model(&model);
+}
+
+/* One thread: its mutator, and what it noted. */
+struct worker {
+    metronome_seat seat;
+    struct model model;
+    metronome_entry *noted;
+    uint64_t count, seed;
+    uint32_t rounds;
+    int refused;
+};
+
+static metronome_seat own = METRONOME_NO_SEAT, reader = METRONOME_NO_SEAT;
+static metronome_gate gate = METRONOME_GATE;
+static metronome_entry *read_entries;
+static uint64_t read_count; /* by the reader alone, until it has ended */
+static int is_over;         /* read and written in turns alone */
+
+static void *work(void *argument) {
+    struct worker *self = argument;
+    for (uint32_t round = 0; round < self->rounds; round++) {
+        uint64_t commands = drawn(&self->seed) % AT_MOST;
+        self->refused |= metronome_gate_enter(&gate, &self->seat) != METRONOME_OK;
+        for (uint64_t n = 0; n < commands; n++) self->noted[self->count++] = note_drawn(&self->seat, &self->model, &self->seed);
+        self->refused |= metronome_gate_leave(&gate, &self->seat) != METRONOME_OK;
+    }
+    return NULL;
+}
+
+/* Reads on, turn by turn, from the first place that it hasn't read. */
+static void *read_log(void *argument) {
+    for (int over = 0; !over;) {
+        if (metronome_gate_enter(&gate, &reader) != METRONOME_OK) break;
+        over = is_over;
+        for (;;) {
+            metronome_entry *entry = &read_entries[read_count];
+            if (metronome_seat_entry(&reader, read_count, entry) != METRONOME_OK || entry->kind != METRONOME_ENTERED) break;
+            read_count++;
+        }
+        metronome_gate_leave(&gate, &reader);
+    }
+    return argument;
+}
+
+static void check_threads(uint32_t rounds) {
+    static struct worker workers[THREADS];
+    const size_t most = (size_t)rounds * AT_MOST;
+    uint64_t told[THREADS] = { 0 }, all = 0, place = 0, wrong = 0;
+    pthread_t threads[THREADS + 1];
+    metronome_settings settings = METRONOME_SETTINGS(256, THREADS, SLOTS);
+    settings.statics = STATICS;
+    IS(METRONOME_OK, metronome_seat_create_logged(&own, &settings, THREADS * most));
+    IS(METRONOME_OK, metronome_seat_another(&own, &reader, THREADS));
+    read_entries = calloc(THREADS * most + 1, sizeof *read_entries);
+    for (uint32_t m = THREADS; m-- > 0;) {
+        workers[m].rounds = rounds;
+        workers[m].seed = 88172645463325252u + m;
+        workers[m].noted = calloc(most, sizeof *workers[m].noted);
+        CHECK(read_entries != NULL && workers[m].noted != NULL && open_model(&workers[m].model, m, (uint32_t)most));
+        IS(METRONOME_OK, metronome_seat_another(&own, &workers[m].seat, m));
+    }
+    for (int n = 0; n <= THREADS; n++)
+        if (pthread_create(&threads[n], NULL, n < THREADS ? work : read_log, &workers[n % THREADS])) abort();
+    for (int n = 0; n < THREADS; n++) pthread_join(threads[n], NULL);
+    IS(METRONOME_OK, metronome_gate_enter(&gate, &own));
+    is_over = 1;
+    IS(METRONOME_OK, metronome_gate_leave(&gate, &own));
+    pthread_join(threads[THREADS], NULL);
+    for (int n = 0; n < THREADS; n++) all += workers[n].count;
+    IS(METRONOME_OK, metronome_seat_place(&own, &place));
+    CHECK(place == all && read_count == all);
+    IS(METRONOME_OK, metronome_seat_enter(&own));
+    for (uint64_t at = 0; at < all; at++) {
+        metronome_entry entry;
+        if (metronome_seat_entry(&own, at, &entry) != METRONOME_OK || entry.mutator >= THREADS) abort();
+        wrong += !same_entry(&entry, &read_entries[at]) || !same_entry(&entry, &workers[entry.mutator].noted[told[entry.mutator]++]);
+    }
+    CHECK(wrong == 0);
+    for (int n = 0; n < THREADS; n++) {
+        CHECK(!workers[n].refused && told[n] == workers[n].count);
+        metronome_seat_destroy(&workers[n].seat);
+        close_model(&workers[n].model);
+        free(workers[n].noted);
+    }
+    metronome_seat_destroy(&reader);
+    metronome_seat_destroy(&own);
+    free(read_entries);
+    printf("%llu entries\n", (unsigned long long)all);
+}
+
+int main(int count, char **words) {
+    static const uint64_t rings[] = { 0, 1, 2, 5, SHORT, SHORT + 3 };
+    metronome_settings settings = METRONOME_SETTINGS(4, 1, SLOTS);
+    metronome_seat none = METRONOME_NO_SEAT;
+    IS(METRONOME_NO_MEMORY, metronome_seat_create_logged(&none, &settings, SIZE_MAX));
+    IS(METRONOME_NO_HEAP, metronome_seat_enter(&none));
+    for (size_t n = 0; n < sizeof rings / sizeof *rings; n++) check_ring(rings[n]);
+    check_threads(count > 1 ? (uint32_t)atoi(words[1]) : 400);
+    printf("%d passed, %d failed\n", passed, failed);
+    return failed != 0;
+}

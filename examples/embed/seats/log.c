@@ -109,7 +109,7 @@ static void check_ring(uint64_t ring) {
     metronome_settings settings = METRONOME_SETTINGS(4, 2, SLOTS);
     metronome_seat seat = METRONOME_NO_SEAT;
     metronome_entry noted[SHORT + 1], entry;
-    metronome_spent spent;
+    metronome_spent spent = { 0, METRONOME_IDLE };
     struct model model;
     uint64_t seed = 88172645463325252u + ring;
     settings.statics = STATICS;
@@ -125,8 +125,9 @@ static void check_ring(uint64_t ring) {
     for (uint64_t count = 0; count <= SHORT; count++) {
         check_places(&seat, noted, count, ring);
         noted[count] = note_drawn(&seat, &model, &seed);
-        IS(count == 0 ? METRONOME_OK : METRONOME_BUSY, metronome_seat_begin(&seat)); /* no entry, as the next */
-        if (count == 1) IS(METRONOME_OK, metronome_seat_quantum(&seat, 256, &spent));
+        /* what the collector does is no entry */
+        IS(spent.phase == METRONOME_IDLE ? METRONOME_OK : METRONOME_BUSY, metronome_seat_begin(&seat));
+        IS(METRONOME_OK, metronome_seat_quantum(&seat, 256, &spent));
     }
     metronome_seat_destroy(&seat);
     close_model(&model);

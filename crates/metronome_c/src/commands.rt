@@ -20,7 +20,10 @@ pub extern "C" fn metronome_new_plain(
     ensures { Makes (held_in heap.old) mutator (commands.New dst (shapes.Plain refs words)) (held_in heap.new) result }
 {
     let shape = Shape::Plain { refs, words };
-    heap.make(mutator, dst, shape)
+    if heap.keeps_plan() {
+        return heap.make_kept(mutator, dst, shape);
+    }
+    heap.answer(|inner| inner.make(mutator, dst, shape))
 }
 
 /// A new array of reference cells, into slot dst.
@@ -34,7 +37,10 @@ pub extern "C" fn metronome_new_refs(
     ensures { Makes (held_in heap.old) mutator (commands.New dst (shapes.RefArray refs)) (held_in heap.new) result }
 {
     let shape = Shape::RefArray(refs);
-    heap.make(mutator, dst, shape)
+    if heap.keeps_plan() {
+        return heap.make_kept(mutator, dst, shape);
+    }
+    heap.answer(|inner| inner.make(mutator, dst, shape))
 }
 
 /// A new array of word cells, into slot dst.
@@ -48,7 +54,10 @@ pub extern "C" fn metronome_new_words(
     ensures { Makes (held_in heap.old) mutator (commands.New dst (shapes.WordArray words)) (held_in heap.new) result }
 {
     let shape = Shape::WordArray(words);
-    heap.make(mutator, dst, shape)
+    if heap.keeps_plan() {
+        return heap.make_kept(mutator, dst, shape);
+    }
+    heap.answer(|inner| inner.make(mutator, dst, shape))
 }
 
 /// What a reference cell holds into slot dst.

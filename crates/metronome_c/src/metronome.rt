@@ -151,7 +151,7 @@ impl Metronome {
 
     /// Whether it holds a heap that keeps a plan.
     #[inline(always)]
-    fn keeps_plan(&mut self) -> bool
+    pub(crate) fn keeps_plan(&mut self) -> bool
         ensures keeps { result ≡ is_kept (held_in self.old) }
         ensures same { held_in self.new ≡ held_in self.old }
     {
@@ -161,21 +161,11 @@ impl Metronome {
         self.handle.lend().pacer.is_some()
     }
 
-    /// Makes an object of a shape in the heap, if there is one; where a plan is kept, once its words were paid for.
-    #[inline(always)]
-    pub(crate) fn make(&mut self, mutator: u32, dst: u32, shape: Shape) -> Answer
-        ensures { Makes (held_in self.old) mutator (commands.New dst shape) (held_in self.new) result }
-    {
-        if self.keeps_plan() {
-            return self.make_kept(mutator, dst, shape);
-        }
-        self.answer(|inner| inner.make(mutator, dst, shape))
-    }
-
-    /// The same, out of the way of heaps that keep no plan.
+    /// Makes an object of a shape in the heap, if there is one, once its words were paid for, where a plan is kept. It is out of
+    /// the way of heaps that keep none.
     #[cold]
     #[inline(never)]
-    fn make_kept(&mut self, mutator: u32, dst: u32, shape: Shape) -> Answer
+    pub(crate) fn make_kept(&mut self, mutator: u32, dst: u32, shape: Shape) -> Answer
         ensures { Makes (held_in self.old) mutator (commands.New dst shape) (held_in self.new) result }
     {
         Answer::from_outcome(self.ask_paying(shape, |inner| inner.make(mutator, dst, shape)))

@@ -21,7 +21,8 @@ pub extern "C" fn metronome_seat_new_plain(
         (seat_in seat.new) result }
 {
     let shape = Shape::Plain { refs, words };
-    seat.make(mutator, dst, shape)
+    let command = Command::New { dst, shape };
+    seat.answer(mutator, command, |heap| heap.make(mutator, dst, shape))
 }
 
 /// A new array of reference cells, into slot dst.
@@ -36,7 +37,8 @@ pub extern "C" fn metronome_seat_new_refs(
         (seat_in seat.new) result }
 {
     let shape = Shape::RefArray(refs);
-    seat.make(mutator, dst, shape)
+    let command = Command::New { dst, shape };
+    seat.answer(mutator, command, |heap| heap.make(mutator, dst, shape))
 }
 
 /// A new array of word cells, into slot dst.
@@ -51,7 +53,8 @@ pub extern "C" fn metronome_seat_new_words(
         (seat_in seat.new) result }
 {
     let shape = Shape::WordArray(words);
-    seat.make(mutator, dst, shape)
+    let command = Command::New { dst, shape };
+    seat.answer(mutator, command, |heap| heap.make(mutator, dst, shape))
 }
 
 /// What a reference cell holds into slot dst.

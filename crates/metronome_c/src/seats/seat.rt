@@ -13,7 +13,7 @@ use crate::answer::{Answer, MetronomeShape};
 use crate::handle::Loose;
 use crate::seats::handle::SeatHandle;
 use crate::status::Status;
-use graph_heap::{Command, Reply, Shape};
+use graph_heap::{Command, Reply};
 use heap_shared::Member;
 use machine::Heap;
 use std::alloc::Global;
@@ -164,16 +164,7 @@ impl MetronomeSeat {
         Answer::from_outcome(self.call(mutator, command, method))
     }
 
-    /// Makes an object of a shape.
-    #[inline(always)]
-    pub(super) fn make(&mut self, mutator: u32, dst: u32, shape: Shape) -> Answer
-        ensures { AnswersSeat (seat_in self.old) mutator (Command.New dst shape) (seat_in self.new) result }
-    {
-        let command = Command::New { dst, shape };
-        self.answer(mutator, command, |heap| heap.make(mutator, dst, shape))
-    }
-
-    /// Asks for a description, and tells the shape that the reply tells.
+    /// The same of a description, and tells the shape that the reply tells.
     pub(super) fn describe(&mut self, mutator: u32, a: u32, shape: &mut MetronomeShape) -> Answer
         ensures { ShapesSeat (seat_in self.old) mutator (Command.Describe a) (seat_in self.new) shape.old
             (result, shape.new) }

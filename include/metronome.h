@@ -2,12 +2,13 @@
  * metronome.h: a real-time garbage-collected heap, for C11, C17 and C++17. Link with libmetronome_c.a, or with -lmetronome
  * where bin/install has put it.
  *
- * A program names objects by slots and never by pointers: each mutator has slots 0 to slots - 1, and all mutators share
- * the statics. What no slot, no static and no reference cell of such an object leads to is freed by a cycle of the
- * collector. A cycle is begun by metronome_begin, and goes on by metronome_quantum: no quantum does more units of work
- * than its budget. A unit is one look at a root, a cell, a block or a page; a block that is moved costs its words. A cycle
- * takes at most `limit = statics + mutators * slots + 6144 * pages + (38 + defrag_pages) * pages + 4` units, and, in quanta of
- * budgets of at least b, at most `limit / (b - 255) + 1` of these, whatever comes between them (metronome_cycle_limit).
+ * A program names objects by slots and never by pointers: each mutator has slots 0 to slots - 1, and all mutators share the
+ * statics. An object to which no slot and no static leads, be it by way of reference cells, is freed by the next cycle of the
+ * collector that begins. A cycle is begun by metronome_begin, and goes on by metronome_quantum: no quantum does more units of
+ * work than its budget. A unit is one look at a root, a cell, a block or a page; a block that is moved costs its words. A
+ * cycle takes at most `limit = statics + mutators * slots + 6144 * pages + (38 + defrag_pages) * pages + 4` units, and, in
+ * quanta of budgets of at least b, at most `limit / (b - 255) + 1` of these, whatever comes between them
+ * (metronome_cycle_limit).
  *
  * An identity is the number of an object: 1 for the first one that is made, and so on; 0 stands for null. A word is any
  * 64 bits. Cells are counted from 0, and each kind of cell by itself.
@@ -82,9 +83,10 @@ typedef struct metronome_settings {
 #define METRONOME_SETTINGS(pages, mutators, slots) \
     { (pages), (mutators), (slots), 0, INT64_MAX, 0, 0, 10, 12, 100, (mutators) }
 
-/* How a call ends, and what a program does then. Nothing has changed by a call that is refused. Of several reasons a
- * command tells the first in the order: 1 of the mutator, 15, 14, 1 of the slots as they are named, 8, 2, 4, 3; of a new object
- * 1, 5, 6, 7. Where it says "a mistake" the same call is refused again. */
+/* How a call ends, and what a program does then. Nothing has changed by a call that is refused, but that the collector has worked
+ * for a plan, and that what a list of commands has before the refused one is done. Of several reasons a command tells the first in
+ * the order: 1 of the mutator, 15, 14, 1 of the slots as they are named, 8, 2, 4, 3; of a new object 47, those of its mutator, 1, 5,
+ * 6, 7. Where it says "a mistake" the same call is refused again. */
 enum metronome_status {
     METRONOME_OK = 0,
     METRONOME_BAD_SLOT = 1,         /* no such slot, or no such mutator: a mistake, and metronome_check_slot tells which */

@@ -27,7 +27,7 @@ typedef struct metronome_flow {
     uint64_t live_words;    /* what is live takes at most so many whenever a cycle begins: that is the program's part */
     uint64_t quantum_words; /* at most so many are made for each quantum of a cycle */
     uint64_t cycle_words;   /* and so many from a cycle's beginning until the next begins: no object of more can be made */
-    uint64_t least_pages;   /* the fewest pages on which there is a plan for live_words; 0 where there is one on no number of them */
+    uint64_t least_pages;   /* the fewest pages on which there is a plan for live_words; 0 where no number of pages has one */
     uint32_t budget;        /* the units of a quantum: collector_ticks * rate of the settings */
 } metronome_flow;
 

@@ -84,18 +84,17 @@ typedef struct metronome_pacing {
  * words owes many quanta. A heap that keeps a plan (metronome_keep) needs no pace, and what its plan promises is proved; this is for
  * programs that choose for themselves when the collector works.
  *
- * HOW TO CHOOSE THE NUMBERS. The budget is the longest pause of the collector, in units; what mutators recorded since the last
- * quantum, at most 64 references each, comes before these. No time of a unit is promised. In the longest quantum of 256 units
- * on each of some heaps made for it, at commit 100eeb26 on a loaded Xeon of 2.5 GHz, one took 137 ns where 512 pages of large
- * objects were marked, 60 ns where 64 mutators had 64 records each, 29 ns where pages with an object each were emptied, 14 ns
- * where large blocks were freed, and 1 to 8 ns on the others (docs/PERFORMANCE.md, "The worst quantum"). A cycle takes at most
- * Q quanta, as metronome.h says. Of blocks of one size at most B are made between two quanta: those for which `words` have
- * room, and those of one object more, which of an array are all its pieces. No object is refused for lack of space where
- * begin_below pages have room for L + (2 * Q + 1) * B blocks of each size, of which live objects need L, and for 1 +
- * defrag_pages pages of each size besides. In short, with a budget of 1000 or more, a few sizes, no moving, and half of the
- * pages live: words = (budget - 255) / 20 and begin_below = pages. That is reckoned for the worst program, and dear: GCBench of
- * depth 13 on 4096 pages took 1,351 ns a node with it, and 62 ns with (budget - 255) / 8 and pages / 2, both with a budget of
- * 1000.
+ * HOW TO CHOOSE THE NUMBERS. The budget is the longest pause of the collector, in units; before these what each mutator recorded
+ * since the last quantum is hung into a list, by one link. No time of a unit is promised. In the longest quantum of 256 units on
+ * each of some heaps made for it, at commit b5ea2111 on a loaded Xeon of 2.5 GHz, one took 73 ns on pages full of large objects, 32
+ * to 37 ns where pages with an object each were emptied, 17 to 20 ns where large blocks were freed, and 2 to 12 ns on the others
+ * (docs/PERFORMANCE.md, "The worst quantum"). A cycle takes at most Q quanta, as metronome.h says. Of blocks of one size at most B
+ * are made between two quanta: those for which `words` have room, and those of one object more, which of an array are all its
+ * pieces. No object is refused for lack of space where begin_below pages have room for L + (2 * Q + 1) * B blocks of each size, of
+ * which live objects need L, and for 1 + defrag_pages pages of each size besides. In short, with a budget of 1000 or more, a few
+ * sizes, no moving, and half of the pages live: words = (budget - 255) / 20 and begin_below = pages. That is reckoned for the worst
+ * program, and not proved, and it is dear: at commit 100eeb26 GCBench of depth 13 on 4096 pages took 1,351 ns a node with it, and
+ * 62 ns with (budget - 255) / 8 and pages / 2, both with a budget of 1000.
  *
  * For a program's own numbers, record a run (metronome_record.h) of settings whose collector_ticks * rate is the budget.
  * `metronome pages --pace` tells Q, and of each size L, B and what was made between two cycles, and whether the pages suffice;

@@ -7,12 +7,13 @@
  *
  * The heap that it makes next is recorded from metronome_create to metronome_destroy: its settings as a configuration, and each
  * call as a line of a trace of version 2 (docs/MANUAL.md). `metronome pages run.toml run.trace` then tells how many pages it
- * needs, `inspect` and `draw` what fills it, and `play` does it again. Calls that only tell a figure or a text are no events of
- * a heap, and aren't written; nor is the time that passes, so `mmu` has no windows to report.
+ * needs, `inspect` and `draw` what fills it, and `play` does it again, unless the heap keeps a plan: what the collector does for
+ * that isn't written. Calls that only tell a figure or a text are no events of a heap, and aren't written; nor is the time that
+ * passes, so `mmu` has no windows to report.
  *
  * What can't be written is reported on stderr, each reason once, and counted, and the program goes on: calls of another heap, or
- * of a closed handle; a quantum whose budget is refused; all lines from the first one on that its file doesn't take. Whatever
- * else is missing, the trace is whole up to such a file: none of these changes the heap that is recorded.
+ * of a closed handle; a quantum whose budget is refused; all lines from the first one on that its file doesn't take. Up to that
+ * line the trace is whole, since none of the others changes the heap that is recorded.
  *
  * Plain C over the calls: nothing of it is proved. A handle is told from others by its fields, which are the library's. The
  * calls of a heap come one at a time, and so do their lines.

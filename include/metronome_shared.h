@@ -79,7 +79,7 @@ typedef struct metronome_command {
 
 /* What there is at a place of the history. */
 enum metronome_entry_kind {
-    METRONOME_GONE = 0,    /* no entry any more: it isn't one of the last that are kept */
+    METRONOME_GONE = 0,    /* no entry: it isn't one of the last that are kept, nor the place behind them */
     METRONOME_ENTERED = 1, /* an entry */
     METRONOME_NOT_YET = 2  /* no entry yet: it is the place behind the last one */
 };
@@ -182,9 +182,9 @@ metronome_answer metronome_seat_retire(metronome_seat *seat, uint32_t mutator) M
 
 /* ---- The log, in the turn of any seat ---- */
 
-/* What there is at a place of the history, which counts from 0, as metronome_seat_place does: all that metronome_seat_place counts,
- * are entries, and nothing else, so neither metronome_seat_begin nor metronome_seat_quantum. A program that keeps the next place
- * that it hasn't read goes on from place to place until there is NOT_YET an entry; of those that are GONE it was too late.
+/* What there is at a place of the history. Places count from 0, and each has one of the commands that metronome_seat_place counts:
+ * metronome_seat_begin and metronome_seat_quantum are none. A program that keeps the next place that it hasn't read goes on from
+ * place to place until the entry is NOT_YET there; for those that are GONE it came too late.
  * OK; OUTSIDE or NO_HEAP, and *entry is left as it was. */
 uint32_t metronome_seat_entry(metronome_seat *seat, uint64_t place, metronome_entry *entry) METRONOME_NONNULL;
 

@@ -9,4 +9,5 @@ pub mod Sweeping
 pub mod Writing
 pub mod InPlace
 pub mod Flags
+pub mod Marks
 pub mod Touching

@@ -26,6 +26,10 @@ RunsFree words at size (suc n) flags link =
 abbrev pub flags_of : List ℕ → ℕ → ℕ → List Bool
 flags_of words at class = flags_at words at (size_of class) (blocks_in class)
 
+-- the blocks of a page of a class from one up to another are free
+abbrev pub AreFree : List ℕ → ℕ → ℕ → ℕ → ℕ → Type 0
+AreFree words at class from end = (k : ℕ) → from ≤ k → k < end → slice_get (flags_of words at class) k ≡ Some false
+
 -- the number of a block on a page of a class, by its address
 abbrev pub index_on : ℕ → ℕ → ℕ → ℕ
 index_on class page block = (block - PAGE_WORDS * page) / size_of class

@@ -1,10 +1,10 @@
 //! One page's list of free blocks: word 0 of a free block says that it is one, and word 3 names the next. Loops over
 //! blocks are lent the arena's words once, as one row.
-ghost use Rattle.std.specs.Prelude.{◌≡◌, ℕ, ◌+◌, ◌-◌, ◌<◌, ◌≤◌, ◌*◌, List, Option, length, slice_get, slice_set, slice_index, replicate, true, false, Some, IfSome, IsNone};
+ghost use Rattle.std.specs.Prelude.{◌≡◌, ℕ, ◌+◌, ◌-◌, ◌<◌, ◌≤◌, ◌*◌, List, Option, length, slice_get, slice_set, slice_index, replicate, true, false, not, ◌==◌, Some, IfSome, IsNone};
 ghost use Rattle.size_classes.specs.declared.class.TheConstants.{CLASSES};
 ghost use Rattle.size_classes.specs.Sizes.{size_of, blocks_in};
 ghost use Rattle.heap_model.specs.Store.{address_of};
-ghost use Rattle.pages.specs.FreeList.{flags_of, index_on, IsFreeList, SameOutside, free_mark};
+ghost use Rattle.pages.specs.FreeList.{flags_of, index_on, AreFree, IsFreeList, SameOutside, free_mark};
 ghost use Rattle.pages.specs.Index.{row_at};
 ghost use Rattle.pages.specs.Sweeping.{has_colour, LooksAt, Looks};
 ghost use Rattle.pages.specs.Together.{joined, Together};
@@ -121,16 +121,28 @@ pub fn link_blocks(arena: &mut Arena, page: usize, class: Class) -> PageRow
     }
 }
 
+/// Word 0 of a block of a page of a class.
+#[inline(always)]
+fn mark_of(words: &[u64], page: usize, class: Class, index: usize) -> u64
+    requires page { page < 1048576 }
+    requires within { 2048 * page + 2048 ≤ length words.now }
+    requires block { index < blocks_in class }
+    ensures { slice_get (flags_of words.now (2048 * page) class) index ≡ Some (not (result == free_mark)) }
+{
+    let block = 2048 * page + index * class.size() as usize;
+    forward_of(words, block)
+}
+
 /// Whether a block of a page of a class is allocated.
 #[inline(always)]
+#[tactic(auto, unfolding(crate::specs::FreeList::free_mark))]
 fn is_taken_in(words: &[u64], page: usize, class: Class, index: usize) -> bool
     requires page { page < 1048576 }
     requires within { 2048 * page + 2048 ≤ length words.now }
     requires block { index < blocks_in class }
     ensures { slice_get (flags_of words.now (2048 * page) class) index ≡ Some result }
 {
-    let block = 2048 * page + index * class.size() as usize;
-    forward_of(words, block) != u64::MAX
+    mark_of(words, page, class, index) != u64::MAX
 }
 
 /// The same in the arena.
@@ -235,19 +247,57 @@ pub fn sweep(
     *row = sweep_in(arena.words_mut(), page, *row, from, count, colour);
 }
 
+/// How many blocks are looked at as one where none of them may be allocated.
+const GROUP: usize = 8;
+
+/// Whether some block of a group is allocated, by one test of the words of all.
+#[inline(always)]
+fn some_taken(words: &[u64], page: usize, class: Class, from: usize) -> bool
+    requires page { page < 1048576 }
+    requires within { 2048 * page + 2048 ≤ length words.now }
+    requires group { from + GROUP ≤ blocks_in class }
+    ensures { result ≡ false → AreFree words.now (2048 * page) class from (from + GROUP) }
+{
+    let marks = mark_of(words, page, class, from)
+        & mark_of(words, page, class, from + 1)
+        & mark_of(words, page, class, from + 2)
+        & mark_of(words, page, class, from + 3)
+        & mark_of(words, page, class, from + 4)
+        & mark_of(words, page, class, from + 5)
+        & mark_of(words, page, class, from + 6)
+        & mark_of(words, page, class, from + 7);
+    marks != u64::MAX
+}
+
+/// A place behind as many groups as have no allocated block, from one place on.
+#[inline(always)]
+fn past_free(words: &[u64], page: usize, class: Class, from: usize) -> usize
+    requires page { page < 1048576 }
+    requires within { 2048 * page + 2048 ≤ length words.now }
+    ensures behind { from ≤ result }
+    ensures free { AreFree words.now (2048 * page) class from result }
+{
+    let last = (class.blocks_per_page() as usize).saturating_sub(GROUP - 1);
+    let mut place = from;
+    while place < last && !some_taken(words, page, class, place) {
+        place += GROUP;
+    }
+    place
+}
+
 /// The first allocated block of a page of a class from a place on.
 #[inline(never)]
 pub fn next_allocated(arena: &Arena, page: usize, class: Class, from: usize) -> Option<usize>
     requires page { page < 1048576 }
     requires within { 2048 * page + 2048 ≤ length arena.now.words }
     ensures some { IfSome result (λ i. (from ≤ i) × (slice_get (flags_of arena.now.words (2048 * page) class) i ≡ Some true)
-        × ((k : ℕ) → from ≤ k → k < i → slice_get (flags_of arena.now.words (2048 * page) class) k ≡ Some false)) }
-    ensures none { IsNone result → (k : ℕ) → from ≤ k → k < blocks_in class
-        → slice_get (flags_of arena.now.words (2048 * page) class) k ≡ Some false }
+        × AreFree arena.now.words (2048 * page) class from i) }
+    ensures none { IsNone result → AreFree arena.now.words (2048 * page) class from (blocks_in class) }
 {
+    let words = arena.words();
     let blocks = class.blocks_per_page() as usize;
-    for i in from..blocks {
-        if is_taken(arena, page, class, i) {
+    for i in past_free(words, page, class, from)..blocks {
+        if is_taken_in(words, page, class, i) {
             return Some(i);
         }
     }

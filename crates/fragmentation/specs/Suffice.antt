@@ -45,7 +45,7 @@ abbrev pub pages_of : (ℕ → ℕ) → ℕ
 pages_of blocks = class_sum (λ class. whole_pages class (blocks class)) CLASSES
 
 -- How many pages live objects take at most where a cycle begins, all classes together, and how many the objects that
--- are made from a cycle's beginning up to the end of the next cycle's sweep.
+-- are made from there, or from the start, up to the end of the next cycle's sweep, with the one asked for.
 pub record PageDemand : Type 0 where
   pub live : ℕ
   pub made : ℕ

@@ -88,10 +88,10 @@ pub fn moving_suffices()
         → AllKeep (WithinPages (length h.store.pages)) live (opening_season h.limits) es → EveryNewFindsRoom es }
 {}
 
-/// So where live objects take at most some number of pages whenever a cycle begins, and what is made from a cycle's
-/// beginning to the end of the next cycle's sweep at most another, no new object is refused for lack of space with the
-/// pages of live objects, twice those made, and one for each class: whatever the sizes of the objects are, and however
-/// these change.
+/// So where live objects take at most some number of pages whenever a cycle begins, and what is made from there, or from
+/// the start, to the end of the next cycle's sweep at most another, with the object asked for, no new object is refused
+/// for lack of space with the pages of live objects, twice those made, and one for each class: whatever the sizes of the
+/// objects are, and however these change.
 pub fn page_demand_suffices()
     ensures { (h : HeapState) (es : List Event) (new : Course) (b : PageDemand) (live : Lives) → IsOpening h
         → 0 < length h.store.pages → GathersAll h → Runs (opened h) es new

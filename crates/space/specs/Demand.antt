@@ -10,8 +10,8 @@ use Rattle.size_classes.specs.Need.{needed}
 use Rattle.heap_model.specs.Collector.{contains}
 use Rattle.heap_model.specs.Event.{change_by}
 
--- Of each size class: how many blocks live objects need at most where a cycle begins, and how many the
--- objects need that are allocated from there up to the end of the next cycle's sweep.
+-- Of each size class: how many blocks live objects need at most where a cycle begins, and how many the objects need
+-- that are allocated from there, or from the start, up to the end of the next cycle's sweep, with the one asked for.
 pub record Demand : Type 0 where
   pub live : ℕ → ℕ
   pub allocated : ℕ → ℕ

@@ -296,6 +296,9 @@ pub fn next_allocated(arena: &Arena, page: usize, class: Class, from: usize) -> 
 {
     let words = arena.words();
     let blocks = class.blocks_per_page() as usize;
+    if from < blocks && is_taken_in(words, page, class, from) {
+        return Some(from);
+    }
     for i in past_free(words, page, class, from)..blocks {
         if is_taken_in(words, page, class, i) {
             return Some(i);

@@ -30,6 +30,16 @@ typedef struct metronome_page_view {
     uint32_t receiving; /* 1 where a block was moved to it since the last sweep */
 } metronome_page_view;
 
+/* A cycle of a heap that keeps no plan. */
+typedef struct metronome_cycle {
+    uint64_t number;      /* which one it is, from 1 */
+    uint64_t quanta;      /* quanta that found it running */
+    uint64_t units;       /* the units that they spent */
+    uint64_t longest;     /* the most units that one of them spent */
+    uint64_t free_before; /* free pages when it began */
+    uint64_t free_after;  /* free pages when it had ended */
+} metronome_cycle;
+
 /* The phase, a metronome_phase_number. OK, NO_HEAP. */
 uint32_t metronome_phase(metronome *heap, uint32_t *phase) METRONOME_NONNULL;
 
@@ -41,6 +51,12 @@ uint32_t metronome_free_pages(metronome *heap, uint64_t *free_pages) METRONOME_N
 
 /* All counts. It looks at each block of the heap, and so takes time by its size. OK, NO_HEAP. */
 uint32_t metronome_count(metronome *heap, metronome_counts *counts) METRONOME_NONNULL;
+
+/*
+ * The last cycle that ended: for a program's log, after a quantum that ended in METRONOME_IDLE. Each number is 0 where none has ended
+ * yet, and where the heap keeps a plan, of which metronome_kept tells. OK, NO_HEAP.
+ */
+uint32_t metronome_last_cycle(metronome *heap, metronome_cycle *cycle) METRONOME_NONNULL;
 
 /* A page, by its number from 0; one that there isn't is given as a free one. OK, NO_HEAP. */
 uint32_t metronome_page(metronome *heap, size_t number, metronome_page_view *page) METRONOME_NONNULL;

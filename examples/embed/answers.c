@@ -132,6 +132,14 @@ static void spends(metronome *heap, uint32_t units, uint32_t phase) {
     check(spent.units == units && spent.phase == phase, __LINE__);
 }
 
+/* The last cycle that ended is told so. */
+static void tells(metronome *heap, metronome_cycle wanted, int line) {
+    metronome_cycle told;
+    memset(&told, 7, sizeof told);
+    check(metronome_last_cycle(heap, &told) == METRONOME_OK, line);
+    check(memcmp(&told, &wanted, sizeof told) == 0, line);
+}
+
 static void a_cycle_frees_what_is_dropped(void) {
     metronome h = opened(small());
     uint32_t phase = 7;
@@ -151,6 +159,42 @@ static void a_cycle_frees_what_is_dropped(void) {
     IS(21, units);
     IS(METRONOME_OK, metronome_free_pages(&h, &free_pages));
     IS(1, free_pages);
+    tells(&h, (metronome_cycle){ 1, 1, 21, 21, 0, 1 }, __LINE__);
+    metronome_destroy(&h);
+}
+
+/* A cycle in quanta of 256 units, as these tell of it; until it ends the one before it is told. */
+static metronome_cycle cycle_behind(metronome_cycle before, metronome *heap) {
+    metronome_cycle seen = { before.number + 1, 0, 0, 0, 0, 0 };
+    metronome_spent spent = { 0, METRONOME_ROOTS };
+    IS(METRONOME_OK, metronome_begin(heap));
+    IS(METRONOME_OK, metronome_free_pages(heap, &seen.free_before));
+    while (spent.phase != METRONOME_IDLE) {
+        tells(heap, before, __LINE__);
+        IS(METRONOME_OK, metronome_quantum(heap, 256, &spent));
+        seen.quanta++;
+        seen.units += spent.units;
+        if (spent.units > seen.longest) seen.longest = spent.units;
+    }
+    IS(METRONOME_OK, metronome_free_pages(heap, &seen.free_after));
+    return seen;
+}
+
+/* Each cycle is told once it has ended, whatever comes before the next one ends: a quantum, or other objects. */
+static void cycles_are_told(void) {
+    metronome_settings settings = small();
+    settings.pages = 4;
+    metronome h = opened(settings);
+    metronome_cycle seen = { 0, 0, 0, 0, 0, 0 };
+    for (uint64_t number = 1, made = 0; number <= 4; number++) {
+        for (uint64_t more = 0; more < 90 * number; more++) ANSWERS(MADE, ++made, new_plain, 0, 0, 0, 8);
+        tells(&h, seen, __LINE__);
+        seen = cycle_behind(seen, &h);
+        tells(&h, seen, __LINE__);
+        check(seen.number == number && seen.free_before < 4 && seen.free_after == 3, __LINE__);
+        spends(&h, 0, METRONOME_IDLE);
+    }
+    check(seen.quanta == 3 && seen.longest == 256 && seen.units < 3 * 256 && seen.free_before == 1, __LINE__);
     metronome_destroy(&h);
 }
 
@@ -321,6 +365,7 @@ int main(void) {
     mutators_join_and_leave();
     sizes_are_tested();
     a_cycle_frees_what_is_dropped();
+    cycles_are_told();
     touched_pages_are_the_same();
     budgets_are_tested();
     objects_are_counted();

@@ -27,6 +27,7 @@ struct told {
     metronome_counts counts;
     metronome_page_view page;
     metronome_block_view block;
+    metronome_cycle cycle;
     metronome_work work;
     uint64_t number;
     uint32_t phase;
@@ -52,7 +53,7 @@ static int refused_commands(metronome *h, uint32_t status, struct told *told) {
     return refused;
 }
 
-/* How many of the other calls tell a status: they are 13. */
+/* How many of the other calls tell a status: they are 14. */
 static int refused_calls(metronome *h, uint32_t status, struct told *told) {
     metronome_pacing pacing = METRONOME_PACING(1, 1, 256);
     metronome_row row = METRONOME_ROW(0, 1, 2);
@@ -61,7 +62,8 @@ static int refused_calls(metronome *h, uint32_t status, struct told *told) {
         + (metronome_phase(h, &told->phase) == status) + (metronome_units(h, &told->number) == status)
         + (metronome_free_pages(h, &told->number) == status) + (metronome_count(h, &told->counts) == status)
         + (metronome_page(h, 0, &told->page) == status) + (metronome_block(h, 0, 0, &told->block) == status)
-        + (metronome_check_slot(h, 0, 0) == status) + (metronome_keep(h, &flow) == status) + (metronome_kept(h, &told->work) == status)
+        + (metronome_check_slot(h, 0, 0) == status) + (metronome_last_cycle(h, &told->cycle) == status)
+        + (metronome_keep(h, &flow) == status) + (metronome_kept(h, &told->work) == status)
         + (metronome_pace(h, &pacing, 1) == status && metronome_whole_cycle(h, 256) == status
            && metronome_close_frame(h, &row, 0) == status);
 }
@@ -74,7 +76,7 @@ static void nothing_is_done(metronome *h, uint32_t status) {
     memset(&told, 7, sizeof told);
     memset(&stood, 7, sizeof stood);
     check(refused_commands(h, status, &told) == 18, __LINE__);
-    check(refused_calls(h, status, &told) == 13, __LINE__);
+    check(refused_calls(h, status, &told) == 14, __LINE__);
     check(memcmp(&told, &stood, sizeof told) == 0, __LINE__);
     metronome_destroy(h);
     check(memcmp(&before, h, sizeof before) == 0, __LINE__);
@@ -218,6 +220,7 @@ static void plans_are_kept_by_new_heaps(void) {
     metronome h = METRONOME_CLOSED;
     metronome_flow flow, larger;
     metronome_work work = { 7, 7, 7 };
+    metronome_cycle cycle = { 7, 7, 7, 7, 7, 7 };
     metronome_spent spent;
     settings.live = 1;
     IS(METRONOME_OK, metronome_plan(&settings, 2000, &flow));
@@ -245,6 +248,8 @@ static void plans_are_kept_by_new_heaps(void) {
     IS(METRONOME_BAD_BUDGET, metronome_quantum(&h, 255, &spent));
     IS(METRONOME_OK, metronome_quantum(&h, 256, &spent));
     IS(METRONOME_OK, metronome_quantum(&h, 1000000, &spent));
+    IS(METRONOME_OK, metronome_last_cycle(&h, &cycle));
+    check(spent.phase == METRONOME_IDLE && memcmp(&cycle, &(metronome_cycle){ 0 }, sizeof cycle) == 0, __LINE__);
     check(metronome_new_plain(&h, 1, 0, 1, 1).kind == METRONOME_MADE, __LINE__);
     IS(METRONOME_OK, metronome_kept(&h, &work));
     check(work.cycles == 0, __LINE__);

@@ -45,7 +45,9 @@ static void check_heaps() {
     metronome_flow flow{};
     metronome_work work{};
     IS(METRONOME_NO_HEAP, heap.try_keep(flow));
+    metronome_cycle cycle{};
     IS(METRONOME_NO_HEAP, heap.try_kept(work));
+    IS(METRONOME_NO_HEAP, heap.try_last_cycle(cycle));
     IS(METRONOME_NO_PLAN, try_plan(SETTINGS, 100, flow));
     IS(METRONOME_OK, heap.try_open(SETTINGS));
     IS(METRONOME_NO_PLAN, heap.try_keep(flow));
@@ -198,6 +200,7 @@ static void check_throwing() {
     heap.touch(5);
     heap.whole_cycle(1000);
     CHECK(heap.free_pages() == 3 && heap.count().objects == 3);
+    CHECK(heap.last_cycle().number == 2 && heap.last_cycle().units == heap.units() && heap.last_cycle().free_after == 3);
     CHECK(heap.page(0).size == 6 && heap.page(0).held == 3 && heap.page(1).size == 0);
     CHECK(heap.block(0, 0).held == 1 && heap.block(1, 0).held == 0);
     CHECK(cycle_limit(SETTINGS).quanta == 34);

@@ -71,11 +71,13 @@ static void do_lists(void) {
 static void ask(void) {
     uint32_t phase;
     uint64_t number;
+    metronome_cycle cycle;
     metronome_page_view view;
     metronome_block_view block;
     ASK(phase, &heap, &phase);
     ASK(units, &heap, &number);
     ASK(free_pages, &heap, &number);
+    ASK(last_cycle, &heap, &cycle);
     ASK(touch, &heap, (size_t)pages_of_heap);
     ASK(page, &heap, 0, &view);
     ASK(page, &heap, (size_t)pages_of_heap - 1, &view);

@@ -3,6 +3,7 @@ use std::ffi::c_void;
 use std::os::raw::c_char;
 
 use crate::flow::{Flow, Work};
+use crate::heap::Cycle;
 use crate::log::EntryTold;
 use crate::refusal::{Refusal, Result};
 
@@ -327,6 +328,7 @@ extern "C" {
     pub(crate) fn metronome_units(heap: *mut Handle, units: *mut u64) -> u32;
     pub(crate) fn metronome_free_pages(heap: *mut Handle, free_pages: *mut u64) -> u32;
     pub(crate) fn metronome_count(heap: *mut Handle, counts: *mut Counts) -> u32;
+    pub(crate) fn metronome_last_cycle(heap: *mut Handle, cycle: *mut Cycle) -> u32;
     pub(crate) fn metronome_page(heap: *mut Handle, number: usize, page: *mut Page) -> u32;
 
     pub(crate) fn metronome_block(heap: *mut Handle, page: usize, number: usize, block: *mut BlockTold) -> u32;

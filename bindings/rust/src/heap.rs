@@ -52,6 +52,24 @@ pub struct Spent {
     pub phase: Phase,
 }
 
+/// A cycle of a heap that keeps no plan.
+#[repr(C)]
+#[derive(Clone, Copy, Debug, Default, PartialEq, Eq)]
+pub struct Cycle {
+    /// Which one it is, from 1.
+    pub number: u64,
+    /// Quanta that found it running.
+    pub quanta: u64,
+    /// The units that they spent.
+    pub units: u64,
+    /// The most units that one of them spent.
+    pub longest: u64,
+    /// Free pages when it began.
+    pub free_before: u64,
+    /// Free pages when it had ended.
+    pub free_after: u64,
+}
+
 /// A pace of the collector: as `metronome_pacing` of metronome_over_calls.h, which says how to choose its numbers.
 #[derive(Clone, Copy, Debug, PartialEq, Eq)]
 pub struct Pacing {
@@ -239,6 +257,15 @@ impl Heap {
         // SAFETY: the heap is open, and both live through the call.
         unsafe { calls::metronome_count(self.handle(), &mut counts) };
         counts
+    }
+
+    /// The last cycle that ended, for a program's log; `None` before one has, and where the heap keeps a plan, of which
+    /// [`Heap::kept`] tells.
+    pub fn last_cycle(&self) -> Option<Cycle> {
+        let mut cycle = Cycle::default();
+        // SAFETY: the heap is open, and both live through the call.
+        unsafe { calls::metronome_last_cycle(self.handle(), &mut cycle) };
+        (cycle.number > 0).then_some(cycle)
     }
 
     /// A page, by its number from 0; one that there isn't is given as a free one.

@@ -54,7 +54,7 @@ mod walk;
 
 pub use calls::{version, Counts, CycleLimit, Page, Settings};
 pub use flow::{Flow, Work};
-pub use heap::{Heap, Pacing, Phase, Spent};
+pub use heap::{Cycle, Heap, Pacing, Phase, Spent};
 pub use log::{Command, Entry, Logged};
 pub use mutator::Mutator;
 pub use record::Recording;

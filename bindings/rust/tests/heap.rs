@@ -2,7 +2,7 @@
 use std::thread;
 
 use metronome::{
-    version, Compared, CycleLimit, Description, Heap, Pacing, Page, Phase, Refusal, Result, Root, Settings, Shape,
+    version, Compared, Cycle, CycleLimit, Description, Heap, Pacing, Page, Phase, Refusal, Result, Root, Settings, Shape,
 };
 
 /// Two mutators of three slots, and one static.
@@ -120,13 +120,16 @@ fn cycles_go_by_quanta() -> Result<()> {
     let heap = Heap::new(&SMALL)?;
     heap.touch(2);
     heap.touch(usize::MAX);
-    assert_eq!((heap.phase(), heap.units(), heap.free_pages()), (Phase::Idle, 0, 4));
+    assert_eq!((heap.phase(), heap.units(), heap.free_pages(), heap.last_cycle()), (Phase::Idle, 0, 4, None));
     assert!(heap.begin() && !heap.begin());
     let spent = heap.quantum(256)?;
     assert!(spent.units > 0 && spent.units <= 256 && u64::from(spent.units) == heap.units());
     assert_eq!(spent.phase, heap.phase());
     heap.whole_cycle(1000)?;
     assert_eq!(heap.phase(), Phase::Idle);
+    let units = heap.units();
+    let last = Cycle { number: 3, quanta: 1, units, longest: units, free_before: 4, free_after: 4 };
+    assert_eq!(heap.last_cycle(), Some(last));
     Ok(())
 }
 
@@ -167,7 +170,7 @@ fn a_plan_is_kept() -> Result<()> {
         mutator.new_words(1000)?;
     }
     assert_eq!(mutator.new_words(4_000_000).err(), Some(Refusal::AbovePlan));
-    assert!(heap.kept()?.cycles > 0 && heap.kept()?.quanta >= heap.kept()?.most_quanta);
+    assert!(heap.kept()?.cycles > 0 && heap.kept()?.quanta >= heap.kept()?.most_quanta && heap.last_cycle().is_none());
     assert_eq!(heap.keep(&flow).err(), Some(Refusal::NoPlan));
     Ok(())
 }

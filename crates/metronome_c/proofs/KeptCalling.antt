@@ -27,6 +27,7 @@ use Rattle.bulk.specs.InOrder.{InOrder, DoesFront, events_of, with_refusal}
 use Rattle.metronome_c.specs.declared.answer.Answer.{Answer}
 use Rattle.metronome_c.specs.declared.bulk_calls.MetronomeProgress.{MetronomeProgress}
 use Rattle.metronome_c.specs.declared.collector.QuantumSpent.{QuantumSpent}
+use Rattle.metronome_c.specs.declared.cycles.Cycles.{Cycles}
 use Rattle.metronome_c.specs.declared.held.Held.{Held}
 use Rattle.metronome_c.specs.declared.planning.MetronomeFlow.{MetronomeFlow}
 use Rattle.metronome_c.specs.declared.status.Status.{Status}
@@ -36,6 +37,7 @@ use Rattle.metronome_c.specs.Asking.{AsksPaying}
 use Rattle.metronome_c.specs.BulkCalls.{progress_told, DoesList}
 use Rattle.metronome_c.specs.Calls.{Call, Command_called, Begin_called, Quantum_called, TellsEvent}
 use Rattle.metronome_c.specs.Collecting.{BeginsOpen, SpendsOpen}
+use Rattle.metronome_c.specs.Cycles.{no_cycles}
 use Rattle.metronome_c.specs.Keeping.{kept, CanKeep, KeepsHeld, keep_status, Keeps}
 use Rattle.metronome_c.specs.KeptCalls.{KeptCall, Called, List_called, MakeNothing, DoesCommands, DoesKept, KeptCalls, AreWork, WasOne, WasEvents, WereEvents, KeepsRoom}
 use Rattle.metronome_c.specs.Lifetime.{IsMadeOf}
@@ -85,10 +87,10 @@ works words (Begin_refused ∷ es) old new p = absurd p.1
 works words (Quantum_done budget units phase ∷ es) old new p = (tt, works words es p.0 new p.4)
 works words (Quantum_refused budget ∷ es) old new p = absurd p.1
 
-module _ (config : Config) where
-  -- a heap that keeps a plan
+module _ (config : Config) (cycles : Cycles) where
+  -- a heap that keeps a plan, and so counts no cycle
   abbrev held : PacerView → HeapState → Held
-  held p x = record { heap = x; config = config; pacer = Some p }
+  held p x = record { heap = x; config = config; pacer = Some p; cycles = cycles }
 
   -- a call is events that keep the plan
   record WasKept (p : PacerView) (h : HeapState) (call : KeptCall) (next : Result Held Status) : Type 0 where
@@ -247,7 +249,7 @@ module _ (s : Settings) (h : Held) (made : IsMadeOf s h) (flow : MetronomeFlow) 
   room_kept : CanKeep h flow → KeptCalls (Ok (kept h flow)) calls new → KeepsRoom h flow calls new
   room_kept can d =
       let p : PacerView = first_pacer flow.budget (plan_in flow) in
-      let all = were_kept h.config calls p h.heap new d in
+      let all = were_kept h.config no_cycles calls p h.heap new d in
       let old : PacedState = state_of (paced_by p h.heap) in
       let just : IsJustPaced h.config (plan_in flow) old = record {
         heap = made.0;
@@ -257,7 +259,7 @@ module _ (s : Settings) (h : Held) (made : IsMadeOf s h) (flow : MetronomeFlow) 
       let found = finds_room h.config (plan_in flow) flow.live_words old (state_of (paced_by all.pacer all.heap)) all.events just can.moves can.fits all.path in
       record {
         events = all.events;
-        left = held h.config all.pacer all.heap;
+        left = held h.config no_cycles all.pacer all.heap;
         is_left = all.left;
         were = all.were;
         room = found;

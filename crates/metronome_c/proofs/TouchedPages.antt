@@ -32,4 +32,4 @@ touches_open pages (Ok h) answer new n asks told =
 pub touched_made : (s : Settings) (h : Held) (pages : ℕ) → IsMadeOf s h → IsMadeOf s (touched_held h pages)
 touched_made s h pages made =
     let o = made.0 in
-    (record { pages = o.pages; roots = o.roots; live = o.live; next = o.next; phase = o.phase; units = o.units; grey = o.grey }, made.1, made.2, made.3)
+    (record { pages = o.pages; roots = o.roots; live = o.live; next = o.next; phase = o.phase; units = o.units; grey = o.grey }, made.1, made.2, made.3, made.4)

@@ -11,11 +11,13 @@ use Rattle.machine.specs.Headline.{Holds, AlwaysHolds}
 use Rattle.machine.specs.Space.{IsJustMade, FindsSpace}
 use Rattle.metronome_c.specs.declared.answer.Answer.{Answer}
 use Rattle.metronome_c.specs.declared.collector.QuantumSpent.{QuantumSpent}
+use Rattle.metronome_c.specs.declared.cycles.Cycles.{Cycles}
 use Rattle.metronome_c.specs.declared.held.Held.{Held}
 use Rattle.metronome_c.specs.declared.status.Status.{Status}
 use Rattle.metronome_c.specs.declared.status.Status.TheVariants.{Done, Busy, BudgetOutOfRange}
 use Rattle.metronome_c.specs.Answer.{answer_of}
 use Rattle.metronome_c.specs.Collecting.{phase_number, BeginsOpen, SpendsOpen}
+use Rattle.metronome_c.specs.Cycles.{CountsCycles}
 use Rattle.metronome_c.specs.Status.{status_number}
 use Rattle.metronome_c.specs.Steps.{DoesCommand}
 
@@ -55,13 +57,16 @@ AllTellEvents (e ∷ es) [] = ⊥
 AllTellEvents (e ∷ es) (call ∷ calls) = TellsEvent e call × AllTellEvents es calls
 
 -- The calls are events, which lead from the heap that was made to the one that the handle holds, with the history of
--- the commands; each told the program its outcome; and all that is promised of a heap with its history holds there.
+-- the commands, and to the cycles that it has; each told the program its outcome; and all that is promised of a heap with its
+-- history holds there.
 pub record AreEvents (h : Held) (calls : List Call) (new : Result Held Status) : Type 0 where
   pub events : List Event
   pub course : Course
+  pub cycles : Cycles
   pub runs : Runs (opened h.heap) events course
+  pub counts : CountsCycles (opened h.heap) h.cycles events course cycles
   pub told : AllTellEvents events calls
-  pub left : new ≡ Ok (record h { heap = course.heap })
+  pub left : new ≡ Ok (record h { heap = course.heap; cycles = cycles })
   pub holds : Holds course
 
 -- A heap of a configuration with the numbers of these settings was just made: whatever comes, what is promised of a

@@ -17,6 +17,7 @@ use Rattle.metronome_c.specs.declared.collector.QuantumSpent.{QuantumSpent}
 use Rattle.metronome_c.specs.declared.held.Held.{Held}
 use Rattle.metronome_c.specs.declared.status.Status.{Status}
 use Rattle.metronome_c.specs.declared.status.Status.TheVariants.{Done, Busy, BudgetOutOfRange}
+use Rattle.metronome_c.specs.Cycles.{cycles_by}
 use Rattle.metronome_c.specs.Status.{status_number}
 
 -- the number of a phase
@@ -36,10 +37,18 @@ abbrev pub counted_by : Event → Option PacerView → Option PacerView
 counted_by e (Some p) = Some (record p { counts = counted p.counts e })
 counted_by e None = None
 
+-- what C holds after an event that left its heap so: a pacer counts it, where there is one, and else it counts for the cycles
+abbrev pub held_after : Held → Event → HeapState → Held
+held_after old e after = record old {
+  heap = after;
+  pacer = counted_by e old.pacer;
+  cycles = cycles_by old.pacer e old.heap after old.cycles;
+}
+
 -- a cycle begins, or one is running already
 abbrev pub BeginsHeld : Held → Result (Unit {0}) CycleOn → Held → Type 0
 BeginsHeld old result new =
-    (new ≡ record old { heap = new.heap; pacer = counted_by (begin_done result) old.pacer })
+    (new ≡ held_after old (begin_done result) new.heap)
     × KeepsAgreeing old.heap new.heap × Begins old.heap new.heap result
 
 -- the status of a call to begin a cycle
@@ -71,7 +80,7 @@ EndsOrSpends budget (Err refused) = Unit {0}
 -- a quantum spends units of its budget in one turn, or the budget is refused
 abbrev pub SpendsHeld : Held → ℕ → Result Spent Refused → Held → Type 0
 SpendsHeld old budget result new =
-    (new ≡ record old { heap = new.heap; pacer = counted_by (quantum_done budget result) old.pacer })
+    (new ≡ held_after old (quantum_done budget result) new.heap)
     × KeepsAgreeing old.heap new.heap × Spends old.heap budget new.heap result × EndsOrSpends budget result
 
 -- a quantum is spent in the heap that C holds, or its budget is refused

@@ -31,6 +31,11 @@ abbrev pub Tells : {A : Type 0} → (HeapState → A) → Result Held Status →
 Tells tell (Err why) new before after status = (new ≡ Err why) × (after ≡ before) × (status ≡ status_number why)
 Tells tell (Ok h) new before after status = (new ≡ Ok h) × (after ≡ tell h.heap) × (status ≡ status_number Done)
 
+-- C is told what is found of what it holds, or why there is none, and nothing changes
+abbrev pub TellsFound : {A : Type 0} → (Result Held Status → Result A Status) → Result Held Status → Result Held Status → A → A
+    → ℕ → Type 0
+TellsFound find old new before after status = (new ≡ old) × IsTold (find old) before after status
+
 -- a heap represents some graph heap at present, and one when the last cycle began
 abbrev pub RepresentsSome : HeapState → Type 0
 RepresentsSome h = (present : Graph) × (snapshot : Graph) × Represents h present snapshot

@@ -1,5 +1,5 @@
--- What the box of a handle holds, and what is done with it: a `Held` is a heap, the configuration that it was made of, and its
--- pacer, where a plan is kept.
+-- What the box of a handle holds, and what is done with it: a `Held` is a heap, the configuration that it was made of, its
+-- pacer, where a plan is kept, and its cycles.
 use Rattle.std.specs.Prelude.{◌≡◌, ℕ, ◌<◌, ◌≤◌, Bool, true, false, Option, Some, None, is_some, Result, Ok, Err}
 use Rattle.heap_model.specs.State.{HeapState}
 use Rattle.paced.specs.Pacing.{PacerView, paced_by, Pays}

@@ -13,7 +13,7 @@ use Rattle.metronome_c.specs.declared.keeping.MetronomeWork.{MetronomeWork}
 use Rattle.metronome_c.specs.declared.planning.MetronomeFlow.{MetronomeFlow}
 use Rattle.metronome_c.specs.declared.status.Status.{Status}
 use Rattle.metronome_c.specs.declared.status.Status.TheVariants.{Done, NoPlan}
-use Rattle.metronome_c.specs.Figures.{IsTold}
+use Rattle.metronome_c.specs.Cycles.{no_cycles}
 use Rattle.metronome_c.specs.Planning.{plan_in}
 use Rattle.metronome_c.specs.Status.{status_number}
 
@@ -34,9 +34,9 @@ pub record CanKeep (h : Held) (flow : MetronomeFlow) : Type 0 where
   pub moves : MovesAll h.config
   pub fits : FlowFitsIn h.config (flow_of flow)
 
--- a heap as it is, with a pacer that has counted nothing
+-- a heap as it is, with a pacer that has counted nothing, and no cycle to tell of
 abbrev pub kept : Held → MetronomeFlow → Held
-kept h flow = record h { pacer = Some (first_pacer flow.budget (plan_in flow)) }
+kept h flow = record h { pacer = Some (first_pacer flow.budget (plan_in flow)); cycles = no_cycles }
 
 -- A flow is kept exactly where it can be; else nothing is done.
 abbrev pub KeepsHeld : Held → MetronomeFlow → Bool → Held → Type 0
@@ -66,7 +66,3 @@ work_by None = Err NoPlan
 abbrev pub work_in : Result Held Status → Result MetronomeWork Status
 work_in (Ok h) = work_by h.pacer
 work_in (Err why) = Err why
-
--- C is told it, and nothing changes
-abbrev pub TellsKept : Result Held Status → Result Held Status → MetronomeWork → MetronomeWork → ℕ → Type 0
-TellsKept old new before after status = (new ≡ old) × IsTold (work_in old) before after status

@@ -6,17 +6,20 @@ ghost use Rattle.metronome_c.specs.Held.{PaysHeld};
 ghost use Rattle.metronome_c.specs.Collecting.{BeginsHeld, SpendsHeld};
 ghost use Rattle.metronome_c.specs.Keeping.{IsUnused, KeepsHeld};
 
+use crate::cycles::Cycles;
 use crate::planning::MetronomeFlow;
 use graph_heap::Shape;
 use machine::{BudgetOutOfRange, Busy, Heap, Spent};
 use paced::{Figures, Pacer, flow_fits, moves_all};
 use settings::Config;
 
-/// A heap, the configuration that it was made of, and its pacer, where the program keeps a plan.
+/// A heap, the configuration that it was made of, its pacer, where the program keeps a plan, and its cycles, counted where the
+/// program keeps none.
 pub struct Held {
     pub heap: Heap,
     pub config: Config,
     pub pacer: Option<Pacer>,
+    pub cycles: Cycles,
 }
 
 impl Drop for Held {
@@ -26,6 +29,7 @@ impl Drop for Held {
             heap: _,
             config: _,
             pacer: _,
+            cycles: _,
         } = self;
     }
 }
@@ -60,7 +64,7 @@ impl Held {
     {
         match &mut self.pacer {
             Some(pacer) => pacer.begin(&mut self.heap),
-            None => self.heap.begin(),
+            None => self.cycles.begin(&mut self.heap),
         }
     }
 
@@ -70,7 +74,7 @@ impl Held {
     {
         match &mut self.pacer {
             Some(pacer) => pacer.quantum(&mut self.heap, budget),
-            None => self.heap.quantum(budget),
+            None => self.cycles.quantum(&mut self.heap, budget),
         }
     }
 
@@ -107,6 +111,7 @@ impl Held {
             return false;
         }
         self.pacer = Some(Pacer::new(&self.config, plan));
+        self.cycles = Cycles::NONE;
         true
     }
 }

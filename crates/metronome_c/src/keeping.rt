@@ -1,6 +1,7 @@
 //! Plans are kept.
 ghost use Rattle.std.specs.Prelude.{◌≡◌};
-ghost use Rattle.metronome_c.specs.Keeping.{work_told, Keeps, TellsKept};
+ghost use Rattle.metronome_c.specs.Figures.{TellsFound};
+ghost use Rattle.metronome_c.specs.Keeping.{work_told, Keeps, work_in};
 ghost use Rattle.metronome_c.specs.Opened.{held_in};
 
 use crate::figures::tell;
@@ -47,7 +48,7 @@ pub extern "C" fn metronome_keep(heap: &mut Metronome, flow: &MetronomeFlow) -> 
 /// Tells what the collector did because the plan wanted it, since it is kept.
 #[unsafe(no_mangle)]
 pub extern "C" fn metronome_kept(heap: &mut Metronome, work: &mut MetronomeWork) -> u32
-    ensures { TellsKept (held_in heap.old) (held_in heap.new) work.old work.new result }
+    ensures { TellsFound work_in (held_in heap.old) (held_in heap.new) work.old work.new result }
 {
     let found = match heap.ask_held(|held| held.figures()) {
         Ok(Some(figures)) => Ok(MetronomeWork::from_figures(figures)),

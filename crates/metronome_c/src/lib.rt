@@ -7,6 +7,7 @@ mod bulk_calls;
 mod checking;
 mod collector;
 mod commands;
+mod cycles;
 mod figures;
 mod handle;
 mod held;

@@ -5,6 +5,7 @@ ghost use Rattle.metronome_c.specs.Opened.{held_in};
 ghost use Rattle.metronome_c.specs.Lifetime.{IsMadeOf, Creates, Destroys};
 ghost use Rattle.metronome_c.specs.Status.{status_number};
 
+use crate::cycles::Cycles;
 use crate::held::Held;
 use crate::metronome::Metronome;
 use crate::status::Status;
@@ -51,6 +52,7 @@ fn create(heap: &mut Metronome, settings: &Settings) -> u32
         heap: made,
         config,
         pacer: None,
+        cycles: Cycles::NONE,
     };
     let Ok(boxed) = Box::new(alloc, held) else {
         return Status::NoMemory.number();

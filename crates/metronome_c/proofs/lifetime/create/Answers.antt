@@ -3,6 +3,7 @@ use Rattle.std.specs.Prelude.{Some, None}
 use Rattle.std.specs.Result.{result_err}
 use Rattle.settings.specs.declared.ranges.Ranges.TheVariants.{Library}
 use Rattle.settings.specs.Config.{fault_of}
+use Rattle.metronome_c.specs.Cycles.{no_cycles}
 use Rattle.metronome_c.specs.Lifetime.{IsMadeOf}
 use Rattle.metronome_c.specs.Status.{status_number}
 use Rattle.metronome_c.proofs.Making.{creates_none, creates_one, creates_open, creates_bad}
@@ -24,4 +25,4 @@ pub returns : goal.returns
 returns c =
     let s = c.args.settings.now in
     let f : None ≡ fault_of Library s = ap result_err (sym c.in-Ok.is) ∙ c.check.ensures.fault in
-    creates_one IsMadeOf _ _ _ _ (record { heap = c.in-Ok-new.made; config = c.in-Ok.config; pacer = None }) s _ (sym c.is_open.ensures ∙ c.if-is_open.false) (sym c.is_closed.ensures ∙ c.if-not-is_closed.false) f (c.put.ensures ∙ ap Some c.in-Ok-new-2.ensures.ok) (search rules) (c.in-Ok-new.ensures.opening, c.in-Ok.ensures.values, c.in-Ok-new.ensures.settings, refl)
+    creates_one IsMadeOf _ _ _ _ (record { heap = c.in-Ok-new.made; config = c.in-Ok.config; pacer = None; cycles = no_cycles }) s _ (sym c.is_open.ensures ∙ c.if-is_open.false) (sym c.is_closed.ensures ∙ c.if-not-is_closed.false) f (c.put.ensures ∙ ap Some c.in-Ok-new-2.ensures.ok) (search rules) (c.in-Ok-new.ensures.opening, c.in-Ok.ensures.values, c.in-Ok-new.ensures.settings, refl, refl)

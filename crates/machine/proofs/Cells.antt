@@ -52,7 +52,7 @@ no_refs_by false count first e = omega arith
 behind_spines : (s d : ℕ) → nat_lt (s + d) s ≡ false
 behind_spines s d = grind arith
 
-no_refs_in : (n i : ℕ) → width_in 0 n (part_in (0 + n) i) ≡ 0
+pub no_refs_in : (n i : ℕ) → width_in 0 n (part_in (0 + n) i) ≡ 0
 unfolding width_in part_in
 no_refs_in n i =
     let m = 0 + n in
@@ -72,7 +72,7 @@ word_within_part (shapes.RefArray n) i fit l = absurd (omega arith)
 word_within_part (shapes.WordArray n) i fit l = sum_less _ _ _ (no_refs_in n i) (column_within (0 + n) i (omega arith))
 
 -- what a place tells
-place_parts : {A : Type 0} (b c : Bool) (x y : A) → cond b (cond c (Ok x) (Err refusals.BadIndex)) (Err refusals.WrongKind) ≡ Ok y → (b ≡ true) × (c ≡ true) × (x ≡ y)
+pub place_parts : {A : Type 0} (b c : Bool) (x y : A) → cond b (cond c (Ok x) (Err refusals.BadIndex)) (Err refusals.WrongKind) ≡ Ok y → (b ≡ true) × (c ≡ true) × (x ≡ y)
 place_parts true true x y e = (refl, refl, (cc))
 place_parts true false x y e = absurd (cc)
 place_parts false c x y e = absurd (cc)

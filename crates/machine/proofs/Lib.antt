@@ -2,6 +2,7 @@ pub mod Cells
 pub mod Collecting
 pub mod Courses
 pub mod Doing
+pub mod FarCells
 pub mod Effects
 pub mod Finding
 pub mod Headline

@@ -12,7 +12,7 @@ use Rattle.arraylets.specs.declared.position.CellPosition.{CellPosition}
 use Rattle.machine.specs.declared.plan.Found.{Found}
 use Rattle.machine.specs.declared.plan.Kind.{Kind}
 use Rattle.nodes.specs.HeapFields.{IsHeap}
-use Rattle.machine.specs.Reading.{IsFound, position_in, FindsCell}
+use Rattle.machine.specs.Reading.{IsFound, CanReach, position_in, FindsCell}
 use Rattle.machine.proofs.Doing.{present_agrees, at_present}
 use Rattle.machine.proofs.Cells.{parts_below, spine_refers, part_refers, cell_below, found_cell}
 
@@ -34,12 +34,6 @@ module _ (h t : HeapState) (is : h ≡ t) (w : IsHeap h) (root i : ℕ) (f : Fou
   abbrev IsPart : ℕ → Type 0
   IsPart p = p < count_of (object_of w.present.objects present_id)
 
-  -- what it takes to find the block of a part
-  abbrev CanReach : ℕ → Type 0
-  CanReach p =
-      (p < parts_in (cells_of f.shape)) × (p ≢ 0 → spine_of (cells_of f.shape) p ≢ 0 → Refers h.store f.block (spine_cell_of (cells_of f.shape) (spine_of (cells_of f.shape) p)))
-      × (p ≢ 0 → Refers h.store (spine_at h.store (cells_of f.shape) f.block p) (spine_cell_of (cells_of f.shape) p))
-
   module _ (p : ℕ) (below : IsPart p) where
     within_parts : p < parts_in (cells_of f.shape)
     within_parts = parts_below h w.present (present_agrees h w) present_id f found_now p below
@@ -50,11 +44,11 @@ module _ (h t : HeapState) (is : h ≡ t) (w : IsHeap h) (root i : ℕ) (f : Fou
     to_part : p ≢ 0 → Refers h.store (spine_at h.store (cells_of f.shape) f.block p) (spine_cell_of (cells_of f.shape) p)
     to_part = part_refers h w.present (present_agrees h w) present_id f found_now p below w.represents.consistent.whole
 
-    can_reach : CanReach p
+    can_reach : CanReach h.store (cells_of f.shape) f.block p
     can_reach = (within_parts, to_spine, to_part)
 
   module _ (kind : Kind) where
-    pub reached : (place : CellPosition) → position_in kind f.shape i ≡ Ok place → CanReach place.part
+    pub reached : (place : CellPosition) → position_in kind f.shape i ≡ Ok place → CanReach h.store (cells_of f.shape) f.block place.part
     reached place at = can_reach place.part (cell_below h w.present (present_agrees h w) present_id f found_now i kind place at)
 
     -- the cell

@@ -1,17 +1,17 @@
 -- How commands read the words of the heap.
-use Rattle.std.specs.Prelude.{◌≡◌, ℕ, ◌+◌, ◌<◌, length, slice_index, Result, Ok, Err}
+use Rattle.std.specs.Prelude.{◌≡◌, ◌≢◌, ℕ, ◌+◌, ◌<◌, length, slice_index, Result, Ok, Err}
 use Rattle.graph_heap.specs.declared.command.Refusal.{Refusal}
 use Rattle.graph_heap.specs.declared.command.Shape.{Shape}
 use Rattle.graph_heap.specs.Graph.{Graph, Object, object_of}
 use Rattle.graph_heap.specs.Effect.{slot_at, object_at, ref_at, word_at}
 use Rattle.graph_heap.specs.Reach.{Reaches}
-use Rattle.size_classes.specs.Parts.{cells_of, part_in, column_in}
-use Rattle.heap_model.specs.Store.{record_of}
+use Rattle.size_classes.specs.Parts.{cells_of, parts_in, part_in, column_in, spine_of, spine_cell_of}
+use Rattle.heap_model.specs.Store.{Store, record_of}
 use Rattle.heap_model.specs.Agree.{IsMain}
 use Rattle.heap_model.specs.Cut.{name_of}
 use Rattle.heap_model.specs.State.{HeapState, seen, width_at}
 use Rattle.heap_model.specs.Written.{IsKnown}
-use Rattle.heap_model.specs.Reading.{IsMainCopy}
+use Rattle.heap_model.specs.Reading.{IsMainCopy, Refers, spine_at}
 use Rattle.nodes.specs.declared.nodes.Referent.{Referent}
 use Rattle.arraylets.specs.declared.position.CellPosition.{CellPosition}
 use Rattle.arraylets.specs.CellPosition.{ref_position, word_position}
@@ -76,6 +76,13 @@ abbrev pub FindsWord : HeapState → Graph → ℕ → ℕ → Result Cell Refus
 FindsWord h g id i (Ok at) = (word_at g.objects id i ≡ Ok (slice_index (object_of g.objects id).words i))
     × IsWordPlace h g id i at
 FindsWord h g id i (Err e) = word_at g.objects id i ≡ Err e
+
+-- what it takes to find the block of a part from that of part 0, of an object with this many cells: there is such a part, and
+-- what leads to it refers to allocated blocks
+abbrev pub CanReach : Store → ℕ → ℕ → ℕ → Type 0
+CanReach s cells block part = (part < parts_in cells)
+    × (part ≢ 0 → spine_of cells part ≢ 0 → Refers s block (spine_cell_of cells (spine_of cells part)))
+    × (part ≢ 0 → Refers s (spine_at s cells block part) (spine_cell_of cells part))
 
 -- where cell i of a kind stands in its object
 abbrev pub position_in : Kind → Shape → ℕ → Result CellPosition Refusal

@@ -1,16 +1,20 @@
 //! How the heap is read: by way of references and forwarding words.
-ghost use Rattle.std.specs.Prelude.{◌≡◌, ◌<◌, ℕ, true, length, slice_index, IfOk};
+ghost use Rattle.std.specs.Prelude.{◌≡◌, ◌<◌, ◌≤◌, ℕ, true, length, slice_index, IfOk};
 ghost use Rattle.graph_heap.specs.Graph.{Graph, object_of};
 ghost use Rattle.graph_heap.specs.Shape.{fits};
+ghost use Rattle.graph_heap.specs.declared.command.TheConstants.{ARRAY_CELLS};
+ghost use Rattle.size_classes.specs.Parts.{part_in, column_in};
+ghost use Rattle.heap_model.specs.Reading.{block_of};
 ghost use Rattle.heap_model.specs.Store.{is_allocated};
 ghost use Rattle.heap_model.specs.Agreement.{Agrees};
-ghost use Rattle.machine.specs.Reading.{Names, Finds, position_in, FindsCell, IsRefPlace, IsWordPlace};
+ghost use Rattle.machine.specs.Reading.{Names, Finds, CanReach, position_in, FindsCell, IsRefPlace, IsWordPlace};
 
 use super::Heap;
 use crate::plan::{Cell, Found, Kind};
 use arraylets::{CellPosition, part_block, ref_position, word_position};
 use graph_heap::{Refusal, Shape};
-use nodes::Referent;
+use nodes::{Nodes, Referent};
+use size_classes::PART_CELLS;
 
 impl Heap {
     /// What a root holds.
@@ -51,12 +55,22 @@ impl Heap {
         ensures { (g : Graph) → Agrees self.now g → FindsCell self.now g kind (slice_index g.roots root) i result }
     {
         let found = self.object(root)?;
-        let place = position_in(kind, found.shape, i)?;
-        let block = part_block(&self.fields.nodes, found.shape, found.block, place.part);
-        Ok(Cell {
-            block,
-            index: place.cell,
-        })
+        match found.shape {
+            // Commands on words make no other call, so that they keep next to nothing in registers. Those on references
+            // do, where they record. The place is asked for only to know that there is one: `far_cell` finds it anew.
+            Shape::WordArray(cells) if cells > PART_CELLS as u32 => {
+                let _place = position_in(kind, found.shape, i)?;
+                Ok(far_cell(&self.fields.nodes, found.block, cells, i))
+            }
+            _ => {
+                let place = position_in(kind, found.shape, i)?;
+                let block = part_block(&self.fields.nodes, found.shape, found.block, place.part);
+                Ok(Cell {
+                    block,
+                    index: place.cell,
+                })
+            }
+        }
     }
 
     /// What a reference cell holds.
@@ -91,5 +105,25 @@ fn position_in(kind: Kind, shape: Shape, i: u32) -> Result<CellPosition, Refusal
     match kind {
         Kind::Ref => ref_position(shape, i),
         Kind::Word => word_position(shape, i),
+    }
+}
+
+/// Where cell i stands of an array of this many cells, of whichever kind, from the block of its part 0. It is out of the way of
+/// objects that are one part.
+#[cold]
+#[inline(never)]
+fn far_cell(nodes: &Nodes, block: usize, cells: u32, i: u32) -> Cell
+    requires few { cells ≤ ARRAY_CELLS }
+    requires cell { i < cells }
+    requires reaches { CanReach nodes.now cells block (part_in cells i) }
+    ensures { result ≡ record { block = block_of nodes.now cells block (part_in cells i); index = column_in i } }
+{
+    let shape = Shape::RefArray(cells);
+    let Ok(place) = ref_position(shape, i) else {
+        unreachable!()
+    };
+    Cell {
+        block: part_block(nodes, shape, block, place.part),
+        index: place.cell,
     }
 }

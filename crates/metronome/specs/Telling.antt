@@ -38,12 +38,12 @@ HeapReported reports.Sizes h taken result = TextWritten Done (sizes_told h) take
 HeapReported reports.Shapes h taken result = ReportTold (ShapesTold h) taken result
 
 -- the text of a picture of a player: of the pages of its heap, of the shares that its timetable left the mutators, or of
--- the quanta in its timetable
+-- its quanta that took ticks, with their cycles and phases
 abbrev pub IsPicture : Picture → Config → PlayerState → List ℕ → Type 0
 IsPicture pictures.Pages config p text = text ≡ pages_picture p.course.heap
 IsPicture pictures.Utilisation config p text = (shares : List Share) × AreShares config p.timetable shares
     × (text ≡ utilisation_picture shares)
-IsPicture pictures.Events config p text = text ≡ events_picture p.timetable
+IsPicture pictures.Events config p text = text ≡ events_picture p
 
 -- a picture of a player is drawn, or a part of it where a write failed
 abbrev pub PictureDrawn : Picture → Config → PlayerState → Taken → Result Ending RunFault → Type 0

@@ -6,3 +6,4 @@ pub mod SquareLemmas
 pub mod Shares
 pub mod Samples
 pub mod Shown
+pub mod CycleSpans

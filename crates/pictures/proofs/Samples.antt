@@ -2,10 +2,9 @@
 use Rattle.std.proofs.Common.{◌≡◌, ◌≤◌, ◌⊎◌, inl, inr, set, subst, arith, ℕ, zero, suc, ◌+◌, ◌-◌, ◌*◌, ◌<◌, List, [], ◌∷◌, ◌++◌, Option, Some, length, drop, get_or, slice_get, ap, ◌∙◌, sym, refl}
 use Rattle.std.proofs.lemmas.List.{drop_more, get_or-set_same, get_or-set_other}
 use Rattle.pictures.specs.declared.axis.Axis.{Axis}
-use Rattle.pictures.specs.declared.colour.Colour.{Colour}
 use Rattle.pictures.specs.declared.colour.Colour.TheVariants.{Blue, Green, Yellow, Orange, Purple}
 use Rattle.pictures.specs.declared.element.Element.{Element}
-use Rattle.pictures.specs.declared.element.Element.TheVariants.{Rectangle, Veil}
+use Rattle.pictures.specs.declared.element.Element.TheVariants.{Veil}
 use Rattle.pictures.specs.declared.over_time.Scale.{Scale}
 use Rattle.pictures.specs.declared.sample.Sample.{Sample}
 use Rattle.pictures.specs.Joining.{joined}

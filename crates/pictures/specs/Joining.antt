@@ -1,5 +1,5 @@
 -- Samples of several moments.
-use Rattle.std.specs.Prelude.{Bool, true, false, ◌||◌, min, max}
+use Rattle.std.specs.Prelude.{true, false, ◌||◌, min, max}
 use Rattle.std.specs.Option.{option_or}
 use Rattle.heap_model.specs.declared.phase.Phase.{Phase}
 use Rattle.pictures.specs.declared.sample.Phases.{Phases}

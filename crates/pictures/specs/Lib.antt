@@ -19,4 +19,5 @@ pub mod Distance
 pub mod Search
 pub mod Route
 pub mod PathText
+pub mod CycleSpans
 pub mod Events

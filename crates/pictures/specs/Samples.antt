@@ -1,12 +1,10 @@
 -- Samples of a heap along a run.
-use Rattle.std.specs.Prelude.{◌≡◌, ℕ, ◌*◌, ◌^◌, ◌<◌, ◌≤◌, max, List, [], ◌∷◌, length, take, drop, unwrap_or}
+use Rattle.std.specs.Prelude.{◌≡◌, ℕ, ◌*◌, ◌^◌, ◌<◌, ◌≤◌, max, List, [], ◌∷◌, take, drop, unwrap_or}
 use Rattle.std.specs.List.{fold}
 use Rattle.heap_model.specs.Phases.{is_idle}
 use Rattle.heap_model.specs.Event.{Event}
-use Rattle.heap_model.specs.State.{HeapState}
 use Rattle.trace.specs.declared.version.Version.{Version}
 use Rattle.trace.specs.LinesProcessed.{LinesDone}
-use Rattle.trace.specs.TextLine.{Text}
 use Rattle.player.specs.declared.style.Style.TheVariants.{Nothing}
 use Rattle.player.specs.Playing.{Session, PlaysLine}
 use Rattle.player.specs.Observing.{Moment, moment, moments_in, brought}

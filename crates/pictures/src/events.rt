@@ -1,14 +1,37 @@
-//! The quanta of a run, as events that viewers of traces read.
-ghost use Rattle.std.specs.Prelude.{◌≡◌, ◌≤◌, ◌<◌, ◌+◌, ◌-◌, ◌*◌, ◌/◌, ◌++◌, length, take, decimal, OnOk, OnErr};
+//! The quanta of a run, and its cycles with their phases, as events that viewers of traces read.
+ghost use Rattle.std.specs.Prelude.{◌≡◌, ◌≤◌, ◌<◌, ◌+◌, ◌-◌, ◌*◌, ◌/◌, ◌++◌, length, take, codes, decimal, OnOk, OnErr};
 ghost use Rattle.streams.specs.Streams.{GrowsByPart, failed};
 ghost use Rattle.quanta.specs.Intervals.{IsRising};
 ghost use Rattle.quanta.specs.Timetable.{last_end};
-ghost use Rattle.pictures.specs.Events.{process_line, collector_line, mutators_line, quantum_line, between_text, share_line, event_line, quantum_events, quanta_events, events_head, events_tail, json_text, events_picture};
+ghost use Rattle.pictures.specs.Events.{process_line, row_line, span_line, quantum_line, between_text, share_line, event_line, quantum_events, quanta_events, cycles_events, events_head, events_tail, json_text, events_picture};
 
+use crate::cycle_spans::write_cycles;
 use crate::writing::{DocumentLine, write_lines};
+use player::Player;
 use quanta::{Interval, Schedule};
 use streams::{Sink, WriteFailed};
 use trace::{put, put_named};
+
+/// A row of events, with a name.
+#[derive(Clone, Copy, Debug, PartialEq, Eq)]
+pub enum Row {
+    /// Quanta.
+    Collector,
+    /// The mutators' ticks.
+    Mutators,
+    Cycles,
+    Phases,
+}
+
+/// A cycle, or a phase of one.
+#[derive(Clone, Copy, Debug, PartialEq, Eq)]
+pub enum Span {
+    Cycle,
+    Roots,
+    Marking,
+    Sweeping,
+    Moving,
+}
 
 /// An event, in the Trace Event Format. Each is a line of text. Times are ticks.
 #[derive(Clone, Copy, Debug, PartialEq, Eq)]
@@ -17,16 +40,16 @@ pub enum TraceEvent {
     Open,
     /// The name of the whole.
     Process,
-    /// The name of the row of quanta.
-    Collector,
-    /// The name of the mutators' row.
-    Mutators,
+    /// The name of a row.
+    Row(Row),
     /// When a quantum begins, and how many ticks it takes.
     Quantum(u64, u64),
     /// When ticks of the mutators begin, and how many there are.
     Between(u64, u64),
     /// From when on the mutators have this share, in thousandths.
     Share(u64, u64),
+    /// When a cycle or a phase begins, and how many ticks it takes.
+    Span(Span, u64, u64),
     /// As `Between`, behind the last quantum: the last event.
     Rest(u64, u64),
     /// The end of the document.
@@ -77,6 +100,93 @@ fn put_share(out: &mut [u8], tick: u64, permille: u64) -> usize
     put_event(out, head, tick, middle, permille, b"}},")
 }
 
+/// Puts the name of a row.
+fn put_row(out: &mut [u8], row: Row) -> usize
+    requires { 256 ≤ length out.old }
+    ensures text { take result out.new ≡ row_line row }
+    ensures place { result < 256 }
+{
+    match row {
+        Row::Collector => {
+            let line =
+                b"{\"name\":\"thread_name\",\"ph\":\"M\",\"pid\":1,\"tid\":1,\"args\":{\"name\":\"collector\"}},";
+            put(out, 0, line)
+        }
+        Row::Mutators => {
+            let line =
+                b"{\"name\":\"thread_name\",\"ph\":\"M\",\"pid\":1,\"tid\":2,\"args\":{\"name\":\"mutators\"}},";
+            put(out, 0, line)
+        }
+        Row::Cycles => {
+            let line =
+                b"{\"name\":\"thread_name\",\"ph\":\"M\",\"pid\":1,\"tid\":3,\"args\":{\"name\":\"cycles\"}},";
+            put(out, 0, line)
+        }
+        Row::Phases => {
+            let line =
+                b"{\"name\":\"thread_name\",\"ph\":\"M\",\"pid\":1,\"tid\":4,\"args\":{\"name\":\"phases\"}},";
+            put(out, 0, line)
+        }
+    }
+}
+
+/// Puts a cycle or a phase, by its head.
+fn put_phase(out: &mut [u8], head: &[u8], start: u64, ticks: u64) -> usize
+    requires out { 256 ≤ length out.old }
+    requires head { length head.now ≤ 64 }
+    ensures text { take result out.new
+        ≡ head.now ++ decimal start ++ codes ",\"dur\":" ++ decimal ticks ++ codes ",\"pid\":1,\"tid\":4}," }
+    ensures place { result < 256 }
+{
+    put_event(
+        out,
+        head,
+        start,
+        b",\"dur\":",
+        ticks,
+        b",\"pid\":1,\"tid\":4},",
+    )
+}
+
+/// Puts a cycle, or a phase of one.
+fn put_span(out: &mut [u8], span: Span, start: u64, ticks: u64) -> usize
+    requires { 256 ≤ length out.old }
+    ensures text { take result out.new ≡ span_line span start ticks }
+    ensures place { result < 256 }
+{
+    match span {
+        Span::Cycle => {
+            let head = b"{\"name\":\"cycle\",\"ph\":\"X\",\"ts\":";
+            let tail = b",\"pid\":1,\"tid\":3},";
+            put_event(out, head, start, b",\"dur\":", ticks, tail)
+        }
+        Span::Roots => put_phase(
+            out,
+            b"{\"name\":\"roots\",\"ph\":\"X\",\"ts\":",
+            start,
+            ticks,
+        ),
+        Span::Marking => put_phase(
+            out,
+            b"{\"name\":\"marking\",\"ph\":\"X\",\"ts\":",
+            start,
+            ticks,
+        ),
+        Span::Sweeping => put_phase(
+            out,
+            b"{\"name\":\"sweeping\",\"ph\":\"X\",\"ts\":",
+            start,
+            ticks,
+        ),
+        Span::Moving => put_phase(
+            out,
+            b"{\"name\":\"moving\",\"ph\":\"X\",\"ts\":",
+            start,
+            ticks,
+        ),
+    }
+}
+
 impl DocumentLine for TraceEvent {
     ghost line = { event_line };
 
@@ -88,22 +198,14 @@ impl DocumentLine for TraceEvent {
                     b"{\"name\":\"process_name\",\"ph\":\"M\",\"pid\":1,\"args\":{\"name\":\"metronome\"}},";
                 put(out, 0, line)
             }
-            TraceEvent::Collector => {
-                let line =
-                    b"{\"name\":\"thread_name\",\"ph\":\"M\",\"pid\":1,\"tid\":1,\"args\":{\"name\":\"collector\"}},";
-                put(out, 0, line)
-            }
-            TraceEvent::Mutators => {
-                let line =
-                    b"{\"name\":\"thread_name\",\"ph\":\"M\",\"pid\":1,\"tid\":2,\"args\":{\"name\":\"mutators\"}},";
-                put(out, 0, line)
-            }
+            TraceEvent::Row(row) => put_row(out, row),
             TraceEvent::Quantum(start, ticks) => put_quantum(out, start, ticks),
             TraceEvent::Between(start, ticks) => {
                 let end = put_between(out, start, ticks);
                 put(out, end, b",")
             }
             TraceEvent::Share(tick, permille) => put_share(out, tick, permille),
+            TraceEvent::Span(span, start, ticks) => put_span(out, span, start, ticks),
             TraceEvent::Rest(start, ticks) => put_between(out, start, ticks),
             TraceEvent::Close => put(out, 0, b"]}"),
         }
@@ -161,14 +263,16 @@ fn last_end(intervals: &[Interval]) -> u64
 }
 
 /// What stands before the events of quanta.
-fn head() -> [TraceEvent; 4]
+fn head() -> [TraceEvent; 6]
     ensures { result ≡ events_head }
 {
     [
         TraceEvent::Open,
         TraceEvent::Process,
-        TraceEvent::Collector,
-        TraceEvent::Mutators,
+        TraceEvent::Row(Row::Collector),
+        TraceEvent::Row(Row::Mutators),
+        TraceEvent::Row(Row::Cycles),
+        TraceEvent::Row(Row::Phases),
     ]
 }
 
@@ -181,18 +285,22 @@ fn tail(schedule: &Schedule) -> [TraceEvent; 2]
     [TraceEvent::Rest(end, rest), TraceEvent::Close]
 }
 
-/// Writes the quanta that took ticks to a sink, as a JSON document in the Trace Event Format, which viewers of traces
-/// read, in lines that end with LF: a row of the collector with an event for each quantum, a row of the mutators with one
-/// for the ticks before each quantum and one for those behind the last, and a counter: from the end of a quantum to that
-/// of the next the share that the mutators had, in thousandths, rounded down. A tick stands for a microsecond. A quantum
-/// that a line of a trace asks for takes no tick, and isn't there. It takes no memory. After an error, which comes only
-/// where the sink failed, the sink has taken a beginning of the document.
-pub fn draw_events<K: Sink>(schedule: &Schedule, sink: &mut K) -> Result<(), WriteFailed>
-    ensures ok { OnOk result (K.taken sink.new ≡ K.taken sink.old ++ events_picture schedule.now) }
-    ensures err { OnErr result (GrowsByPart (K.taken sink.old) (K.taken sink.new) (events_picture schedule.now)) }
+/// Writes the quanta of a player that took ticks to a sink, as a JSON document in the Trace Event Format, which viewers of
+/// traces read, in lines that end with LF: a row of the collector with an event for each quantum, a row of the mutators
+/// with one for the ticks before each quantum and one for those behind the last, and a counter: from the end of a quantum
+/// to that of the next the share that the mutators had, in thousandths, rounded down. A row of cycles has one for each
+/// cycle, from the beginning of its first quantum to the end of its last, and a row of phases one for each phase of it in
+/// which a quantum found the collector, from the beginning of the first of these to the end of the last. A tick stands for
+/// a microsecond. A quantum that a line of a trace asks for takes no tick, and isn't there. It takes no memory. After an
+/// error, which comes only where the sink failed, the sink has taken a beginning of the document.
+pub fn draw_events<K: Sink>(player: &Player, sink: &mut K) -> Result<(), WriteFailed>
+    ensures ok { OnOk result (K.taken sink.new ≡ K.taken sink.old ++ events_picture player.now) }
+    ensures err { OnErr result (GrowsByPart (K.taken sink.old) (K.taken sink.new) (events_picture player.now)) }
     ensures cause { K.failures sink.new ≡ K.failures sink.old + failed result }
 {
+    let schedule = player.schedule();
     write_lines(sink, &head())?;
     write_quanta(schedule.intervals(), sink)?;
+    write_cycles(schedule.intervals(), player.starts(), sink)?;
     write_lines(sink, &tail(schedule))
 }

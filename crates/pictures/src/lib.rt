@@ -4,6 +4,7 @@
 mod axis;
 mod caption;
 mod colour;
+mod cycle_spans;
 mod each_page;
 mod element;
 mod events;

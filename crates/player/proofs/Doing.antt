@@ -1,5 +1,5 @@
 -- What calls do to a player.
-use Rattle.std.proofs.Common.{◌≡◌, ◌≢◌, ℕ, ◌<◌, Bool, true, false, [], ◌∷◌, Ok, Err, ap, ◌∙◌, sym, subst, refl}
+use Rattle.std.proofs.Common.{◌≡◌, ◌≢◌, ℕ, ◌<◌, Bool, true, false, List, [], ◌∷◌, ◌++◌, Ok, Err, ap, ◌∙◌, sym, subst, refl}
 use Rattle.std.specs.Prelude.{Result, Some, None, IfOk, IfSome, IsErr, is_ok}
 use Rattle.graph_heap.specs.declared.command.Command.{Command}
 use Rattle.graph_heap.specs.declared.no_memory.NoMemory.{NoMemory}
@@ -13,7 +13,8 @@ use Rattle.machine.specs.declared.collector.BudgetOutOfRange.{BudgetOutOfRange}
 use Rattle.machine.specs.declared.collector.Spent.{Spent as Answer}
 use Rattle.machine.specs.Recorded.{begin_done, quantum_done}
 use Rattle.trace.specs.declared.line.Line.TheVariants as lines
-use Rattle.player.specs.Player.{PlayerState, started, timetable_after, placed, DoesLine, Commands, Begins, Goes_on}
+use Rattle.player.specs.declared.start.QuantumStart.{QuantumStart}
+use Rattle.player.specs.Player.{PlayerState, started, start_of, timetable_after, placed, DoesLine, Commands, Begins, Goes_on}
 use Rattle.player.specs.Ticking.{Begun, Spent, DueDone}
 
 -- a command
@@ -24,8 +25,8 @@ command_line old m c course (Err e) d = tt
 
 -- a cycle is begun, or one is running already
 pub cycle_begun : (old : PlayerState) (course : Course) (t : Timetable) (result : Result (Unit {0}) Busy) → is_ok result ≡ true → Does old.course (begin_done result) course → t ≡ started old.timetable
-    → Begun old (record old { course = course; timetable = t })
-cycle_begun old course t (Ok done) w d e = (Cycle_begun ∷ [], subst (λ z. DoesLine old lines.Begin (Cycle_begun ∷ []) (record old { course = course; timetable = z })) (sym e) (Begins course d))
+    → Begun old (record old { course = course; timetable = t; begun = true })
+cycle_begun old course t (Ok done) w d e = (Cycle_begun ∷ [], subst (λ z. DoesLine old lines.Begin (Cycle_begun ∷ []) (record old { course = course; timetable = z; begun = true })) (sym e) (Begins course d))
 cycle_begun old course t (Err busy) w d e = absurd (let z : false ≡ true = w in cc)
 
 pub cycle_on : (old : PlayerState) (course : Course) (result : Result (Unit {0}) Busy) → is_ok result ≡ false → Does old.course (begin_done result) course → Begun old (record old { course = course })
@@ -59,10 +60,22 @@ due_placed old reserved new due kept is at =
     let w : IsPlacedAt due reserved new = subst (λ o. IfSome o (λ d. IsPlacedAt d reserved new)) e at in
     ap (λ (t : Timetable). with_reserved t 0) w.placed ∙ ap (λ (t : Timetable). placed due (with_reserved t 0)) kept
 
-pub due_done : (old new : PlayerState) (until due : ℕ) (t : Timetable) → old.timetable.due ≡ Some due → due < until → t ≡ placed due old.timetable → Spent (record old { timetable = t }) old.budget new → DueDone until old new (Ok true)
-due_done old new until due t is below e s =
-    (due, s.0, s.1, s.2, is, below, s.3, s.4 ∙ ap (λ z. record old { course = s.2; timetable = timetable_after s.1 z }) e)
+pub due_done : (old new : PlayerState) (until due : ℕ) (t : Timetable) (starts : List QuantumStart) → old.timetable.due ≡ Some due → due < until → t ≡ placed due old.timetable → starts ≡ old.starts ++ start_of old ∷ []
+    → Spent (record old { timetable = t; starts = starts; begun = false }) old.budget new → DueDone until old new (Ok true)
+due_done old new until due t starts is below e more s = (
+  due,
+  s.0,
+  s.1,
+  s.2,
+  is,
+  below,
+  s.3,
+  s.4 ∙ ap (λ z. record old { course = s.2; timetable = timetable_after s.1 z; starts = starts; begun = false }) e
+      ∙ ap (λ l. record old { course = s.2; timetable = timetable_after s.1 (placed due old.timetable); starts = l; begun = false }) more,
+)
 
-pub due_refused : (old : PlayerState) (until due : ℕ) (t : Timetable) (result : Result Bool NoMemory) → IsErr result → old.timetable.due ≡ Some due → due < until → t ≡ old.timetable → DueDone until old (record old { timetable = t }) result
-due_refused old until due t (Ok b) w is below e = absurd (let z : false ≡ true = w in cc)
-due_refused old until due t (Err r) w is below e = (due, is, below, ap (λ z. record old { timetable = z }) e)
+pub due_refused : (old : PlayerState) (until due : ℕ) (t : Timetable) (starts : List QuantumStart) (result : Result Bool NoMemory) → IsErr result → old.timetable.due ≡ Some due → due < until → t ≡ old.timetable → starts ≡ old.starts
+    → DueDone until old (record old { timetable = t; starts = starts }) result
+due_refused old until due t starts (Ok b) w is below e same = absurd (let z : false ≡ true = w in cc)
+due_refused old until due t starts (Err r) w is below e same =
+    (due, is, below, ap (λ z. record old { timetable = z; starts = starts }) e ∙ ap (λ l. record old { starts = l }) same)

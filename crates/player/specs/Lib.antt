@@ -1,3 +1,4 @@
+pub mod Starts
 pub mod Player
 pub mod New
 pub mod Playing

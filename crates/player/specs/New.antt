@@ -1,5 +1,5 @@
 -- A player before its first line.
-use Rattle.std.specs.Prelude.{◌≡◌, ◌*◌, List, []}
+use Rattle.std.specs.Prelude.{◌≡◌, ◌*◌, false, List, []}
 use Rattle.settings.specs.declared.config.Config.{Config}
 use Rattle.heap_model.specs.Event.{Course, Event, Runs}
 use Rattle.heap_model.specs.Opening.{IsOpening}
@@ -8,7 +8,8 @@ use Rattle.machine.specs.Space.{SpaceSuffices}
 use Rattle.quanta.specs.Timetable as timetables
 use Rattle.player.specs.Player.{PlayerState}
 
--- a player of a configuration at time 0: its heap is as at the start, and it has no history
+-- a player of a configuration at time 0: its heap is as at the start, it has no history, and no
+-- cycle has begun
 pub record IsNew (config : Config) (p : PlayerState) : Type 0 where
   pub heap : IsOpening p.course.heap
   pub settings : settings_of p.course.heap ≡ settings_by config
@@ -16,6 +17,8 @@ pub record IsNew (config : Config) (p : PlayerState) : Type 0 where
   pub place : p.course.place ≡ 0
   pub timetable : p.timetable ≡ timetables.opening config.collector_ticks config.mutator_ticks
   pub budget : p.budget ≡ config.collector_ticks * config.rate
+  pub starts : p.starts ≡ []
+  pub begun : p.begun ≡ false
 
 -- whatever events are done, space suffices for them, where the player is a new one of a configuration
 abbrev pub StartsWithSpace : PlayerState → Type 0

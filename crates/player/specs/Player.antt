@@ -1,5 +1,5 @@
 -- A player: what lines do to it.
-use Rattle.std.specs.Prelude.{◌≡◌, ℕ, ◌+◌, ◌<◌, ◌≤◌, List, [], ◌∷◌, ◌++◌, Some, None}
+use Rattle.std.specs.Prelude.{◌≡◌, ℕ, ◌+◌, ◌<◌, ◌≤◌, Bool, true, false, List, [], ◌∷◌, ◌++◌, Some, None}
 use Rattle.graph_heap.specs.declared.command.Command.{Command}
 use Rattle.graph_heap.specs.declared.command.Reply.{Reply}
 use Rattle.graph_heap.specs.declared.command.Entry.{Entry}
@@ -11,17 +11,28 @@ use Rattle.quanta.specs.Timetable.{Timetable, first_due, due_below, with_reserve
 use Rattle.trace.specs.declared.line.Line.{Line}
 use Rattle.trace.specs.declared.line.Line.TheVariants as lines
 use Rattle.player.specs.declared.player.Player.TheInside.{Inside}
+use Rattle.player.specs.declared.start.QuantumStart.{QuantumStart}
+use Rattle.player.specs.Starts.{name_of}
 
 -- A heap with its history, the timetable of the collector's quanta, and the budget of each of them, in
--- units. The memory that the timetable has reserved isn't shown.
+-- units; how the quanta started that have an interval, in their order, and whether a cycle has begun since the last of
+-- these. The memory that the timetable has reserved isn't shown.
 pub record PlayerState : Type 0 where
   pub course : Course
   pub timetable : Timetable
   pub budget : ℕ
+  pub starts : List QuantumStart
+  pub begun : Bool
 
 -- the fields of a player, as contracts see them
 abbrev pub player_of : Inside → PlayerState
-player_of a = record { course = a.recorded.course; timetable = with_reserved a.schedule 0; budget = a.budget }
+player_of a = record {
+  course = a.recorded.course;
+  timetable = with_reserved a.schedule 0;
+  budget = a.budget;
+  starts = a.starts.items;
+  begun = a.begun;
+}
 
 -- a cycle begins: when its first quantum is due
 abbrev pub started : Timetable → Timetable
@@ -39,10 +50,19 @@ placed due t = record t {
   due = Some (due + t.collector_ticks + t.mutator_ticks);
 }
 
+-- how a quantum starts that takes ticks
+abbrev pub start_of : PlayerState → QuantumStart
+start_of p = record { phase = name_of p.course.heap.phase; opens_cycle = p.begun }
+
 -- the player once a quantum was done, with its interval
 abbrev pub after_quantum : PlayerState → ℕ → Phase → Course → PlayerState
 after_quantum p due phase course =
-    record p { course = course; timetable = timetable_after phase (placed due p.timetable) }
+    record p {
+      course = course;
+      timetable = timetable_after phase (placed due p.timetable);
+      starts = p.starts ++ start_of p ∷ [];
+      begun = false;
+    }
 
 -- Quanta are done, with their intervals, in the order in which they are due below a time.
 pub data QuantaDue (until : ℕ) (p : PlayerState) : List Event → PlayerState → Type 0 where
@@ -59,7 +79,8 @@ pub data DoesLine (p : PlayerState) : Line → List Event → PlayerState → Ty
   Commands : (m : ℕ) (c : Command) (reply : Reply) (course : Course) → Does p.course (Command_done m c reply) course
       → DoesLine p (lines.Command m c) (Command_done m c reply ∷ []) (record p { course = course })
   Begins : (course : Course) → Does p.course Cycle_begun course
-      → DoesLine p lines.Begin (Cycle_begun ∷ []) (record p { course = course; timetable = started p.timetable })
+      → DoesLine p lines.Begin (Cycle_begun ∷ [])
+      (record p { course = course; timetable = started p.timetable; begun = true })
   Goes_on : Does p.course Begin_refused p.course → DoesLine p lines.Begin (Begin_refused ∷ []) p
   Spends : (budget units : ℕ) (phase : Phase) (course : Course) → Does p.course (Quantum_done budget units phase) course
       → DoesLine p (lines.Quantum budget) (Quantum_done budget units phase ∷ [])

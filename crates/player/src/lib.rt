@@ -9,6 +9,7 @@ mod observer;
 mod observing;
 mod player;
 mod playing;
+mod start;
 mod style;
 mod surveying;
 
@@ -16,5 +17,6 @@ pub use laws::plays_are_promised;
 pub use observer::{Mark, Observer};
 pub use player::{Player, TickFault};
 pub use playing::{play, play_first, play_up_to};
+pub use start::{PhaseName, QuantumStart};
 pub use style::Style;
 pub use surveying::{Survey, survey_run};

@@ -10,6 +10,7 @@ ghost use Rattle.player.specs.Observing.{observed, LineSeen, SeesDue, SeesQuantu
 ghost use Rattle.player.specs.Ticking.{DueDone, Spent};
 
 use crate::observer::{Mark, Observer};
+use crate::start::{PhaseName, QuantumStart};
 use graph_heap::{Command, NoMemory};
 use machine::{Receipt, Recorded};
 use quanta::{CLOCK_LIMIT, Schedule};
@@ -18,12 +19,15 @@ use std::alloc::Global;
 use std::marker::Model;
 use trace::{LineFault, PlayFault};
 
-/// A heap with its history, and the schedule of its collector: when quanta are due, and the intervals
-/// that they took. Contracts see the course of the heap, the timetable, and the budget of a quantum.
+/// A heap with its history, and the schedule of its collector: when quanta are due, the intervals
+/// that they took, and how they started. Contracts see the course of the heap, the timetable, the budget of a quantum,
+/// how the quanta with an interval started, and whether a cycle has begun since the last of these.
 pub struct Player {
     recorded: Recorded,
     schedule: Schedule,
     budget: u32,
+    starts: Vec<QuantumStart>,
+    begun: bool,
 }
 
 impl Drop for Player {
@@ -33,6 +37,8 @@ impl Drop for Player {
             recorded: _,
             schedule: _,
             budget: _,
+            starts: _,
+            begun: _,
         } = self;
     }
 }
@@ -94,6 +100,8 @@ impl Player {
             recorded: Recorded::new(alloc, config)?,
             schedule: Schedule::new(alloc, config),
             budget: config.budget(),
+            starts: Vec::new(alloc),
+            begun: false,
         })
     }
 
@@ -109,6 +117,13 @@ impl Player {
         ensures { timetables.with_reserved result.now 0 ≡ self.now.timetable }
     {
         &self.schedule
+    }
+
+    /// How the quanta started that the schedule has an interval of, the first one first.
+    pub fn starts(&self) -> &[QuantumStart]
+        ensures { result.now ≡ self.now.starts }
+    {
+        &self.starts
     }
 
     /// The budget of a quantum that is due, in units.
@@ -142,6 +157,7 @@ impl Player {
         observer.begins(number, &self.recorded)?;
         if self.recorded.begin().is_ok() {
             self.schedule.start_cycle();
+            self.begun = true;
         }
         Ok(())
     }
@@ -187,6 +203,11 @@ impl Player {
             return Ok(false);
         };
         self.schedule.reserve()?;
+        self.starts.push(QuantumStart {
+            phase: PhaseName::of(self.recorded.heap().phase()),
+            opens_cycle: self.begun,
+        })?;
+        self.begun = false;
         self.schedule.place();
         self.quantum(budget, observer);
         Ok(true)

@@ -26,7 +26,7 @@ fn draw<K: Sink>(
     match picture {
         Picture::Pages => draw_pages(player.recorded().heap(), sink),
         Picture::Utilisation => draw_utilisation(config, player.schedule(), sink),
-        Picture::Events => draw_events(player.schedule(), sink),
+        Picture::Events => draw_events(player, sink),
     }
 }
 

@@ -1,5 +1,5 @@
 -- Samples of moments, as one moment after the other comes.
-use Rattle.std.proofs.Common.{◌≡◌, ◌≢◌, ℕ, zero, suc, ◌+◌, ◌-◌, ◌*◌, ◌/◌, ◌^◌, ◌<◌, ◌≤◌, List, [], ◌∷◌, ◌++◌, length, length-append, get_or, take, drop, min, max, refl, ap, ◌∙◌, sym, subst, arith, append_assoc, add-mul, mul-le-mul_right, pow_mono, pow-add, length-drop, Bool, false, Option, None, Some}
+use Rattle.std.proofs.Common.{◌≡◌, ◌≢◌, ℕ, suc, ◌+◌, ◌*◌, ◌^◌, ◌<◌, ◌≤◌, List, [], ◌∷◌, ◌++◌, length, length-append, get_or, take, drop, min, max, refl, ap, ◌∙◌, sym, subst, arith, append_assoc, add-mul, mul-le-mul_right, pow_mono, pow-add, length-drop, Bool, false, Option, None, Some}
 use Rattle.std.specs.List.{fold}
 use Rattle.std.specs.Option.{option_or}
 use Rattle.std.proofs.Math.Bool.{or_assoc}

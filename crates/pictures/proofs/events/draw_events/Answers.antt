@@ -1,27 +1,44 @@
-use Rattle.std.proofs.Common.{refl}
+use Rattle.std.proofs.Common.{refl, ap, ◌∙◌}
 use Rattle.std.proofs.lemmas.Result.{on_err_weaker, on_ok_weaker}
+use Rattle.quanta.specs.Timetable.{Timetable}
 use Rattle.pictures.specs.Events.{quanta_events, events_tail}
-use Rattle.pictures.proofs.Parts.{at_err, first_cut, second_cut, third_cut, all_three}
-use Rattle.pictures.proofs.EventLines.{json_is, events_are}
+use Rattle.pictures.proofs.Parts.{at_err}
+use Rattle.pictures.proofs.EventLines.{cycles_by, events_are, head_cut, quanta_cut, cycles_cut, all_cut, all_written}
 use Rattle.pictures.proofs.events.draw_events.Goals as goal
 
 pub returns-in_err-write_lines-clause-err : goal.returns-in_err-write_lines-clause-err
 returns-in_err-write_lines-clause-err g c =
-    let t = c.args.schedule.now in
-    let is = events_are t c.head.result _ _ c.head.ensures refl refl in
-    at_err c.from_residual.result _ (first_cut json_is _ (quanta_events 0 t.intervals) (events_tail t) _ is _ _ c.in_err-write_lines.ensures.err)
+    let p = c.args.player.now in
+    let is = events_are p c.head.result p.timetable.intervals p.timetable.intervals p.starts (events_tail p.timetable) c.head.ensures refl refl refl refl in
+    at_err c.from_residual.result _ (head_cut p c.head.result (quanta_events 0 p.timetable.intervals) (cycles_by p.timetable.intervals p.starts) (events_tail p.timetable) is _ _ c.in_err-write_lines.ensures.err)
 
 pub returns-in_err-write_quanta-clause-err : goal.returns-in_err-write_quanta-clause-err
 returns-in_err-write_quanta-clause-err g c =
-    let is = events_are c.args.schedule.now c.head.result c.intervals.result.now _ c.head.ensures c.intervals.ensures.intervals refl in
-    at_err c.from_residual-in_err-write_quanta.result _ (second_cut json_is _ _ _ _ is _ _ c.in_ok-write_lines.ensures.ok _ c.in_err-write_quanta.ensures.err)
+    let p = c.args.player.now in
+    let times = ap (λ (t : Timetable). t.intervals) c.schedule-schedule.ensures in
+    let is = events_are p c.head.result c.intervals.result.now p.timetable.intervals p.starts (events_tail p.timetable) c.head.ensures (c.intervals.ensures.intervals ∙ times) refl refl refl in
+    at_err c.from_residual-in_err-write_quanta.result _ (quanta_cut p c.head.result (quanta_events 0 c.intervals.result.now) (cycles_by p.timetable.intervals p.starts) (events_tail p.timetable) is _ _ c.in_ok-write_lines.ensures.ok _ c.in_err-write_quanta.ensures.err)
+
+pub returns-in_err-write_cycles-clause-err : goal.returns-in_err-write_cycles-clause-err
+returns-in_err-write_cycles-clause-err g c =
+    let p = c.args.player.now in
+    let times = ap (λ (t : Timetable). t.intervals) c.schedule-schedule.ensures in
+    let is = events_are p c.head.result c.intervals.result.now c.intervals-2.result.now c.starts.result.now (events_tail p.timetable) c.head.ensures (c.intervals.ensures.intervals ∙ times) (c.intervals-2.ensures.intervals ∙ times) c.starts.ensures refl in
+    at_err c.from_residual-in_err-write_cycles.result _
+    (cycles_cut p c.head.result (quanta_events 0 c.intervals.result.now) (cycles_by c.intervals-2.result.now c.starts.result.now) (events_tail p.timetable) is _ _ c.in_ok-write_lines.ensures.ok _ c.in_ok-write_quanta.ensures.ok _ c.in_err-write_cycles.ensures.err)
 
 pub returns-clause-ok : goal.returns-clause-ok
 returns-clause-ok g c =
-    let is = events_are c.args.schedule.now c.head.result c.intervals.result.now c.tail.result c.head.ensures c.intervals.ensures.intervals c.tail.ensures in
-    on_ok_weaker c.write_lines-2.result (all_three json_is _ _ _ _ is _ _ c.in_ok-write_lines.ensures.ok _ c.in_ok-write_quanta.ensures.ok _) c.write_lines-2.ensures.ok
+    let p = c.args.player.now in
+    let times = ap (λ (t : Timetable). t.intervals) c.schedule-schedule.ensures in
+    let is = events_are p c.head.result c.intervals.result.now c.intervals-2.result.now c.starts.result.now c.tail.result c.head.ensures (c.intervals.ensures.intervals ∙ times) (c.intervals-2.ensures.intervals ∙ times) c.starts.ensures (c.tail.ensures ∙ ap events_tail c.schedule-schedule.ensures) in
+    on_ok_weaker c.write_lines-2.result
+    (all_written p c.head.result (quanta_events 0 c.intervals.result.now) (cycles_by c.intervals-2.result.now c.starts.result.now) c.tail.result is _ _ c.in_ok-write_lines.ensures.ok _ c.in_ok-write_quanta.ensures.ok _ c.in_ok-write_cycles.ensures.ok _) c.write_lines-2.ensures.ok
 
 pub returns-clause-err : goal.returns-clause-err
 returns-clause-err g c =
-    let is = events_are c.args.schedule.now c.head.result c.intervals.result.now c.tail.result c.head.ensures c.intervals.ensures.intervals c.tail.ensures in
-    on_err_weaker c.write_lines-2.result (third_cut json_is _ _ _ _ is _ _ c.in_ok-write_lines.ensures.ok _ c.in_ok-write_quanta.ensures.ok _) c.write_lines-2.ensures.err
+    let p = c.args.player.now in
+    let times = ap (λ (t : Timetable). t.intervals) c.schedule-schedule.ensures in
+    let is = events_are p c.head.result c.intervals.result.now c.intervals-2.result.now c.starts.result.now c.tail.result c.head.ensures (c.intervals.ensures.intervals ∙ times) (c.intervals-2.ensures.intervals ∙ times) c.starts.ensures (c.tail.ensures ∙ ap events_tail c.schedule-schedule.ensures) in
+    on_err_weaker c.write_lines-2.result
+    (all_cut p c.head.result (quanta_events 0 c.intervals.result.now) (cycles_by c.intervals-2.result.now c.starts.result.now) c.tail.result is _ _ c.in_ok-write_lines.ensures.ok _ c.in_ok-write_quanta.ensures.ok _ c.in_ok-write_cycles.ensures.ok _) c.write_lines-2.ensures.err

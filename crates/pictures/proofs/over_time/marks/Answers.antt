@@ -1,4 +1,4 @@
-use Rattle.std.proofs.Common.{◌≡◌, ◌-◌, ap, ◌∙◌}
+use Rattle.std.proofs.Common.{◌-◌, ap, ◌∙◌}
 use Rattle.pictures.proofs.Samples.{marks_are}
 use Rattle.pictures.proofs.over_time.marks.Goals as goal
 

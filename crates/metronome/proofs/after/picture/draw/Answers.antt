@@ -14,6 +14,4 @@ returns-in-Utilisation-clause-drawn g c =
     rw c.in-Utilisation.is (utilisation_picture drawn.0, (drawn.0, shares, refl), drawn.2, drawn.3)
 
 pub returns-in-Events-clause-drawn : goal.returns-in-Events-clause-drawn
-returns-in-Events-clause-drawn g c =
-    let t = c.schedule-in-Events.result.now in
-    rw c.in-Events.is (events_picture t, ap events_picture c.schedule-in-Events.ensures, c.draw_events.ensures.ok, c.draw_events.ensures.err)
+returns-in-Events-clause-drawn g c = rw c.in-Events.is (events_picture c.args.player.now, refl, c.draw_events.ensures.ok, c.draw_events.ensures.err)

@@ -1,4 +1,4 @@
-use Rattle.std.proofs.Common.{◌≡◌, ◌+◌, ◌*◌, List, length, [], ◌∷◌, ◌++◌, refl, sym, ◌∙◌, ap, subst, arith}
+use Rattle.std.proofs.Common.{◌≡◌, ◌+◌, length, [], ◌∷◌, ◌++◌, sym, ◌∙◌, subst, arith}
 use Rattle.player.specs.Observing.{moment}
 use Rattle.pictures.specs.declared.over_time.TheConstants.{MOST_SAMPLES}
 use Rattle.pictures.specs.declared.sample.Sample.{Sample}

@@ -1,4 +1,4 @@
-use Rattle.std.proofs.Common.{◌≡◌, List, ◌∷◌, sym, subst}
+use Rattle.std.proofs.Common.{List, sym, subst}
 use Rattle.pictures.specs.declared.sample.Sample.{Sample}
 use Rattle.pictures.specs.Samples.{moments_along, AreSamples}
 use Rattle.pictures.proofs.timeline.Along.{is_stride, all_taken}

@@ -5,6 +5,7 @@ use Rattle.std.specs.Borrow.{Bor}
 use Rattle.std.specs.List.{AllZip}
 use Rattle.std.proofs.lemmas.List.{take_more, get_or-map, length-map}
 use Rattle.std.specs.Str.{bytes_eq}
+use Rattle.size_classes.specs.Sizes.{size_of}
 use Rattle.clap.proofs.WalkLemmas.{find-map}
 use Rattle.clap.specs.Facts.{Entry}
 use Rattle.clap.specs.Walk.{Row, row_of, row_text}
@@ -14,7 +15,7 @@ use Rattle.clap.specs.declared.parser.matches.Found.{Found}
 use Rattle.std.specs.Str.Parse.{ParsesUnsigned}
 use Rattle.command_line.specs.declared.job.Job.{Job}
 use Rattle.command_line.specs.declared.job.Job.TheVariants.{Play, Check, Threads, Inspect, Cycles, Path, Mmu, Draw, DrawGraph, DrawTime, Pages, Plan}
-use Rattle.command_line.specs.Words.{Asks, IsDrawn, IsFlag, IsNumber}
+use Rattle.command_line.specs.Words.{Asks, IsDrawn, IsFlag, IsNumber, IsClassOf}
 
 first_text : (vs : List (Bor (List ℕ))) → slice_get (map (λ s. s.now) vs) 0 ≡ option_map (λ s. s.now) (slice_get vs 0)
 first_text [] = refl
@@ -72,24 +73,27 @@ pub word_in : (o : Option (Bor (List ℕ))) (d r : Bor (List ℕ)) (first : Opti
 word_in None d r first e none is = ap (λ (s : Bor (List ℕ)). s.now) is ∙ none ∙ ap (λ a. unwrap_or a []) e
 word_in (Some x) d r first e none is = ap (λ (s : Bor (List ℕ)). s.now) is ∙ ap (λ a. unwrap_or a []) e
 
--- one more word, and its number
-abbrev IsWordOf : ℕ → List ℕ → ℕ → Type 0
-IsWordOf bits word n = IsNumber bits (Some word) (Some n)
-
-pub one_more : (words : List (Bor (List ℕ))) (i : ℕ) (d : Bor (List ℕ)) (numbers new : List ℕ) (n : ℕ) → i < length words → AllZip (IsWordOf 64) (take i (map (λ w. w.now) words)) numbers → new ≡ numbers ++ n ∷ []
-    → IsNumber 64 (Some (get_or words i d).now) (Some n) → AllZip (IsWordOf 64) (take (i + 1) (map (λ w. w.now) words)) new
-one_more words i d numbers new n low so is h =
+-- one more word, and what is said of it
+pub one_more : (IsOf : List ℕ → ℕ → Type 0) (words : List (Bor (List ℕ))) (i : ℕ) (d : Bor (List ℕ)) (numbers new : List ℕ) (n : ℕ) → i < length words → AllZip IsOf (take i (map (λ w. w.now) words)) numbers
+    → new ≡ numbers ++ n ∷ [] → IsOf (get_or words i d).now n → AllZip IsOf (take (i + 1) (map (λ w. w.now) words)) new
+one_more IsOf words i d numbers new n low so is h =
     let texts = map (λ (w : Bor (List ℕ)). w.now) words in
     let within : i < length texts = subst (λ k. i < k) (sym (length-map words (λ (w : Bor (List ℕ)). w.now))) low in
     let word : get_or texts i d.now ≡ (get_or words i d).now = get_or-map (λ (w : Bor (List ℕ)). w.now) words i d d.now low in
     let more : take (i + 1) texts ≡ take i texts ++ (get_or words i d).now ∷ [] = take_more texts i d.now within ∙ ap (λ x. take i texts ++ x ∷ []) word in
-    subst (λ x. AllZip (IsWordOf 64) x new) (sym more) (subst (λ x. AllZip (IsWordOf 64) (take i texts ++ (get_or words i d).now ∷ []) x) (sym is) (zip_more (take i texts) numbers _ n so h))
+    subst (λ x. AllZip IsOf x new) (sym more) (subst (λ x. AllZip IsOf (take i texts ++ (get_or words i d).now ∷ []) x) (sym is) (zip_more (take i texts) numbers _ n so h))
   where
-    zip_more : (xs : List (List ℕ)) (ys : List ℕ) (x : List ℕ) (y : ℕ) → AllZip (IsWordOf 64) xs ys → IsWordOf 64 x y → AllZip (IsWordOf 64) (xs ++ x ∷ []) (ys ++ y ∷ [])
+    zip_more : (xs : List (List ℕ)) (ys : List ℕ) (x : List ℕ) (y : ℕ) → AllZip IsOf xs ys → IsOf x y → AllZip IsOf (xs ++ x ∷ []) (ys ++ y ∷ [])
     zip_more [] [] x y z r = (r, tt)
     zip_more [] (b ∷ ys) x y z r = elim z [ ]
     zip_more (a ∷ xs) [] x y z r = elim z [ ]
     zip_more (a ∷ xs) (b ∷ ys) x y z r = (z.0, zip_more xs ys x y z.1 r)
+
+-- one more size, and its class
+pub one_class : (sizes : List (Bor (List ℕ))) (i : ℕ) (d : Bor (List ℕ)) (classes new : List ℕ) (words class : ℕ) → i < length sizes → AllZip IsClassOf (take i (map (λ s. s.now) sizes)) classes → new ≡ classes ++ class ∷ []
+    → IsNumber 32 (Some (get_or sizes i d).now) (Some words) → size_of class ≡ words → AllZip IsClassOf (take (i + 1) (map (λ s. s.now) sizes)) new
+one_class sizes i d classes new words class low so is said has =
+    one_more IsClassOf sizes i d classes new class low so is (subst (λ n. IsNumber 32 (Some (get_or sizes i d).now) (Some n)) (sym has) said)
 
 -- what is drawn is asked for by the subcommand that draws
 pub drawn_asks : (name : List ℕ) (rows : List Row) (job : Job) → name ≡ codes "draw" → IsDrawn rows job → Asks name rows job
@@ -104,4 +108,4 @@ drawn_asks name rows (Cycles csv) e d = elim d.4 [ ]
 drawn_asks name rows (Path id after) e d = elim d.4 [ ]
 drawn_asks name rows (Mmu windows) e d = elim d.4 [ ]
 drawn_asks name rows (Pages by) e d = elim d.4 [ ]
-drawn_asks name rows (Plan live) e d = elim d.4 [ ]
+drawn_asks name rows (Plan live classes) e d = elim d.4 [ ]

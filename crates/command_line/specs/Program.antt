@@ -42,6 +42,11 @@ word name = record (new_rule name) { long = Some name; value_names = 1 }
 abbrev pub figure : Text → Rule
 figure name = record (word name) { parser = Some short_number }
 
+-- a name and one number or more
+abbrev pub figures : Text → Rule
+figures name =
+    record (figure name) { range = Some (record { start_inclusive = 1; end_inclusive = usize_max }) }
+
 -- an argument that is this where it isn't given
 abbrev pub by_default : Text → Rule → Rule
 by_default value rule = record rule { defaults = value ∷ [] }
@@ -101,7 +106,7 @@ pages = on_trace (codes "pages") (flag (codes "pace") ∷ word (codes "load") �
 -- tells how a heap would pace itself
 abbrev pub plan : Shape
 plan = on_config (codes "plan")
-    (record (word (codes "live")) { parser = Some long_number; required = true } ∷ [])
+    (record (word (codes "live")) { parser = Some long_number; required = true } ∷ figures (codes "classes") ∷ [])
 
 -- the program: it has a version, and wants a subcommand
 abbrev pub metronome : App

@@ -1,9 +1,10 @@
 -- Which job a subcommand and the values of its arguments ask for. Which these are in the words of a command line, is what
 -- clap says of the program's rows.
-use Rattle.std.specs.Prelude.{◌≡◌, ◌⊎◌, ℕ, Bool, true, false, List, [], Option, Some, None, Ok, Err, unwrap_or, codes}
+use Rattle.std.specs.Prelude.{◌≡◌, ◌⊎◌, ℕ, Bool, true, false, List, [], Option, Some, None, Ok, Err, option_map, unwrap_or, codes}
 use Rattle.std.specs.Borrow.{Bor}
 use Rattle.std.specs.List.{AllZip}
 use Rattle.std.specs.Str.Parse.{ParsesUnsigned}
+use Rattle.size_classes.specs.Sizes.{size_of}
 use Rattle.clap.specs.Words.{Text, Row, first_of, one_of, all_of, subcommand_of, fault_of, IsAmong}
 use Rattle.clap.specs.declared.error.kind.ErrorKind.TheVariants.{DisplayHelp, DisplayVersion}
 use Rattle.command_line.specs.declared.job.Job.{Job}
@@ -25,6 +26,16 @@ IsNumber bits (Some text) None = ParsesUnsigned {E = Unit {0}} bits 10 text (Err
 -- a number that is 0 where it isn't said
 abbrev pub IsNumberOrZero : ℕ → Option Text → ℕ → Type 0
 IsNumberOrZero bits text n = (said : Option ℕ) × IsNumber bits text said × (n ≡ unwrap_or said 0)
+
+-- a size class, by the words of its blocks
+abbrev pub IsClassOf : Text → ℕ → Type 0
+IsClassOf size class = IsNumber 32 (Some size) (Some (size_of class))
+
+-- the size classes of some sizes; none where no sizes are said
+abbrev pub AreClassesOf : Option (List Text) → Option (List ℕ) → Type 0
+AreClassesOf None classes = classes ≡ None
+AreClassesOf (Some sizes) None = ⊥
+AreClassesOf (Some sizes) (Some classes) = AllZip IsClassOf sizes classes
 
 -- a flag is set where its text is true, and isn't where it is false or there is none
 abbrev pub IsFlag : Option Text → Bool → Type 0
@@ -63,14 +74,15 @@ Asks name rows (Mmu windows) = (name ≡ codes "mmu")
 Asks name rows (Pages by) = (name ≡ codes "pages")
     × (pace : Bool) × IsFlag (one_of (codes "pace") rows) pace × (plan : Bool) × IsFlag (one_of (codes "plan") rows) plan
     × IsSizing pace plan (first_of (codes "load") rows) by
-Asks name rows (Plan live) = (name ≡ codes "plan") × IsNumberOrZero 64 (one_of (codes "live") rows) live
+Asks name rows (Plan live classes) = (name ≡ codes "plan") × IsNumberOrZero 64 (one_of (codes "live") rows) live
+    × AreClassesOf (all_of (codes "classes") rows) (option_map (λ c. c.items) classes)
 Asks name rows drawing = (name ≡ codes "draw") × IsDrawn rows drawing
 
 -- the argument that has the name of a job's file, if the job has one
 abbrev pub file_argument : Job → Option Text
 file_argument Check = Some (codes "HISTORY")
 file_argument (Threads turns budget) = Some (codes "SCRIPTS")
-file_argument (Plan live) = None
+file_argument (Plan live classes) = None
 file_argument _ = Some (codes "TRACE")
 
 -- the file that an argument names; none where there is no such argument

@@ -131,7 +131,10 @@ fn plan<'a>(alloc: Global) -> Result<Command<'a>, AllocError>
 {
     let help = "Words of the blocks of live objects, headers included";
     let live = word(alloc, "live", "N", help).value_parser(value_parser!(u64));
-    on_config(alloc, "plan", "Tell how a heap would pace itself")?.arg(live.required(true))
+    let sizes = "Words of a block of each size class that is asked for, all if not said";
+    on_config(alloc, "plan", "Tell how a heap would pace itself")?
+        .arg(live.required(true))?
+        .arg(figures(alloc, "classes", "S", sizes))
 }
 
 /// A subcommand that works on a trace.
@@ -207,4 +210,11 @@ fn figure<'a>(alloc: Global, name: &'a str, value: &'a str, help: &'a str) -> Ar
     ensures { IsArgument (words.figure name.now) result }
 {
     word(alloc, name, value, help).value_parser(value_parser!(u32))
+}
+
+/// The name and one number or more, each of which help calls by another name.
+fn figures<'a>(alloc: Global, name: &'a str, value: &'a str, help: &'a str) -> Arg<'a>
+    ensures { IsArgument (words.figures name.now) result }
+{
+    figure(alloc, name, value, help).num_args(1..)
 }

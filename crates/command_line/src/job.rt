@@ -1,4 +1,5 @@
 //! What the words of a command line ask for.
+use size_classes::Class;
 
 /// Which picture of a heap is drawn.
 #[derive(Clone, Copy, Debug, PartialEq, Eq)]
@@ -83,10 +84,11 @@ pub enum Job<'a> {
     Pages {
         by: Sizing<'a>,
     },
-    /// Tell how a heap would pace itself with this many words of live blocks, on some numbers of pages. It has no other
-    /// file.
+    /// Tell how a heap would pace itself with this many words of live blocks, on some numbers of pages, for a program
+    /// that asks for blocks of these size classes alone, or of all. It has no other file.
     Plan {
         live: u64,
+        classes: Option<Vec<Class>>,
     },
 }
 

@@ -1,6 +1,7 @@
 //! The words of the command line.
 #![tactic(auto)]
 
+mod classes;
 mod commands;
 mod fault;
 mod job;

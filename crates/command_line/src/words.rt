@@ -7,6 +7,7 @@ ghost use Rattle.clap.specs.Words.{found_of, rows_of, first_of, one_of, all_of, 
 ghost use Rattle.command_line.specs.Job.{IsDrawing, IsInRange, IsWindow, picture_name, report_name};
 ghost use Rattle.command_line.specs.Words.{Asks, AsksFor, file_argument, NamesFile, IsFlag, IsNumber, IsSizing, IsAskedFor, IsAskedForBy, HelpIsAskedFor, IsHelp};
 
+use crate::classes::classes_said;
 use crate::commands::program;
 use crate::fault::{Refusal, WordsFault};
 use crate::job::{Job, Picture, Report, Request, Sizing};
@@ -82,10 +83,7 @@ fn job_of<'a>(alloc: Global, name: &str, found: &ArgMatches<'a>) -> Result<Job<'
 {
     match name {
         "check" => Ok(Job::Check),
-        // (clap has refused what is no such number)
-        "plan" => Ok(Job::Plan {
-            live: long_number(found, "live").unwrap_or(0),
-        }),
+        "plan" => plan(alloc, found),
         "threads" => threads(alloc, found),
         "inspect" | "path" | "draw" => heap_job(alloc, name, found),
         _ => run_job(alloc, name, found),
@@ -107,7 +105,7 @@ fn fault_of(alloc: Global, error: &clap::Error) -> WordsFault
 }
 
 /// A refusal in the form of those of `clap`.
-fn refused<T: Display + Drop>(alloc: Global, why: T) -> Refusal {
+pub(crate) fn refused<T: Display + Drop>(alloc: Global, why: T) -> Refusal {
     match format!(in alloc; "error: {why}\n\nFor more information, try '--help'.\n") {
         Ok(text) => Refusal::Refused(text),
         Err(_) => Refusal::NoMemory,
@@ -126,6 +124,17 @@ fn threads<'a>(alloc: Global, found: &ArgMatches<'a>) -> Result<Job<'a>, Refusal
     let (least, most) = (u64::from(LEAST_BUDGET), u64::from(MOST_BUDGET));
     within(alloc, "--budget <B>", u64::from(budget), least, most)?;
     Ok(Job::Threads { turns, budget })
+}
+
+/// What the words of `plan` ask for.
+fn plan<'a>(alloc: Global, found: &ArgMatches<'a>) -> Result<Job<'a>, Refusal>
+    ensures range { IfOk result IsInRange }
+    ensures asked { IfOk result (Asks (codes "plan") (rows_of (found_of found.now))) }
+{
+    let classes = classes_said(alloc, found.get_strs("classes"))?;
+    // (clap has refused what is no such number)
+    let live = long_number(found, "live").unwrap_or(0);
+    Ok(Job::Plan { live, classes })
 }
 
 /// What a subcommand over a whole trace asks for.

@@ -1,6 +1,6 @@
 -- What is answered about an input.
 use Rattle.std.specs.Prelude.{◌≡◌, ℕ, Bool, true, false, ◌⊎◌, List, [], ◌∷◌, ◌++◌, codes, decimal}
-use Rattle.std.specs.Prelude.{Result, Ok, Err, String, string_bytes}
+use Rattle.std.specs.Prelude.{None, Result, Ok, Err, String, string_bytes}
 use Rattle.std.specs.declared.alloc.AllocError.{AllocError}
 use Rattle.std.specs.declared.alloc.Global.{Global}
 use Rattle.settings.specs.declared.config.Config.{Config}
@@ -87,7 +87,7 @@ PagesTold pace config given answered = (how : Result Measured PlayFault) × Trac
 -- A trace was played on a new heap, and the plans are told for the most words that its live objects had.
 abbrev pub PlanTold : Config → Given → Result Answer PlayFault → Type 0
 PlanTold config given answered = (how : Result ℕ PlayFault) × MostLiveFound config given how
-    × AnswerOf (λ live answer. IsPlansReport config live (string_bytes answer.text) × (answer.ending ≡ Done)) how answered
+    × AnswerOf (λ live answer. IsPlansReport None config live (string_bytes answer.text) × (answer.ending ≡ Done)) how answered
 
 -- the answer to a question about an input
 abbrev pub IsAnswer : Question → Config → Given → Result Answer PlayFault → Type 0

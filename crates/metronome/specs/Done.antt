@@ -1,5 +1,5 @@
 -- What the job of a command line reads and writes.
-use Rattle.std.specs.Prelude.{ℕ, Bool, true, false, if◌then◌else◌, None, Result}
+use Rattle.std.specs.Prelude.{ℕ, Bool, true, false, if◌then◌else◌, None, option_map, Result}
 use Rattle.settings.specs.declared.config.Config.{Config}
 use Rattle.heap_model.specs.Event.{present_of}
 use Rattle.streams.specs.Streams.{Given, Taken}
@@ -51,7 +51,8 @@ JobDone files (Pages Demand) config = Answered (questions.Pages false) config
 JobDone files (Pages Pace) config = Answered (questions.Pages true) config
 JobDone files (Pages (Load file)) config = LoadTold (files.named file.now) config
 JobDone files (Pages By_plan) config = Answered questions.Plan config
-JobDone files (Plan live) config = λ given. ReportTold (IsPlansReport config live)
+JobDone files (Plan live classes) config =
+    λ given. ReportTold (IsPlansReport (option_map (λ said. said.items) classes) config live)
 
 -- a job counts the failed reads of its source; one by a load may end before it reads
 abbrev pub JobCountsReads : {S : Type 0} → KnownFiles → Job → (S → ℕ) → S → S → Result Ending RunFault → Type 0

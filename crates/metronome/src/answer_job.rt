@@ -131,7 +131,7 @@ fn answer_to<S: Source>(
         }
         Question::Plan => {
             let live = survey_run::<LiveMeter, S>(alloc, config, source)?;
-            offer(plans_report(alloc, config, live), Ending::Done)
+            offer(plans_report(alloc, config, live, None), Ending::Done)
         }
     }
 }

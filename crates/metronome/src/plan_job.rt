@@ -1,5 +1,5 @@
 //! Telling of the plans by which a heap paces itself.
-ghost use Rattle.std.specs.Prelude.{◌≡◌, ◌+◌, IfOk, string_bytes};
+ghost use Rattle.std.specs.Prelude.{◌≡◌, ◌+◌, IfOk, option_map, string_bytes};
 ghost use Rattle.streams.specs.Streams.{taken_by};
 ghost use Rattle.plans.specs.Report.{IsPlansReport};
 ghost use Rattle.metronome.specs.Faults.{failed_reads, failed_writes};
@@ -9,29 +9,38 @@ use crate::fault::{Ending, RunFault};
 use graph_heap::NoMemory;
 use plans::plans_report;
 use settings::Config;
+use size_classes::Class;
 use std::alloc::Global;
 use streams::{Sink, write_all};
 
-/// What is told of the plans for so many live words.
-fn plans_text(alloc: Global, config: &Config, live: u64) -> Result<String, NoMemory>
-    ensures { IfOk result (λ text. IsPlansReport config.now live (string_bytes text)) }
+/// What is told of the plans for so many live words, and for these size classes, if any are said.
+fn plans_text(
+    alloc: Global,
+    config: &Config,
+    live: u64,
+    classes: &Option<Vec<Class>>,
+) -> Result<String, NoMemory>
+    ensures { IfOk result (λ text. IsPlansReport (option_map (λ said. said.items) classes.now) config.now live
+        (string_bytes text)) }
 {
-    Ok(plans_report(alloc, config, live)?)
+    Ok(plans_report(alloc, config, live, classes.as_deref())?)
 }
 
 /// Tells of the plans by which a heap paces itself, where so many words are live: on how few pages there is one, and what
-/// it is on some numbers of pages.
+/// it is on some numbers of pages; for these size classes, if any are said.
 pub fn plan_job<K: Sink>(
     alloc: Global,
     config: &Config,
     live: u64,
+    classes: &Option<Vec<Class>>,
     sink: &mut K,
 ) -> Result<Ending, RunFault>
-    ensures told { ReportTold (IsPlansReport config.now live) (taken_by K.taken sink.old sink.new) result }
+    ensures told { ReportTold (IsPlansReport (option_map (λ said. said.items) classes.now) config.now live)
+        (taken_by K.taken sink.old sink.new) result }
     ensures reads { failed_reads result ≡ 0 }
     ensures writes { K.failures sink.new ≡ K.failures sink.old + failed_writes result }
 {
-    let text = plans_text(alloc, config, live)?;
+    let text = plans_text(alloc, config, live, classes)?;
     write_all(sink, text.as_bytes())?;
     Ok(Ending::Done)
 }

@@ -242,7 +242,7 @@ fn work<S: Source, K: Sink, O: Opener, T: Threads + Wait + Sync>(
         }
         Job::DrawTime => time_job(alloc, config, source, sink),
         Job::Pages { by } => pages_job(host, config, source, sink, *by),
-        Job::Plan { live } => plan_job(alloc, config, *live, sink),
+        Job::Plan { live, classes } => plan_job(alloc, config, *live, classes, sink),
     }
 }
 

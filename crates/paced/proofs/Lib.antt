@@ -5,3 +5,4 @@ pub mod Running
 pub mod Keeping
 pub mod Opened
 pub mod Planning
+pub mod Classes

@@ -1,5 +1,5 @@
 -- The plan that is chosen is the one with the most words for each quantum.
-use Rattle.std.proofs.Common.{◌≡◌, ℕ, ◌+◌, ◌-◌, ◌*◌, ◌/◌, ◌<◌, ◌≤◌, true, Some, None, ap, ◌∙◌, sym, subst, arith, refl}
+use Rattle.std.proofs.Common.{◌≡◌, ℕ, ◌+◌, ◌-◌, ◌*◌, ◌/◌, ◌<◌, ◌≤◌, Bool, true, Some, None, ap, ◌∙◌, sym, subst, arith, refl}
 use Rattle.std.proofs.lemmas.Nat.{le-div}
 use Rattle.std.proofs.Math.Nat.{div-mul-le_self, mul-le-mul_left, mul-le-mul_right, lt-div-mul-add}
 use Rattle.size_classes.specs.declared.class.TheConstants.{CLASSES, PAGE_WORDS}
@@ -10,7 +10,7 @@ use Rattle.size_classes.specs.Sizes.{size_of, blocks_in}
 use Rattle.space.specs.Fitting.{swept_at, unmoved_quanta_at}
 use Rattle.fragmentation.specs.declared.flow.TheConstants.{LEAST_PAGE_FILL, PARTLY_FILLED_PAGES}
 use Rattle.fragmentation.specs.Flow.{classes_made}
-use Rattle.paced.specs.Planning.{cycle_quanta, FitsEvenly, IsFastest, cycle_quanta_at, HasPlanOn, IsResized, HasPlan}
+use Rattle.paced.specs.Planning.{cycle_quanta, FitsEvenlyFor, IsFastestFor, cycle_quanta_at, HasPlanOn, IsResized, HasPlan}
 
 -- of more, divided by less, comes no less
 div_more : (x y c d : ℕ) → 0 < d → x ≤ y → d ≤ c → x / c ≤ y / d
@@ -34,9 +34,9 @@ traced_less c =
     let d = div_more (swept_at c c.pages) (cycle_limit_of c) (c.collector_ticks * c.rate) (c.collector_ticks * c.rate - (LEAST_BUDGET - 1)) (omega (arith, b)) (swept_less c) (omega arith) in
     omega (arith, d)
 
--- the words for which there is room besides what is live
-abbrev pub room_of : ℕ → ℕ → ℕ
-room_of live pages = (pages + 1 - PARTLY_FILLED_PAGES * CLASSES) * LEAST_PAGE_FILL - live - 1
+-- the words for which there is room besides what is live, where blocks are made of so many classes
+abbrev pub room_of : ℕ → ℕ → ℕ → ℕ
+room_of classes live pages = (pages + 1 - PARTLY_FILLED_PAGES * classes) * LEAST_PAGE_FILL - live - 1
 
 abbrev pub share_of : Config → ℕ
 share_of c = 2 * cycle_quanta c + unmoved_quanta_at c c.pages
@@ -47,56 +47,55 @@ spread b w q = grind arith
 pub all_classes : classes_made (λ class. true) ≡ CLASSES
 all_classes = refl
 
--- what has room fits
-has_room : (c : Config) (live words : ℕ) → live + words * share_of c < (c.pages + 1 - PARTLY_FILLED_PAGES * CLASSES) * LEAST_PAGE_FILL → FitsEvenly c live words
-has_room c live words l = record {
-  traced = (let m = mul-le-mul_right words (traced_less c) in let e = turned words (cycle_quanta c) in omega (arith, m, e));
-  enough = (
+module _ (makes : ℕ → Bool) (classes : ℕ) (made : classes_made makes ≡ classes) (c : Config) (live : ℕ) where
+  -- what has room fits
+  has_room : (words : ℕ) → live + words * share_of c < (c.pages + 1 - PARTLY_FILLED_PAGES * classes) * LEAST_PAGE_FILL → FitsEvenlyFor makes c live words
+  has_room words l = record {
+    traced = (let m = mul-le-mul_right words (traced_less c) in let e = turned words (cycle_quanta c) in omega (arith, m, e));
+    enough = (
+        let e = spread words (cycle_quanta c) (unmoved_quanta_at c c.pages) in
+        let d = div-mul-le_self (live + (2 * (words * cycle_quanta c) + (unmoved_quanta_at c c.pages * words + 0))) LEAST_PAGE_FILL in
+        omega (arith, e, d, made, l));
+  }
+    where
+      turned : (x y : ℕ) → y * x ≡ x * y
+      turned x y = grind arith
+
+  -- and what fits has room
+  fits_room : (words : ℕ) → FitsEvenlyFor makes c live words → words * share_of c ≤ room_of classes live c.pages
+  fits_room words f =
       let e = spread words (cycle_quanta c) (unmoved_quanta_at c c.pages) in
-      let d = div-mul-le_self (live + (2 * (words * cycle_quanta c) + (unmoved_quanta_at c c.pages * words + 0))) LEAST_PAGE_FILL in
-      let k = all_classes in
-      omega (arith, e, d, k, l));
-}
-  where
-    turned : (x y : ℕ) → y * x ≡ x * y
-    turned x y = grind arith
+      let d : live + (2 * (words * cycle_quanta c) + (unmoved_quanta_at c c.pages * words + 0)) < (live + (2 * (words * cycle_quanta c) + (unmoved_quanta_at c c.pages * words + 0))) / LEAST_PAGE_FILL * LEAST_PAGE_FILL + LEAST_PAGE_FILL = lt-div-mul-add (omega arith) in
+      let g = f.enough in
+      omega (arith, e, d, made, g)
 
--- and what fits has room
-fits_room : (c : Config) (live words : ℕ) → FitsEvenly c live words → words * share_of c ≤ room_of live c.pages
-fits_room c live words f =
-    let e = spread words (cycle_quanta c) (unmoved_quanta_at c c.pages) in
-    let d : live + (2 * (words * cycle_quanta c) + (unmoved_quanta_at c c.pages * words + 0)) < (live + (2 * (words * cycle_quanta c) + (unmoved_quanta_at c c.pages * words + 0))) / LEAST_PAGE_FILL * LEAST_PAGE_FILL + LEAST_PAGE_FILL = lt-div-mul-add (omega arith) in
-    let k = all_classes in
-    let g = f.enough in
-    omega (arith, e, d, k, g)
+  fits_most : (words : ℕ) → FitsEvenlyFor makes c live words → words ≤ room_of classes live c.pages / share_of c
+  fits_most words f = le-div words (room_of classes live c.pages) (share_of c) (omega arith) (fits_room words f)
 
-fits_most : (c : Config) (live words : ℕ) → FitsEvenly c live words → words ≤ room_of live c.pages / share_of c
-fits_most c live words f = le-div words (room_of live c.pages) (share_of c) (omega arith) (fits_room c live words f)
+  pub none_fits : (words : ℕ) → words ≡ room_of classes live c.pages / share_of c → words ≡ 0 → IsFastestFor makes c live None
+  none_fits words is none = λ more f. (let m = fits_most more f in omega (arith, m, is, none))
 
-pub none_fits : (c : Config) (live words : ℕ) → words ≡ room_of live c.pages / share_of c → words ≡ 0 → IsFastest c live None
-none_fits c live words is none = λ more f. (let m = fits_most c live more f in omega (arith, m, is, none))
+  pub fastest_fits : (words : ℕ) → words ≡ room_of classes live c.pages / share_of c → 1 ≤ words → IsFastestFor makes c live (Some (record { quantum_words = words; cycle_words = words * cycle_quanta c }))
+  fastest_fits words is some = (some, refl, has_room words fits, λ more f. (let m = fits_most more f in omega (arith, m, is)))
+    where
+      within : words * share_of c ≤ room_of classes live c.pages
+      within = subst (λ z. z * share_of c ≤ room_of classes live c.pages) (sym is) (div-mul-le_self (room_of classes live c.pages) (share_of c))
 
-pub fastest_fits : (c : Config) (live words : ℕ) → words ≡ room_of live c.pages / share_of c → 1 ≤ words → IsFastest c live (Some (record { quantum_words = words; cycle_words = words * cycle_quanta c }))
-fastest_fits c live words is some = (some, refl, has_room c live words fits, λ more f. (let m = fits_most c live more f in omega (arith, m, is)))
-  where
-    within : words * share_of c ≤ room_of live c.pages
-    within = subst (λ z. z * share_of c ≤ room_of live c.pages) (sym is) (div-mul-le_self (room_of live c.pages) (share_of c))
+      above : 1 * share_of c ≤ words * share_of c
+      above = mul-le-mul_right (share_of c) some
 
-    above : 1 * share_of c ≤ words * share_of c
-    above = mul-le-mul_right (share_of c) some
+      fits : live + words * share_of c < (c.pages + 1 - PARTLY_FILLED_PAGES * classes) * LEAST_PAGE_FILL
+      fits = let w = within in let a = above in omega (arith, w, a)
 
-    fits : live + words * share_of c < (c.pages + 1 - PARTLY_FILLED_PAGES * CLASSES) * LEAST_PAGE_FILL
-    fits = let w = within in let a = above in omega (arith, w, a)
-
--- a plan with some words for each quantum leaves one with a word
-one_fits : (c : Config) (live : ℕ) → HasPlan c live → FitsEvenly c live 1
-one_fits c live p =
-    let f = fits_room c live p.0 p.2 in
-    let m = mul-le-mul_right (share_of c) p.1 in
-    has_room c live 1 (omega (arith, f, m))
+  -- a plan with some words for each quantum leaves one with a word
+  pub one_fits : HasPlan makes c live → FitsEvenlyFor makes c live 1
+  one_fits p =
+      let f = fits_room p.0 p.2 in
+      let m = mul-le-mul_right (share_of c) p.1 in
+      has_room 1 (omega (arith, f, m))
 
 -- on a number of pages there is a plan where one fits in a configuration that has so many
-module _ (c resized : Config) (live : ℕ) (is : IsResized c resized) where
+module _ (makes : ℕ → Bool) (c resized : Config) (live : ℕ) (is : IsResized c resized) where
   whole : cycle_quanta_at c resized.pages ≡ cycle_quanta resized
   whole =
       let r = is.roots in
@@ -112,7 +111,7 @@ module _ (c resized : Config) (live : ℕ) (is : IsResized c resized) where
   same_words : live + (2 * cycle_quanta_at c resized.pages + (unmoved_quanta_at c resized.pages * 1 + 0)) ≡ live + (2 * (1 * cycle_quanta resized) + (unmoved_quanta_at resized resized.pages * 1 + 0))
   same_words = let w = whole in let t = traced in omega (arith, w, t)
 
-  pub resized_plan : HasPlanOn c live resized.pages → HasPlan resized live
+  pub resized_plan : HasPlanOn makes c live resized.pages → HasPlan makes resized live
   resized_plan l = (
     1,
     omega arith,
@@ -122,9 +121,9 @@ module _ (c resized : Config) (live : ℕ) (is : IsResized c resized) where
     },
   )
 
-  pub plan_resized : HasPlan resized live → HasPlanOn c live resized.pages
+  pub plan_resized : HasPlan makes resized live → HasPlanOn makes c live resized.pages
   plan_resized p =
-      let f = one_fits resized live p in
+      let f = one_fits makes (classes_made makes) refl resized live p in
       let e = f.enough in
       let d = ap (λ z. z / LEAST_PAGE_FILL) same_words in
       omega (arith, e, d)

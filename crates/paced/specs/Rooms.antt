@@ -1,14 +1,15 @@
 -- What is promised of a heap that was paced since it was made.
-use Rattle.std.specs.Prelude.{◌≡◌, ℕ, ◌*◌, true, List}
+use Rattle.std.specs.Prelude.{◌≡◌, ℕ, ◌*◌, Bool, true, ◌==◌, List}
+use Rattle.std.specs.List.{list_any}
 use Rattle.settings.specs.declared.config.Config.{Config}
 use Rattle.settings.specs.Config.{limits_of}
 use Rattle.heap_model.specs.State.{HeapState}
-use Rattle.heap_model.specs.Event.{Course, Event, Runs, HaveBudgets}
+use Rattle.heap_model.specs.Event.{Course, Event, Command_done, Runs, HaveBudgets}
 use Rattle.heap_model.specs.Opening.{IsOpening}
 use Rattle.heap_model.specs.ReachedFrom.{opened}
 use Rattle.heap_model.specs.Settings.{settings_of, settings_by}
-use Rattle.space.specs.Room.{AllHaveRoom}
-use Rattle.fragmentation.specs.Flow.{Flow, opening_meter, Paces, LivesIn, AllMetered}
+use Rattle.space.specs.Room.{asks, AllHaveRoom}
+use Rattle.fragmentation.specs.Flow.{Flow, OnlyMade, opening_meter, Paces, LivesIn, AllMetered}
 use Rattle.paced.specs.declared.figures.Figures.{Figures}
 use Rattle.paced.specs.declared.plan.Plan.{Plan}
 use Rattle.paced.specs.Pacing.{Counts, PacerView, PacedState}
@@ -22,6 +23,19 @@ planned_flow live plan = record {
   burst = 0;
   cycle_words = plan.cycle_words;
 }
+
+-- the flow of a plan where blocks are made of these classes alone
+abbrev pub flow_for : (ℕ → Bool) → ℕ → Plan → Flow
+flow_for makes live plan = record (planned_flow live plan) { makes = makes }
+
+-- a class is one of these
+abbrev pub among : List ℕ → ℕ → Bool
+among used class = list_any (λ k. k == class) used
+
+-- a command asks for blocks of no class of which the flow makes none
+abbrev pub AsksOnly : Flow → Event → Type 0
+AsksOnly flow (Command_done m c reply) = OnlyMade flow (asks c)
+AsksOnly flow e = Unit {0}
 
 -- with a plan, and quanta of a budget, nothing is counted yet
 abbrev pub first_counts : ℕ → Plan → Counts

@@ -1,5 +1,6 @@
 //! The laws of a heap that is paced. Each function does nothing: its contract is the law.
-ghost use Rattle.std.specs.Prelude.{◌≡◌, ◌↔◌, ℕ, List};
+ghost use Rattle.std.specs.Prelude.{◌≡◌, ◌↔◌, ℕ, Bool, List};
+ghost use Rattle.std.specs.List.{AllByRecursion};
 ghost use Rattle.graph_heap.specs.declared.command.Command.{Command};
 ghost use Rattle.graph_heap.specs.declared.command.Reply.{Reply};
 ghost use Rattle.settings.specs.declared.config.Config.{Config};
@@ -9,7 +10,7 @@ ghost use Rattle.fragmentation.specs.Configured.{MovesAll, FlowFitsIn};
 ghost use Rattle.machine.specs.Plan.{Steps};
 ghost use Rattle.paced.specs.declared.plan.Plan.{Plan};
 ghost use Rattle.paced.specs.Pacing.{PacedState, Path, KeepsPlan, MakesNothing, Paced};
-ghost use Rattle.paced.specs.Rooms.{planned_flow, IsJustPaced, FindsRoom};
+ghost use Rattle.paced.specs.Rooms.{planned_flow, flow_for, AsksOnly, IsJustPaced, FindsRoom};
 ghost use Rattle.paced.specs.Planning.{HasPlanOn, IsResized, HasPlan};
 
 /// Whatever was called on a paced heap, since it was made of a configuration that moves all and in which the flow of the
@@ -18,6 +19,14 @@ pub fn paced_heaps_find_room()
     ensures { (config : Config) (plan : Plan) (live : ℕ) (old new : PacedState) (es : List Event)
         → IsJustPaced config plan old → MovesAll config → FlowFitsIn config (planned_flow live plan)
         → Path KeepsPlan old es new → FindsRoom config (planned_flow live plan) old.heap new.heap es }
+{}
+
+/// The same for a program that asks for blocks of some classes alone: the flow need fit for these only.
+pub fn heaps_of_some_classes_find_room()
+    ensures { (config : Config) (plan : Plan) (live : ℕ) (makes : ℕ → Bool) (old new : PacedState) (es : List Event)
+        → IsJustPaced config plan old → MovesAll config → FlowFitsIn config (flow_for makes live plan)
+        → AllByRecursion (AsksOnly (flow_for makes live plan)) es
+        → Path KeepsPlan old es new → FindsRoom config (flow_for makes live plan) old.heap new.heap es }
 {}
 
 /// What one call after the other does is paced, as each call is; so is what no call did.
@@ -39,8 +48,8 @@ pub fn paced_events_run()
 {}
 
 /// There is a plan on a number of pages exactly where one fits in a configuration that has that many, and may empty
-/// them all.
+/// them all, of whichever classes blocks are made.
 pub fn plans_need_pages()
-    ensures { (c resized : Config) (live : ℕ) → IsResized c resized
-        → HasPlanOn c live resized.pages ↔ HasPlan resized live }
+    ensures { (makes : ℕ → Bool) (c resized : Config) (live : ℕ) → IsResized c resized
+        → HasPlanOn makes c live resized.pages ↔ HasPlan makes resized live }
 {}

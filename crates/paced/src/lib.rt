@@ -12,18 +12,22 @@ pub mod plan;
 pub use asking::words_of_shape;
 pub use figures::Figures;
 pub use laws::{
-    other_commands_need_no_pacer, paced_calls_add_up, paced_events_run, paced_heaps_find_room,
-    plans_need_pages,
+    heaps_of_some_classes_find_room, other_commands_need_no_pacer, paced_calls_add_up,
+    paced_events_run, paced_heaps_find_room, plans_need_pages,
 };
 pub use paced::PacedHeap;
 pub use pacer::{AbovePlan, Pacer};
-pub use plan::{Plan, flow_fits, least_pages, moves_all, planned};
+pub use plan::{
+    Plan, classes_in, flow_fits, flow_fits_for, least_pages, least_pages_for, moves_all, planned,
+    planned_for,
+};
 
 #[cfg(test)]
 mod tests {
     use super::*;
     use graph_heap::{Command, Reply, Shape};
     use settings::{Config, Ranges, Settings};
+    use size_classes::Class;
     use std::alloc::Global;
     use std::process::Abort;
 
@@ -73,6 +77,23 @@ mod tests {
         let above = heap.call(0, Command::New { dst: 0, shape });
         assert!(rt; above == Err(AbovePlan));
         assert!(rt; heap.pacer().figures() == figures);
+    }
+
+    /// Plans for the smallest and the largest size class alone: all but 6 of the 114 pages that may be filled in part are
+    /// left for what is made.
+    #[test]
+    fn a_plan_is_made_for_some_classes(rt: HostRuntime) {
+        let config = moving_all(&rt, 50);
+        let used = [Class::new(37), Class::new(0), Class::new(37)];
+        assert!(rt; classes_in(&used) == 2);
+        assert!(rt; least_pages_for(&config, 183200, &used) == Some(106));
+        let Some(plan) = planned_for(&config, 183200, &used) else {
+            panic!(rt; "a flow fits");
+        };
+        assert!(rt; plan.quantum_words == 366 && plan.cycle_words == 150060);
+        assert!(rt; flow_fits_for(&config, 183200, &plan, &used));
+        assert!(rt; !flow_fits(&config, 183200, &plan));
+        assert!(rt; !flow_fits_for(&config, 183200, &plan, &[Class::new(9), used[0], used[1]]));
     }
 
     /// A program begins a cycle and spends quanta of its own: they aren't in the figures.

@@ -1,10 +1,11 @@
 //! Plans, and whether the flow of one fits in a configuration.
-ghost use Rattle.std.specs.Prelude.{◌≡◌, ◌+◌, ◌-◌, ◌*◌, ◌/◌, ◌^◌, ◌<◌, ◌≤◌, ◌↔◌, IsTrue};
+ghost use Rattle.std.specs.Prelude.{◌≡◌, ℕ, ◌+◌, ◌-◌, ◌*◌, ◌/◌, ◌^◌, ◌<◌, ◌≤◌, ◌↔◌, Bool, IsTrue};
 ghost use Rattle.settings.specs.declared.config.TheConstants.{MOST_HEAP_PAGES};
 ghost use Rattle.space.specs.Fitting.{unmoved_quanta_at};
 ghost use Rattle.fragmentation.specs.Configured.{MovesAll, FlowFitsIn};
-ghost use Rattle.paced.specs.Rooms.{planned_flow};
-ghost use Rattle.paced.specs.Planning.{cycle_quanta, cycle_quanta_at, IsFastest, HasPlanOn, IsLeastPages};
+ghost use Rattle.fragmentation.specs.Flow.{classes_made};
+ghost use Rattle.paced.specs.Rooms.{planned_flow, flow_for, among};
+ghost use Rattle.paced.specs.Planning.{cycle_quanta, cycle_quanta_at, IsFastest, IsFastestFor, HasPlanOn, IsLeastPages, IsLeastPagesFor};
 
 use fragmentation::{LEAST_PAGE_FILL, PARTLY_FILLED_PAGES};
 use settings::{Config, LEAST_BUDGET, MOST_HEAP_PAGES};
@@ -32,12 +33,28 @@ fn traced_quanta(config: &Config, pages: u32) -> u64
     (roots + arena + (most + 1) * count + (most + 4)) / u64::from(config.budget()) + 1
 }
 
-/// The pages that suffice for blocks of this many words, with those of each class that may be filled in part.
-fn pages_for_words(words: u128) -> u128
-    requires { words < 2 ^ 127 }
-    ensures { result ≡ words / LEAST_PAGE_FILL + PARTLY_FILLED_PAGES * CLASSES }
+/// Of how many size classes these are: each counts once.
+pub fn classes_in(used: &[Class]) -> u64
+    ensures count { result ≡ classes_made (among used.now) }
+    ensures within { result ≤ CLASSES }
 {
-    let partly = PARTLY_FILLED_PAGES as u128 * CLASSES as u128;
+    let mut count = 0u64;
+    for number in 0..CLASSES {
+        if used.contains(&Class::new(number as u8)) {
+            count += 1;
+        }
+    }
+    count
+}
+
+/// The pages that suffice for blocks of this many words and of so many classes, with those of each class that may be
+/// filled in part.
+fn pages_for_words(words: u128, classes: u64) -> u128
+    requires words { words < 2 ^ 127 }
+    requires classes { classes ≤ CLASSES }
+    ensures { result ≡ words / LEAST_PAGE_FILL + PARTLY_FILLED_PAGES * classes }
+{
+    let partly = u128::from(PARTLY_FILLED_PAGES * classes);
     words / u128::from(LEAST_PAGE_FILL) + partly
 }
 
@@ -48,14 +65,31 @@ pub fn moves_all(config: &Config) -> bool
     config.pages < config.defrag_below && config.pages <= config.defrag_pages
 }
 
+/// Whether the flow of a plan fits in a configuration, where blocks are made of so many classes.
+fn fits(config: &Config, live_words: u64, plan: &Plan, classes: u64) -> bool
+    requires { classes ≤ CLASSES }
+    ensures { (makes : ℕ → Bool) → classes_made makes ≡ classes
+        → IsTrue result ↔ FlowFitsIn config.now (flow_for makes live_words plan.now) }
+{
+    let traced = u128::from(traced_quanta(config, config.pages)) * u128::from(plan.quantum_words);
+    let words = u128::from(live_words) + (2 * u128::from(plan.cycle_words) + traced);
+    traced <= u128::from(plan.cycle_words)
+        && pages_for_words(words, classes) <= u128::from(config.pages)
+}
+
 /// Whether the flow of a plan fits in a configuration, where the blocks of live objects have at most so many words
 /// whenever a cycle begins, or `LEAST_PAGE_FILL` for each whole page that they take.
 pub fn flow_fits(config: &Config, live_words: u64, plan: &Plan) -> bool
     ensures { IsTrue result ↔ FlowFitsIn config.now (planned_flow live_words plan.now) }
 {
-    let traced = u128::from(traced_quanta(config, config.pages)) * u128::from(plan.quantum_words);
-    let words = u128::from(live_words) + (2 * u128::from(plan.cycle_words) + traced);
-    traced <= u128::from(plan.cycle_words) && pages_for_words(words) <= u128::from(config.pages)
+    fits(config, live_words, plan, CLASSES as u64)
+}
+
+/// Whether it fits (`flow_fits`) where blocks are made of these classes alone.
+pub fn flow_fits_for(config: &Config, live_words: u64, plan: &Plan, used: &[Class]) -> bool
+    ensures { IsTrue result ↔ FlowFitsIn config.now (flow_for (among used.now) live_words plan.now) }
+{
+    fits(config, live_words, plan, classes_in(used))
 }
 
 /// The quanta of the configuration's budget that a whole cycle takes at most.
@@ -66,15 +100,14 @@ fn whole_quanta(config: &Config) -> u64
     config.cycle_limit() / u64::from(config.budget() - (LEAST_BUDGET - 1)) + 1
 }
 
-/// The plan with the most words for each quantum whose flow fits in a configuration, of those which have so many for
-/// each quantum that a whole cycle takes at most: so the words of a cycle aren't spent before it has ended. None where
-/// there is none with a word for each quantum. `live_words` is as of `flow_fits`.
-pub fn planned(config: &Config, live_words: u64) -> Option<Plan>
-    ensures { IsFastest config.now live_words result }
+/// The fastest plan whose flow fits in a configuration, where blocks are made of so many classes.
+fn fastest(config: &Config, live_words: u64, classes: u64) -> Option<Plan>
+    requires { classes ≤ CLASSES }
+    ensures { (makes : ℕ → Bool) → classes_made makes ≡ classes → IsFastestFor makes config.now live_words result }
 {
     let whole = whole_quanta(config);
     let pages = u64::from(config.pages) + 1;
-    let room = (pages.saturating_sub(PARTLY_FILLED_PAGES * CLASSES as u64) * LEAST_PAGE_FILL)
+    let room = (pages.saturating_sub(PARTLY_FILLED_PAGES * classes) * LEAST_PAGE_FILL)
         .saturating_sub(live_words)
         .saturating_sub(1);
     let quantum_words = room / (2 * whole + traced_quanta(config, config.pages));
@@ -85,6 +118,23 @@ pub fn planned(config: &Config, live_words: u64) -> Option<Plan>
         quantum_words,
         cycle_words: quantum_words * whole,
     })
+}
+
+/// The plan with the most words for each quantum whose flow fits in a configuration, of those which have so many for
+/// each quantum that a whole cycle takes at most: so the words of a cycle aren't spent before it has ended. None where
+/// there is none with a word for each quantum. `live_words` is as of `flow_fits`.
+pub fn planned(config: &Config, live_words: u64) -> Option<Plan>
+    ensures { IsFastest config.now live_words result }
+{
+    fastest(config, live_words, CLASSES as u64)
+}
+
+/// That plan (`planned`) where blocks are made of these classes alone: fewer pages may be filled in part. It is for a
+/// program that asks for no block of another class.
+pub fn planned_for(config: &Config, live_words: u64, used: &[Class]) -> Option<Plan>
+    ensures { IsFastestFor (among used.now) config.now live_words result }
+{
+    fastest(config, live_words, classes_in(used))
 }
 
 /// The quanta of the configuration's budget that a whole cycle takes at most, on this many pages, all of which it may
@@ -101,14 +151,29 @@ fn whole_quanta_on(config: &Config, pages: u32) -> u64
     (roots + 3 * words + looks + 4) / u64::from(config.budget() - (LEAST_BUDGET - 1)) + 1
 }
 
-/// Whether there is a plan on this many pages.
-fn has_plan_on(config: &Config, live_words: u64, pages: u32) -> bool
-    requires { pages ≤ MOST_HEAP_PAGES }
-    ensures { IsTrue result ↔ HasPlanOn config.now live_words pages }
+/// Whether there is a plan on this many pages, where blocks are made of so many classes.
+fn has_plan_on(config: &Config, live_words: u64, pages: u32, classes: u64) -> bool
+    requires pages { pages ≤ MOST_HEAP_PAGES }
+    requires classes { classes ≤ CLASSES }
+    ensures { (makes : ℕ → Bool) → classes_made makes ≡ classes
+        → IsTrue result ↔ HasPlanOn makes config.now live_words pages }
 {
     let quanta = 2 * whole_quanta_on(config, pages) + traced_quanta(config, pages);
     let words = u128::from(live_words) + u128::from(quanta);
-    pages_for_words(words) <= u128::from(pages)
+    pages_for_words(words, classes) <= u128::from(pages)
+}
+
+/// The least number of pages on which there is a plan, where blocks are made of so many classes.
+fn fewest(config: &Config, live_words: u64, classes: u64) -> Option<u32>
+    requires { classes ≤ CLASSES }
+    ensures { (makes : ℕ → Bool) → classes_made makes ≡ classes → IsLeastPagesFor makes config.now live_words result }
+{
+    for pages in 1..MOST_HEAP_PAGES + 1 {
+        if has_plan_on(config, live_words, pages, classes) {
+            return Some(pages);
+        }
+    }
+    None
 }
 
 /// The least number of pages, of those that a heap may have, on which there is a plan (`planned`), where every cycle moves
@@ -117,10 +182,12 @@ fn has_plan_on(config: &Config, live_words: u64, pages: u32) -> bool
 pub fn least_pages(config: &Config, live_words: u64) -> Option<u32>
     ensures { IsLeastPages config.now live_words result }
 {
-    for pages in 1..MOST_HEAP_PAGES + 1 {
-        if has_plan_on(config, live_words, pages) {
-            return Some(pages);
-        }
-    }
-    None
+    fewest(config, live_words, CLASSES as u64)
+}
+
+/// That number (`least_pages`) where blocks are made of these classes alone.
+pub fn least_pages_for(config: &Config, live_words: u64, used: &[Class]) -> Option<u32>
+    ensures { IsLeastPagesFor (among used.now) config.now live_words result }
+{
+    fewest(config, live_words, classes_in(used))
 }

@@ -1,21 +1,21 @@
 -- Lines, one for each number of pages so far.
-use Rattle.std.proofs.Common.{◌≡◌, ℕ, List, [], ◌∷◌, ◌++◌, Option, Some, None, append_assoc, append-nil, ap, ◌∙◌, sym, subst}
+use Rattle.std.proofs.Common.{◌≡◌, ℕ, Bool, List, [], ◌∷◌, ◌++◌, Option, Some, None, append_assoc, append-nil, ap, ◌∙◌, sym, subst}
 use Rattle.std.specs.Prelude.{IfSome, ◌≤◌}
 use Rattle.std.specs.List.{AllZip, concat}
 use Rattle.std.proofs.lemmas.List.Folds.{concat-append}
 use Rattle.settings.specs.declared.config.Config.{Config}
 use Rattle.settings.specs.declared.config.TheConstants.{MOST_HEAP_PAGES}
 use Rattle.paced.specs.declared.plan.Plan.{Plan}
-use Rattle.paced.specs.Planning.{IsFastest, IsLeastPages}
+use Rattle.paced.specs.Planning.{IsFastestFor, IsLeastPagesFor}
 use Rattle.plans.specs.Order.{IsNext, AreInOrder}
 use Rattle.plans.specs.Report.{IsRow, IsTable}
 
 -- The numbers up to a bound have their lines: whatever numbers come above it are in order with them.
-pub record HasRows (c : Config) (live : ℕ) (numbers : List ℕ) (above : ℕ) (text : List ℕ) : Type 0 where
+pub record HasRows (makes : ℕ → Bool) (c : Config) (live : ℕ) (numbers : List ℕ) (above : ℕ) (text : List ℕ) : Type 0 where
   pub shown : List ℕ
   pub in_order : (rest : List ℕ) → AreInOrder numbers above rest → AreInOrder numbers 0 (shown ++ rest)
   pub lines : List (List ℕ)
-  pub each : AllZip (IsRow c live) shown lines
+  pub each : AllZip (IsRow makes c live) shown lines
   pub told : text ≡ concat lines
 
 pub zip_more : {A B : Type 0} (R : A → B → Type 0) (xs : List A) (ys : List B) (x : A) (y : B) → AllZip R xs ys → R x y → AllZip R (xs ++ x ∷ []) (ys ++ y ∷ [])
@@ -27,23 +27,23 @@ zip_more R (a ∷ xs) (b ∷ ys) x y h r = (h.0, zip_more R xs ys x y h.1 r)
 pub concat_more : (lines : List (List ℕ)) (line : List ℕ) → concat (lines ++ line ∷ []) ≡ concat lines ++ line
 concat_more lines line = concat-append lines (line ∷ []) ∙ ap (λ t. concat lines ++ t) (append-nil line)
 
-module _ (c : Config) (live : ℕ) (numbers : List ℕ) where
+module _ (makes : ℕ → Bool) (c : Config) (live : ℕ) (numbers : List ℕ) where
   -- none yet
-  pub no_rows : (text : List ℕ) → text ≡ [] → HasRows c live numbers 0 text
+  pub no_rows : (text : List ℕ) → text ≡ [] → HasRows makes c live numbers 0 text
   no_rows text e = record { shown = []; in_order = λ rest order. order; lines = []; each = tt; told = e }
 
   -- the next one
-  pub one_row : (above : ℕ) (text : List ℕ) (next : ℕ) (line new : List ℕ) → HasRows c live numbers above text → IsNext numbers above (Some next) → IsRow c live next line → new ≡ text ++ line → HasRows c live numbers next new
+  pub one_row : (above : ℕ) (text : List ℕ) (next : ℕ) (line new : List ℕ) → HasRows makes c live numbers above text → IsNext numbers above (Some next) → IsRow makes c live next line → new ≡ text ++ line → HasRows makes c live numbers next new
   one_row above text next line new so is row e = record {
     shown = so.shown ++ next ∷ [];
     in_order = λ rest order. subst (AreInOrder numbers 0) (sym (append_assoc so.shown (next ∷ []) rest)) (so.in_order (next ∷ rest) (is, order));
     lines = so.lines ++ line ∷ [];
-    each = zip_more (IsRow c live) so.shown so.lines next line so.each row;
+    each = zip_more (IsRow makes c live) so.shown so.lines next line so.each row;
     told = e ∙ ap (λ t. t ++ line) so.told ∙ sym (concat_more so.lines line);
   }
 
   -- all of them
-  pub all_rows : (above : ℕ) (text : List ℕ) → HasRows c live numbers above text → IsNext numbers above None → IsTable c live numbers text
+  pub all_rows : (above : ℕ) (text : List ℕ) → HasRows makes c live numbers above text → IsNext numbers above None → IsTable makes c live numbers text
   all_rows above text so none = record {
     shown = so.shown;
     in_order = subst (AreInOrder numbers 0) (append-nil so.shown) (so.in_order [] none);
@@ -53,14 +53,14 @@ module _ (c : Config) (live : ℕ) (numbers : List ℕ) where
   }
 
 -- the fastest plan has a word for each quantum
-pub fastest_words : (c : Config) (live : ℕ) (plan : Option Plan) → IsFastest c live plan → IfSome plan (λ p. 1 ≤ p.quantum_words)
-fastest_words c live None is = tt
-fastest_words c live (Some plan) is = is.0
+pub fastest_words : (makes : ℕ → Bool) (c : Config) (live : ℕ) (plan : Option Plan) → IsFastestFor makes c live plan → IfSome plan (λ p. 1 ≤ p.quantum_words)
+fastest_words makes c live None is = tt
+fastest_words makes c live (Some plan) is = is.0
 
 -- the least number of pages is one that a heap may have
-pub least_within : (c : Config) (live : ℕ) (least : Option ℕ) → IsLeastPages c live least → IfSome least (λ pages. pages ≤ MOST_HEAP_PAGES)
-least_within c live None is = tt
-least_within c live (Some pages) is = is.1
+pub least_within : (makes : ℕ → Bool) (c : Config) (live : ℕ) (least : Option ℕ) → IsLeastPagesFor makes c live least → IfSome least (λ pages. pages ≤ MOST_HEAP_PAGES)
+least_within makes c live None is = tt
+least_within makes c live (Some pages) is = is.1
 
 -- three texts
 pub three_lines : (a b d a1 b1 d1 : List ℕ) → a ≡ a1 → b ≡ b1 → d ≡ d1 → a ++ (b ++ (d ++ [])) ≡ a1 ++ (b1 ++ d1)

@@ -1,17 +1,27 @@
 -- What is told of the plans for a number of live words: lines of text.
-use Rattle.std.specs.Prelude.{◌≡◌, ℕ, ◌+◌, ◌-◌, ◌*◌, ◌/◌, nat_lt, if◌then◌else◌, List, [], ◌∷◌, ◌++◌, Option, Some, None, codes, decimal}
+use Rattle.std.specs.Prelude.{◌≡◌, ℕ, ◌+◌, ◌-◌, ◌*◌, ◌/◌, nat_lt, if◌then◌else◌, Bool, true, List, [], ◌∷◌, ◌++◌, Option, Some, None, codes, decimal}
 use Rattle.std.specs.List.{AllZip, concat}
 use Rattle.settings.specs.declared.config.Config.{Config}
 use Rattle.settings.specs.declared.config.TheConstants.{MOST_PAGES}
 use Rattle.paced.specs.declared.plan.Plan.{Plan}
-use Rattle.paced.specs.Planning.{cycle_quanta, IsFastest, IsLeastPages}
+use Rattle.fragmentation.specs.Flow.{classes_made}
+use Rattle.paced.specs.Rooms.{among}
+use Rattle.paced.specs.Planning.{cycle_quanta, IsFastestFor, IsLeastPagesFor}
 use Rattle.plans.specs.OnPages.{IsOnPages}
 use Rattle.plans.specs.Order.{AreInOrder}
 
--- how many words are live, and the units of a quantum
-abbrev pub live_line : Config → ℕ → List ℕ
-live_line c live =
+-- the size classes of which blocks are made: all, where none are said
+abbrev pub made_of : Option (List ℕ) → ℕ → Bool
+made_of None class = true
+made_of (Some used) class = among used class
+
+-- how many words are live, the units of a quantum, and for how many size classes the plans are, where some are said
+abbrev pub live_line : Config → ℕ → Option (List ℕ) → List ℕ
+live_line c live None =
     codes "live " ++ (decimal live ++ (codes " units " ++ (decimal (c.collector_ticks * c.rate) ++ codes "\n")))
+live_line c live (Some used) =
+    codes "live " ++ (decimal live ++ (codes " units " ++ (decimal (c.collector_ticks * c.rate)
+    ++ (codes " classes " ++ (decimal (classes_made (among used)) ++ codes "\n")))))
 
 -- the fewest pages on which there is a plan, with the keys to set for them
 abbrev pub fewest_line : Option ℕ → List ℕ
@@ -36,20 +46,21 @@ plan_line c (Some plan) = codes "pages " ++ (decimal c.pages
     ++ (codes " tenths " ++ (decimal (tenths_of (c.collector_ticks * c.rate) plan.quantum_words)
     ++ codes "\n")))))))))
 
--- the line of a number of pages: of the fastest plan on as many, where every cycle moves and may empty all of them
-pub record IsRow (c : Config) (live pages : ℕ) (line : List ℕ) : Type 0 where
+-- the line of a number of pages: of the fastest plan on as many, where every cycle moves and may empty all of them, and
+-- blocks are made of these classes alone
+pub record IsRow (makes : ℕ → Bool) (c : Config) (live pages : ℕ) (line : List ℕ) : Type 0 where
   pub on : Config
   pub is_on : IsOnPages c pages on
   pub plan : Option Plan
-  pub fastest : IsFastest on live plan
+  pub fastest : IsFastestFor makes on live plan
   pub told : line ≡ plan_line on plan
 
 -- a line for each of some numbers of pages that a heap may have, in rising order, each once
-pub record IsTable (c : Config) (live : ℕ) (numbers text : List ℕ) : Type 0 where
+pub record IsTable (makes : ℕ → Bool) (c : Config) (live : ℕ) (numbers text : List ℕ) : Type 0 where
   pub shown : List ℕ
   pub in_order : AreInOrder numbers 0 shown
   pub lines : List (List ℕ)
-  pub each : AllZip (IsRow c live) shown lines
+  pub each : AllZip (IsRow makes c live) shown lines
   pub told : text ≡ concat lines
 
 -- of how many pages the plans are told: the configuration's own, the fewest, and some more
@@ -57,10 +68,10 @@ abbrev pub numbers_told : Config → Option ℕ → List ℕ
 numbers_told c None = c.pages ∷ []
 numbers_told c (Some few) = c.pages ∷ few ∷ (few + few / 4) ∷ (few + few / 2) ∷ (2 * few) ∷ (3 * few) ∷ []
 
--- all that is told of the plans where so many words are live
-pub record IsPlansReport (c : Config) (live : ℕ) (text : List ℕ) : Type 0 where
+-- all that is told of the plans where so many words are live, and blocks are made of these size classes, if some are said
+pub record IsPlansReport (classes : Option (List ℕ)) (c : Config) (live : ℕ) (text : List ℕ) : Type 0 where
   pub least : Option ℕ
-  pub is_least : IsLeastPages c live least
+  pub is_least : IsLeastPagesFor (made_of classes) c live least
   pub rows : List ℕ
-  pub table : IsTable c live (numbers_told c least) rows
-  pub told : text ≡ live_line c live ++ (fewest_line least ++ rows)
+  pub table : IsTable (made_of classes) c live (numbers_told c least) rows
+  pub told : text ≡ live_line c live classes ++ (fewest_line least ++ rows)

@@ -1,19 +1,43 @@
 //! What is told of the plans for a number of live words.
-ghost use Rattle.std.specs.Prelude.{◌≡◌, ◌≤◌, IfOk, IfSome, string_bytes};
+ghost use Rattle.std.specs.Prelude.{◌≡◌, ◌≤◌, IfOk, IfSome, option_map, string_bytes};
 ghost use Rattle.settings.specs.declared.config.TheConstants.{MOST_HEAP_PAGES};
-ghost use Rattle.plans.specs.Report.{live_line, fewest_line, numbers_told, IsTable, IsPlansReport};
+ghost use Rattle.paced.specs.Planning.{IsLeastPagesFor};
+ghost use Rattle.plans.specs.Report.{made_of, live_line, fewest_line, numbers_told, IsTable, IsPlansReport};
 
 use crate::table::table;
-use paced::least_pages;
+use paced::{classes_in, least_pages, least_pages_for};
 use settings::{Config, MOST_PAGES};
+use size_classes::Class;
 use std::alloc::{AllocError, Global};
 
-/// How many words are live, and the units of a quantum.
-fn live_line(alloc: Global, config: &Config, live_words: u64) -> Result<String, AllocError>
-    ensures { IfOk result (λ line. string_bytes line ≡ live_line config.now live_words) }
+/// How many words are live, the units of a quantum, and for how many size classes the plans are, where some are said.
+fn live_line(
+    alloc: Global,
+    config: &Config,
+    live_words: u64,
+    classes: Option<&[Class]>,
+) -> Result<String, AllocError>
+    ensures { IfOk result (λ line. string_bytes line ≡ live_line config.now live_words
+        (option_map (λ used. used.now) classes.entry)) }
 {
     let units = config.budget();
-    format!(in alloc; "live {live_words} units {units}\n")
+    match classes {
+        Some(used) => {
+            let count = classes_in(used);
+            format!(in alloc; "live {live_words} units {units} classes {count}\n")
+        }
+        None => format!(in alloc; "live {live_words} units {units}\n"),
+    }
+}
+
+/// The fewest pages on which there is a plan, where blocks are made of these size classes alone, or of all.
+fn fewest(config: &Config, live_words: u64, classes: Option<&[Class]>) -> Option<u32>
+    ensures { IsLeastPagesFor (made_of (option_map (λ used. used.now) classes.entry)) config.now live_words result }
+{
+    match classes {
+        Some(used) => least_pages_for(config, live_words, used),
+        None => least_pages(config, live_words),
+    }
 }
 
 /// The fewest pages on which there is a plan, with the keys to set for them; or that there is one on no number of
@@ -39,17 +63,19 @@ fn plans(
     alloc: Global,
     config: &Config,
     live_words: u64,
+    classes: Option<&[Class]>,
     least: Option<u32>,
 ) -> Result<String, AllocError>
     requires { IfSome least (λ pages. pages ≤ MOST_HEAP_PAGES) }
-    ensures { IfOk result (λ text. IsTable config.now live_words (numbers_told config.now least) (string_bytes text)) }
+    ensures { IfOk result (λ text. IsTable (made_of (option_map (λ used. used.now) classes.entry)) config.now live_words
+        (numbers_told config.now least) (string_bytes text)) }
 {
     let own = config.pages;
     match least {
-        None => table(alloc, config, live_words, &[own]),
+        None => table(alloc, config, live_words, classes, &[own]),
         Some(few) => {
             let numbers = [own, few, few + few / 4, few + few / 2, 2 * few, 3 * few];
-            table(alloc, config, live_words, &numbers)
+            table(alloc, config, live_words, classes, &numbers)
         }
     }
 }
@@ -58,15 +84,22 @@ fn plans(
 /// words at most whenever a cycle begins, headers included: the units of a quantum; the fewest pages on which there is a
 /// plan, with the keys to set for them, or that there is one on no number of pages; and a line for each of some numbers
 /// of pages, in rising order: the configuration's own, the fewest, and 5/4, 3/2, 2 and 3 times as many, as far as a heap
-/// may have them. All else than the pages, and the moving that a plan wants, is as the configuration has it.
-pub fn plans_report(alloc: Global, config: &Config, live_words: u64) -> Result<String, AllocError>
-    ensures { IfOk result (λ text. IsPlansReport config.now live_words (string_bytes text)) }
+/// may have them. All else than the pages, and the moving that a plan wants, is as the configuration has it. Where size
+/// classes are given, the plans are for a program that asks for blocks of these alone, and how many they are is told too.
+pub fn plans_report(
+    alloc: Global,
+    config: &Config,
+    live_words: u64,
+    classes: Option<&[Class]>,
+) -> Result<String, AllocError>
+    ensures { IfOk result (λ text. IsPlansReport (option_map (λ used. used.now) classes.entry) config.now live_words
+        (string_bytes text)) }
 {
-    let least = least_pages(config, live_words);
+    let least = fewest(config, live_words, classes);
     [
-        live_line(alloc, config, live_words)?,
+        live_line(alloc, config, live_words, classes)?,
         fewest_line(alloc, least)?,
-        plans(alloc, config, live_words, least)?,
+        plans(alloc, config, live_words, classes, least)?,
     ]
     .concat(alloc)
 }

@@ -1,12 +1,13 @@
 //! The plan on a number of pages, as a line.
-ghost use Rattle.std.specs.Prelude.{◌≡◌, ◌≤◌, IfOk, IfSome, string_bytes};
+ghost use Rattle.std.specs.Prelude.{◌≡◌, ◌≤◌, IfOk, IfSome, option_map, string_bytes};
 ghost use Rattle.settings.specs.declared.config.TheConstants.{MOST_HEAP_PAGES};
-ghost use Rattle.paced.specs.Planning.{cycle_quanta};
-ghost use Rattle.plans.specs.Report.{tenths_of, plan_line, IsRow};
+ghost use Rattle.paced.specs.Planning.{cycle_quanta, IsFastestFor};
+ghost use Rattle.plans.specs.Report.{made_of, tenths_of, plan_line, IsRow};
 
 use crate::on_pages::on_pages;
-use paced::{Plan, planned};
+use paced::{Plan, planned, planned_for};
 use settings::{Config, LEAST_BUDGET};
+use size_classes::Class;
 use std::alloc::{AllocError, Global};
 
 /// The quanta of the configuration's budget that a whole cycle takes at most.
@@ -40,6 +41,16 @@ fn plan_line(alloc: Global, config: &Config, plan: Option<Plan>) -> Result<Strin
     format!(in alloc; "pages {pages} quanta {quanta} words {words} cycle {cycle} tenths {tenths}\n")
 }
 
+/// The fastest plan of a configuration, where blocks are made of these size classes alone, or of all.
+fn fastest(config: &Config, live_words: u64, classes: Option<&[Class]>) -> Option<Plan>
+    ensures { IsFastestFor (made_of (option_map (λ used. used.now) classes.entry)) config.now live_words result }
+{
+    match classes {
+        Some(used) => planned_for(config, live_words, used),
+        None => planned(config, live_words),
+    }
+}
+
 /// The line of the plan on this many pages, where moving follows each sweep and may empty all of them: the number of
 /// pages, the quanta that a cycle takes at most, the words of a quantum and of a cycle, and tenths of a unit for each
 /// word; or that there is no plan.
@@ -47,11 +58,13 @@ pub(crate) fn row(
     alloc: Global,
     config: &Config,
     live_words: u64,
+    classes: Option<&[Class]>,
     pages: u32,
 ) -> Result<String, AllocError>
     requires { (1 ≤ pages) × (pages ≤ MOST_HEAP_PAGES) }
-    ensures { IfOk result (λ line. IsRow config.now live_words pages (string_bytes line)) }
+    ensures { IfOk result (λ line. IsRow (made_of (option_map (λ used. used.now) classes.entry)) config.now live_words pages
+        (string_bytes line)) }
 {
     let on = on_pages(config, pages);
-    plan_line(alloc, &on, planned(&on, live_words))
+    plan_line(alloc, &on, fastest(&on, live_words, classes))
 }

@@ -3,11 +3,10 @@ use Rattle.std.proofs.lemmas.Bool.{leb-true, le-leb}
 use Rattle.fragmentation.specs.declared.flow.TheConstants.{LEAST_PAGE_FILL}
 use Rattle.space.specs.Fitting.{unmoved_quanta_at}
 use Rattle.paced.specs.Planning.{cycle_quanta_at}
-use Rattle.paced.proofs.Planning.{all_classes}
 use Rattle.paced.proofs.plan.has_plan_on.Goals as goal
 
 pub returns : goal.returns
-returns c =
+returns c = λ makes made.
     let w = c.whole_quanta_on.ensures.quanta in
     let t = c.traced_quanta.ensures.quanta in
     let l = c.from.ensures in
@@ -15,8 +14,7 @@ returns c =
     let same : c.from.result + c.from-2.result ≡ c.args.live_words + (2 * cycle_quanta_at c.args.config.now c.args.pages + (unmoved_quanta_at c.args.config.now c.args.pages * 1 + 0)) = omega (arith, w, t, l, q) in
     let d = ap (λ z. z / LEAST_PAGE_FILL) same in
     let e = c.pages_for_words.ensures in
-    let p = c.from-3.ensures in
-    let k = all_classes in (
-      λ is. (let n = leb-true _ _ is in omega (arith, n, d, e, p, k)),
-      λ plan. le-leb _ _ (omega (arith, plan, d, e, p, k)),
+    let p = c.from-3.ensures in (
+      λ is. (let n = leb-true _ _ is in omega (arith, n, d, e, p, made)),
+      λ plan. le-leb _ _ (omega (arith, plan, d, e, p, made)),
     )

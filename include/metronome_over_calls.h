@@ -86,8 +86,8 @@ typedef struct metronome_pacing {
  *
  * HOW TO CHOOSE THE NUMBERS. The budget is the longest pause of the collector, in units; before these what each mutator recorded
  * since the last quantum is hung into a list, by one link. No time of a unit is promised. In the longest quantum of 256 units on
- * each of some heaps made for it, at commit b5ea2111 on a loaded Xeon of 2.5 GHz, one took 73 ns on pages full of large objects, 32
- * to 37 ns where pages with an object each were emptied, 17 to 20 ns where large blocks were freed, and 2 to 12 ns on the others
+ * each of some heaps made for it, at commit 7978a954 on a loaded Xeon of 2.5 GHz, one took 69 ns on pages full of large objects, 15
+ * to 20 ns where pages with an object each were emptied, 7 to 9 ns where large blocks were freed, and 2 to 10 ns on the others
  * (docs/PERFORMANCE.md, "The worst quantum"). A cycle takes at most Q quanta, as metronome.h says. Of blocks of one size at most B
  * are made between two quanta: those for which `words` have room, and those of one object more, which of an array are all its
  * pieces. No object is refused for lack of space where begin_below pages have room for L + (2 * Q + 1) * B blocks of each size, of

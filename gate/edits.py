@@ -10,8 +10,6 @@ from kit import rt
 NAME = re.compile(r"[A-Za-z0-9_-][A-Za-z0-9_.-]*\.edit")
 # A line that `rt` doesn't read: the function, as the prover names it below the crate, whose proof fails with a definition's edit.
 REFUSED_BY = re.compile(r"^refused by: (\S+)$", re.M)
-# Another, of an edit that only a proof by hand refuses, of functions that another edit shows to be held by a clause.
-LEFT = "left to --all: only a proof by hand refuses it"
 
 
 @dataclass
@@ -27,8 +25,6 @@ class Edit:
     places: list = field(default_factory=list)
     # the functions that it says refuse it
     refused_by: tuple = ()
-    # whether it is only tried where all are
-    is_left: bool = False
 
     @property
     def name(self):
@@ -64,8 +60,7 @@ def read(crate, file):
         return edit
     edit.texts = texts
     with open(file, encoding="utf-8") as opened:
-        said = opened.read()
-    edit.refused_by, edit.is_left = tuple(REFUSED_BY.findall(said)), LEFT in said.splitlines()
+        edit.refused_by = tuple(REFUSED_BY.findall(opened.read()))
     for path, now in texts.items():
         with open(f"{crate.folder}/{path}", encoding="utf-8") as opened:
             edit.places += changed(path, opened.read(), now)

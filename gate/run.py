@@ -20,9 +20,9 @@ FOLDER = "wrong-bodies"
 class Run:
     """The edits of some crates, what was found of them so far, and the run that proves the crates beside it, if there is one."""
 
-    def __init__(self, crates, anew, proving=None, every=False):
+    def __init__(self, crates, anew, proving=None):
         self.kept, self.proving = Kept(anew), proving
-        self.edits = {it.name: [edit for edit in edits.edits_of(it, FOLDER) if every or not edit.is_left] for it in crates}
+        self.edits = {it.name: edits.edits_of(it, FOLDER) for it in crates}
         self.found, self.grounds, self.checks, self.seconds, self.unproved = {}, {}, Counter(), Counter(), set()
         self.telling = threading.Lock()
 
@@ -142,9 +142,9 @@ def tasks_of(run, crates):
     return tasks
 
 
-def made(crates, jobs, anew, proving=None, every=False):
-    """The run of the edits of these crates."""
-    run = Run(crates, anew, proving, every)
+def made(crates, jobs, anew, proving=None):
+    """The run of all edits of these crates."""
+    run = Run(crates, anew, proving)
     held = rt.rtlib.lock({below for it in crates for below in [it, *it.below()]})
     try:
         lanes.run((tasks_beside if proving else tasks_of)(run, crates), jobs)
@@ -154,9 +154,9 @@ def made(crates, jobs, anew, proving=None, every=False):
     return run
 
 
-def tried(crates, jobs, anew, proving=None, every=False):
+def tried(crates, jobs, anew, proving=None):
     """How many edits of these crates were refused, and how many weren't; it says which."""
-    run = made(crates, jobs, anew, proving, every)
+    run = made(crates, jobs, anew, proving)
     for crate in crates:
         if run.checks[crate.name]:
             print(f"{crate.name}: {len(run.edits[crate.name])} edits, {run.checks[crate.name]} checks, {run.seconds[crate.name]:.0f} s")

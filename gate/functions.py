@@ -19,10 +19,12 @@ DECLARED = re.compile(r"^\s*(?:pub(?:\([a-z]+\))?\s+)?(?:struct|enum|trait)\s+(\
 @dataclass(frozen=True)
 class Function:
     """A function with a body: its path below the crate, or its type's name and its own, since the prover names it below the
-    module of the type, which stands before them where the crate has another type of that name; where its body stands; and
-    whether it surely has that name, and is no test's."""
+    module of the type, which stands before them where the crate has another type of that name; where it begins, with what is
+    said of it, where its name does, and where its body stands; and whether it surely has that name, and is no test's."""
 
     path: str
+    start: int
+    name: int
     body: int
     end: int
     is_plain: bool
@@ -69,7 +71,7 @@ def without_generics(text):
 
 def name_of_impl(head):
     """The name under which the prover prints an impl's functions: the type's, the trait's, and those of what the trait is given."""
-    of, _, to = without_generics(head.replace("->", "  ")).partition(" for ")
+    of, _, to = without_generics(head.replace("->", "  ").replace("()", "Unit")).partition(" for ")
     given = re.search(r"<([^<>]*)>", re.sub(r"^\s*<[^<>]*>", "", head.partition(" for ")[0])) if to else None
     words = [*([to, of] if to else [of]), *(given[1].split(",") if given else [])]
     names = [TYPE.search(it.strip(" &")) for it in words]
@@ -84,8 +86,9 @@ def functions_in(code, at, end, above, is_plain):
         if head[1]:
             body = body_of(code, at)
             if body is not None:
+                start = max(code.rfind(it, 0, head.start()) for it in "{};") + 1
                 at = group_end(code, body)
-                found.append(Function("::".join([*above, head[2]]), body, at, is_plain))
+                found.append(Function("::".join([*above, head[2]]), start, head.start(2), body, at, is_plain))
             continue
         inside, at = at, group_end(code, at - 1)
         if head[3]:

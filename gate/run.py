@@ -6,6 +6,7 @@ import threading
 import time
 from collections import Counter
 
+import copies
 import edits
 import functions
 import lanes
@@ -109,7 +110,7 @@ def asked(crate, planned):
     """The flags that ask for just the functions of which trials ask; none where one asks for the whole crate."""
     if any(it.is_whole for it in planned):
         return []
-    paths = {it for trial in planned for it in trial.asked}
+    paths = {copies.of(it)[0] for trial in planned for it in trial.asked}
     return [word for it in sorted(paths | set(functions.unturned(crate, paths))) for word in ("--only", it)]
 
 

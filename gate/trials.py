@@ -1,4 +1,4 @@
-"""The trials: bodies of several functions turned at once in a copy of their crate, or one edit by itself."""
+"""The trials: many bodies turned at once in a copy of their crate, or one edit by itself."""
 import copy
 import itertools
 import os
@@ -8,11 +8,12 @@ import signal
 import tempfile
 from dataclasses import dataclass
 
+import copies
 import functions
 import verdicts
 from kit import rt
 
-# How many bodies are turned at once, at most: more would leave threads without work at a run's end.
+# How many bodies are turned at once, at most, where they begin with what is proved: more would leave threads without work.
 MOST = 16
 
 # What makes answers hold a fault: where a function's don't, and it isn't proved, the prover runs once more to offer some.
@@ -27,9 +28,9 @@ REJECTED = re.compile(r"^(?:\./)?(src/\S+?):(\d+):\d+: error\[", re.M)
 
 @dataclass
 class Trial:
-    """Some edits of a crate, each with the paths of the functions that it turns; one alone has those that it says refuse it, or
-    none. One that leads is made over nothing, and leaves the work that the others begin with: so it asks for what they ask for
-    besides."""
+    """Some edits of a crate, each with the paths of the functions that it turns, or of a copy; one alone has those that it says
+    refuse it, or none. One that leads is made over nothing, and leaves the work that the others begin with: so it asks for what
+    they ask for besides."""
 
     crate: object
     edits: list
@@ -51,6 +52,14 @@ class Trial:
     def asked(self):
         """The paths of all functions that it turns."""
         return [it for paths in self.paths for it in paths]
+
+    @property
+    def controls(self):
+        """The path of a copy that no edit turns, of a trial with copies or of a crate in which all functions are turned."""
+        if self.is_named or not any(copies.of(it)[1] for it in self.asked) and functions.unturned(self.crate, self.asked):
+            return []
+        path = copies.control(self.crate)
+        return [path] if path else []
 
 
 @dataclass
@@ -75,14 +84,14 @@ def rounds(pairs):
 
 
 def planned(crate, edits, begins=False):
-    """The trials of a crate's edits: no two bodies of one function at once, and what is no function's body alone, over the
-    functions that it says refuse it, or else over the whole crate. Where none takes the whole crate, and nothing is proved that
-    they begin with, the first trial of bodies leads, with as many as there are."""
+    """The trials of a crate's edits: of one function's bodies all but the first in copies of it, or in other trials; what is no
+    function's body alone, over the functions that it says refuse it, or else over the whole crate. Where none takes the whole crate,
+    and nothing is proved that they begin with, the first trial of bodies leads, with as many as there are."""
     pairs = [(it, functions.turned_by(it)) for it in edits]
     named = [Trial(crate, [it], [it.refused_by]) for it, paths in pairs if not paths and it.refused_by]
     alone = [Trial(crate, [it], [()]) for it, paths in pairs if not paths and not it.refused_by]
     trials = []
-    for number, them in enumerate(rounds([it for it in pairs if it[1]])):
+    for number, them in enumerate(rounds(copies.apart([it for it in pairs if it[1]]))):
         leads = begins and not alone and not number
         size = len(them) if leads else -(-len(them) // -(-len(them) // MOST))
         for at in range(0, len(them), size):
@@ -93,15 +102,23 @@ def planned(crate, edits, begins=False):
 
 
 def turned(trial):
-    """The texts of the files that a trial's edits change, with all of them applied."""
-    texts, places = {}, sorted((it for edit in trial.edits for it in edit.places), key=lambda it: it[1], reverse=True)
-    for path, group in itertools.groupby(sorted(places, key=lambda it: it[0]), key=lambda it: it[0]):
+    """The texts of the files that a trial's edits change, with all of them applied, and which lines of these each edit turned: for
+    each place, the file's path, and the first and the last one's number."""
+    placed = [copies.places(edit, paths) for edit, paths in zip(trial.edits, trial.paths)]
+    placed.append([copies.place(trial.crate.folder, it, []) for it in trial.controls])
+    places = sorted((*it[:2], number, *it[2:]) for number, them in enumerate(placed) for it in them)
+    texts, lines = {}, [[] for _ in placed]
+    for path, group in itertools.groupby(places, key=lambda it: it[0]):
         with open(f"{trial.crate.folder}/{path}", encoding="utf-8") as file:
             text = file.read()
-        for _, start, end, new in group:
-            text = text[:start] + new + text[end:]
-        texts[path] = text
-    return texts
+        made, at = "", 0
+        for _, start, number, end, new in group:
+            made += text[at:start]
+            first, at = made.count("\n") + 1, end
+            made += new
+            lines[number].append((path, first, made.count("\n") + 1))
+        texts[path] = made + text[at:]
+    return texts, lines[:-1]
 
 
 def over_kept(crate, call):
@@ -118,22 +135,24 @@ def over_nothing(crate, call):
     return call(folder)
 
 
-def faulted(trial, texts):
-    """The answers of the functions that a trial turns or says to refuse it, as they are in these texts or else in the crate, and with a
-    fault; of those whose whole proof is written there are none."""
+def proofs_in(trial):
+    """The proofs of the copies in a trial; and of all functions that it turns, or that it says refuse it, the answers with a fault,
+    but for those whose whole proof is written."""
     folder, found = trial.crate.folder, {}
-    for proofs in {it for path in trial.asked if (it := functions.proofs_of(trial.crate.folder, path))}:
-        file = f"{proofs}/Answers.antt"
-        if not os.path.exists(f"{folder}/{proofs}/Proof.antt"):
-            written = texts.get(file) or rt.rtlib.text_of(f"{folder}/{file}")
-            found[file] = f"{written}\n{FAULTY}" if written else FAULTY
+    for path in [*trial.controls, *trial.asked]:
+        proofs = functions.proofs_of(folder, path)
+        found |= copies.proofs(folder, path)
+        if proofs and path not in trial.controls:
+            file = f"{proofs}/Answers.antt"
+            if f"{proofs}/Proof.antt" not in found and not os.path.exists(f"{folder}/{proofs}/Proof.antt"):
+                written = found.get(file) or rt.rtlib.text_of(f"{folder}/{file}")
+                found[file] = f"{written}\n{FAULTY}" if written else FAULTY
     return found
 
 
 def checked(trial, flags, kept):
     """What the prover says of the crate with all of a trial's edits, and with answers that hold a fault."""
-    crate, texts = copy.copy(trial.crate), turned(trial)
-    texts |= faulted(trial, texts)
+    crate, texts = copy.copy(trial.crate), proofs_in(trial) | turned(trial)[0]
     with tempfile.TemporaryDirectory(prefix="wrong-bodies-") as crate.folder:
         for part in rt.rtlib.PARTS:
             if os.path.isdir(f"{trial.crate.folder}/{part}"):
@@ -169,22 +188,13 @@ def whole(trial):
     return Result(edit, found, LABEL.sub("", said), verdicts.ground_told(said) if found == verdicts.REFUSED else "")
 
 
-def lines_of(edit):
-    """The lines that an edit changes: for each place, the file's path, and the first and the last one's number."""
-    found = []
-    for path, start, end, _ in edit.places:
-        with open(f"{edit.crate.folder}/{path}", encoding="utf-8") as file:
-            text = file.read()
-        found.append((path, text.count("\n", 0, start) + 1, text.count("\n", 0, end) + 1))
-    return found
-
-
 def parted(trial, said):
     """A trial that came to no verdict, in parts: apart from what the compiler rejects, or in halves; a single edit by itself."""
     if len(trial.edits) == 1:
         return [Trial(trial.crate, trial.edits, [()])]
     rejected = [(path, int(line)) for path, line in REJECTED.findall(said)]
-    bad = [any(path == file and first <= line <= last for path, first, last in lines_of(it) for file, line in rejected) for it in trial.edits]
+    lines = turned(trial)[1]
+    bad = [any(path == file and first <= it <= last for file, first, last in them for path, it in rejected) for them in lines]
     if not any(bad) or all(bad):
         bad = [at < len(bad) // 2 for at in range(len(bad))]
     both = [[pair for pair, it in zip(zip(trial.edits, trial.paths), bad) if it == part] for part in (True, False)]
@@ -217,7 +227,7 @@ def tried(trial, threads=1):
         return [whole(trial)], [], []
     if trial.is_named:
         return of_named(trial, ask(trial, trial.asked, threads))
-    said = ask(trial, [*trial.asked, *functions.unturned(trial.crate, trial.asked), *trial.besides], threads)
+    said = ask(trial, [*trial.asked, *trial.controls, *functions.unturned(trial.crate, trial.asked), *trial.besides], threads)
     told = verdicts.told(said)
     others = {name: it for name, it in told.items() if not any(verdicts.is_within(name, path) for path in trial.asked)}
     wrong = [name for name, it in others.items() if it.fails_by_itself]

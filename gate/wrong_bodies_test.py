@@ -128,8 +128,8 @@ FILES = {
     "crates/told/proofs/named/Answers.antt": ANSWERS,
     "crates/told/proofs/total/Invariants.antt": INVARIANTS,
 }
-# An edit's name, what it turns into what, and what it is to come to, a refusal by what. Those of one function go into several
-# rounds.
+# An edit's name, what it turns into what, and what it is to come to, a refusal by what. Of those of one function all but the first
+# turn copies of it.
 CASES = [
     ("a_sum_turned_round", "x as u32 + 1", "1 + x as u32", NOT_REFUSED, ""),
     ("adds_two", "x as u32 + 1", "x as u32 + 2", REFUSED, CLAUSE),
@@ -139,8 +139,12 @@ CASES = [
     ("adds_three", "more(x) + 1", "more(x) + 2", REFUSED, CLAUSE),
     ("leaves_out_what_a_proof_names", "let it = more(x);", "let it = x as u32 + 2;", NAMES, ""),
     ("has_another_limit", "    6", "    9", REFUSED, BY_HAND),
+    ("is_the_limit_by_a_sum", "    6", "    5 + 1", NOT_REFUSED, ""),
     ("asks_for_none", "less(x) }", "less(x - 1) }", REFUSED, CONDITION),
     ("adds_one_more_each_time", "*byte as u64", "*byte as u64 + 1", REFUSED, INVARIANT),
+    ("adds_nothing_more", "*byte as u64", "*byte as u64 + 0", NOT_REFUSED, ""),
+    ("begins_at_one", "sum: u64 = 0", "sum: u64 = 1", REFUSED, INVARIANT),
+    ("begins_at_one_less_one", "sum: u64 = 0", "sum: u64 = 1 - 1", NOT_REFUSED, ""),
     ("turns_a_definition", "2 * n", "4 * n", REFUSED, BY_HAND),
     ("says_what_refuses_it", "2 * n", "8 * n", REFUSED, BY_HAND),
     ("says_what_does_not_refuse_it", "2 * n", "6 * n", REFUSED, BY_HAND),

@@ -5,8 +5,10 @@ use settings::{Config, Ranges, Settings};
 use std::process::Abort;
 
 mod heaps;
+mod lists;
 mod meeting;
 mod memory;
+mod pacing;
 mod players;
 mod refusing;
 mod servers;

@@ -1,0 +1,100 @@
+//! A heap that paces itself, and its plans.
+use super::*;
+use graph_heap::Reply;
+use paced::{
+    AbovePlan, Figures, PacedHeap, Pacer, Plan, classes_in, flow_fits, flow_fits_for, least_pages,
+    least_pages_for, moves_all, planned, planned_for,
+};
+use size_classes::Class;
+use std::alloc::Global;
+
+/// 300 pages, all of which a cycle may empty, with quanta of so many ticks.
+fn moving_all(rt: &impl Abort, collector_ticks: i64) -> Config {
+    let settings = Settings {
+        pages: 300,
+        slots: 8,
+        defrag_below: 301,
+        defrag_pages: 300,
+        collector_ticks,
+        ..Settings::DEFAULTS
+    };
+    let Ok(config) = Config::check(Ranges::Library, &settings) else {
+        panic!(rt; "the settings are good");
+    };
+    config
+}
+
+fn paced_heap(rt: &impl Abort, alloc: Global, config: &Config, plan: Plan) -> PacedHeap {
+    let Ok(heap) = PacedHeap::new(alloc, config, plan) else {
+        panic!(rt; "there is memory");
+    };
+    heap
+}
+
+/// A plan of a configuration, and commands on its heap through some cycles; then one above the words of a cycle.
+#[test]
+fn a_paced_heap_is_made_and_asked(rt: HostRuntime) {
+    let config = moving_all(&rt, 50);
+    let Some(plan) = planned(&config, 183200) else {
+        panic!(rt; "a flow fits");
+    };
+    assert!(rt; plan.quantum_words == 163 && plan.cycle_words == 66830);
+    assert!(rt; moves_all(&config));
+    // A word for each quantum adds less than a page to the 100 that are live and three of each class.
+    assert!(rt; least_pages(&config, 183200) == Some(214));
+    let mut heap = paced_heap(&rt, rt.alloc(), &config, plan);
+    for n in 0..100u32 {
+        let shape = Shape::WordArray(20000);
+        let reply = heap.call(0, Command::New { dst: 0, shape });
+        assert!(rt; reply == Ok(Reply::Made(u64::from(n) + 1)));
+    }
+    let figures = heap.pacer().figures();
+    assert!(rt; figures.cycles > 0 && figures.quanta >= figures.most_quanta);
+    let shape = Shape::WordArray(70000);
+    let above = heap.call(0, Command::New { dst: 0, shape });
+    assert!(rt; above == Err(AbovePlan));
+    assert!(rt; heap.pacer().figures() == figures);
+}
+
+/// Plans for the smallest and the largest size class alone: all but 6 of the 114 pages that may be filled in part are
+/// left for what is made.
+#[test]
+fn a_plan_is_made_for_some_classes(rt: HostRuntime) {
+    let config = moving_all(&rt, 50);
+    let used = [Class::new(37), Class::new(0), Class::new(37)];
+    assert!(rt; classes_in(&used) == 2);
+    assert!(rt; least_pages_for(&config, 183200, &used) == Some(106));
+    let Some(plan) = planned_for(&config, 183200, &used) else {
+        panic!(rt; "a flow fits");
+    };
+    assert!(rt; plan.quantum_words == 366 && plan.cycle_words == 150060);
+    assert!(rt; flow_fits_for(&config, 183200, &plan, &used));
+    assert!(rt; !flow_fits(&config, 183200, &plan));
+    assert!(rt; !flow_fits_for(&config, 183200, &plan, &[Class::new(9), used[0], used[1]]));
+}
+
+/// A program begins a cycle and spends quanta of its own: they aren't in the figures.
+#[test]
+fn a_program_works_besides(rt: HostRuntime) {
+    let config = moving_all(&rt, 10);
+    let plan = Plan {
+        quantum_words: 10,
+        cycle_words: 70000,
+    };
+    let mut heap = paced_heap(&rt, rt.alloc(), &config, plan);
+    assert!(rt; Pacer::with_budget(plan, 255).is_err() && Pacer::with_budget(plan, 256).is_ok());
+    assert!(rt; heap.begin().is_ok());
+    assert!(rt; heap.begin().is_err());
+    assert!(rt; heap.quantum(300).is_ok());
+    assert!(rt; heap.quantum(1000).is_ok());
+    assert!(rt; heap.quantum(255).is_err());
+    assert!(rt;
+        heap.pacer().figures()
+            == Figures {
+                quanta: 0,
+                cycles: 0,
+                most_quanta: 0
+            }
+    );
+    assert!(rt; !heap.heap().phase().is_idle());
+}

@@ -1,0 +1,123 @@
+"""Copies of functions: where several edits turn one function, each but the first turns a copy of it that stands behind it, with
+copies of its proofs, so that one trial holds them all."""
+import functools
+import os
+import re
+
+import functions
+
+# What stands behind a function's name in those of its copies, before their number.
+MARK = "_turned"
+# What may lie in the folder of a function's proofs, at any depth.
+PROOFS = {"Invariants.antt", "Answers.antt", "Proof.antt"}
+
+
+def name_of(path, number):
+    """The path of a function's copy of this number, where the function itself has 0."""
+    return f"{path}{MARK}{number}" if number else path
+
+
+def of(path):
+    """The path of the function of which this is a copy, or of the function itself, and the copy's number."""
+    name, _, number = path.rpartition(MARK)
+    return (name, int(number)) if name and number.isdigit() else (path, 0)
+
+
+@functools.cache
+def proof_texts(folder):
+    """The texts of proofs/ in a crate's folder, by their paths in it."""
+    found = {}
+    for at, _, names in os.walk(f"{folder}/proofs"):
+        for name in names:
+            with open(f"{at}/{name}", encoding="utf-8") as file:
+                found[os.path.relpath(f"{at}/{name}", folder)] = file.read()
+    return found
+
+
+def texts_of(folder, proofs):
+    """The texts of the function's proofs that lie in this folder, by their paths in the crate's."""
+    return {path: text for path, text in proof_texts(folder).items() if path.startswith(f"{proofs}/")}
+
+
+def module_of(proofs):
+    """What a function's own modules are called behind `proofs` or `contracts`, as a pattern."""
+    return r"\." + re.escape(proofs.removeprefix("proofs/").replace("/", "."))
+
+
+def calls_itself(path, body):
+    """Whether a function's body may name the function itself."""
+    above, _, name = path.rpartition("::")
+    return bool(re.search(rf"(?<![\w.])(?:self\.|Self::|{above.rpartition('::')[2] or 'self'}::|(?<!:)){name}\b", body))
+
+
+@functools.cache
+def can_be(folder, path):
+    """Whether there can be copies of the function with this path: it stands in no cycle of calls, and nothing else names the
+    modules that the prover makes of it, but for its theorem."""
+    proofs = functions.proofs_of(folder, path)
+    found = [(file, it) for file, them in functions.functions_below(folder).items() for it in them if it.path == path]
+    if not proofs or len(found) != 1 or not found[0][1].is_plain:
+        return False
+    file, function = found[0]
+    text = functions.hidden(functions.texts_of(folder)[file])
+    if re.search(r"#\[cycle|#!\[", text[function.start : function.name]) or calls_itself(path, text[function.body : function.end]):
+        return False
+    own = texts_of(folder, proofs)
+    others = (it for file, it in proof_texts(folder).items() if file not in own)
+    named = re.compile(rf"\bproofs{module_of(proofs)}\.(?!Met\b)[A-Z]")
+    return all(os.path.basename(it) in PROOFS for it in own) and not any(named.search(it) for it in others)
+
+
+def apart(pairs):
+    """Edits with the paths that they turn, where those of one function turn the function itself and copies of it."""
+    turned, found = {}, []
+    for edit, paths in pairs:
+        if len(paths) == 1 and can_be(edit.crate.folder, paths[0]):
+            number = turned[paths[0]] = turned.get(paths[0], -1) + 1
+            # (the first copy is one that no edit turns)
+            paths = (name_of(paths[0], number and number + 1),)
+        found.append((edit, paths))
+    return found
+
+
+def control(crate):
+    """The path of a copy of the crate's shortest function of which there can be one: a copy that no edit turns is to be proved. None
+    where there is no such function."""
+    found = [it for them in functions.functions_below(crate.folder).values() for it in them if it.end - it.body > len("{\n}")]
+    short = sorted(found, key=lambda it: (it.end - it.body, it.path))
+    return next((name_of(it.path, 1) for it in short if can_be(crate.folder, it.path)), None)
+
+
+def place(folder, path, turns):
+    """What is put into a file of the crate's folder for the copy with this path, with what is turned in it: where it begins and ends."""
+    original, _ = of(path)
+    below = functions.functions_below(folder)
+    file, function = next((file, it) for file, them in below.items() for it in them if it.path == original)
+    with open(f"{folder}/{file}", encoding="utf-8") as opened:
+        text = opened.read()
+    parts = [text[function.start : function.name], path.rpartition("::")[2]]
+    at = function.name + len(original.rpartition("::")[2])
+    for _, start, end, new in sorted(turns, key=lambda it: it[1]):
+        parts += [text[at:start], new]
+        at = end
+    return file, function.end, function.end, "\n" + "".join([*parts, text[at : function.end]])
+
+
+def places(edit, paths):
+    """What is changed where an edit turns these functions, or a copy."""
+    return [place(edit.crate.folder, paths[0], edit.places)] if of(paths[0])[1] else edit.places
+
+
+def proofs(folder, path):
+    """The texts of the proofs of a function's copy, by their paths in the crate's folder."""
+    original, number = of(path)
+    if not number:
+        return {}
+    one, other = functions.proofs_of(folder, original), functions.proofs_of(folder, path)
+    was, now = original.rpartition("::")[2], path.rpartition("::")[2]
+    module = re.compile(rf"\b(proofs|contracts){module_of(one)}\b")
+    made = {}
+    for file, text in texts_of(folder, one).items():
+        text = module.sub(lambda found: found[0].removesuffix(was) + now, text)
+        made[other + file.removeprefix(one)] = re.sub(rf"\b{was}_spec\b", f"{now}_spec", text)
+    return made

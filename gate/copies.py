@@ -68,14 +68,27 @@ def can_be(folder, path):
     return all(os.path.basename(it) in PROOFS for it in own) and not any(named.search(it) for it in others)
 
 
-def apart(pairs):
-    """Edits with the paths that they turn, where those of one function turn the function itself and copies of it."""
+def restated(edit):
+    """The path of the function in which an edit turns the contract, and nothing outside; none where there can be no copy of it."""
+    folder, files = edit.crate.folder, functions.functions_below(edit.crate.folder)
+    for file, function in ((file, it) for file, them in files.items() for it in them):
+        if all(path == file and function.name < start and end <= function.end for path, start, end, _ in edit.places):
+            return (function.path,) if can_be(folder, function.path) else ()
+    return ()
+
+
+def apart(edits):
+    """Edits, each with the paths of the functions that it turns: of those that turn one function all but the first turn copies of it,
+    and so does what turns its contract too, by which others stand; none where an edit turns something else."""
     turned, found = {}, []
-    for edit, paths in pairs:
+    for edit in edits:
+        bodies = functions.turned_by(edit)
+        paths = bodies or restated(edit)
         if len(paths) == 1 and can_be(edit.crate.folder, paths[0]):
-            number = turned[paths[0]] = turned.get(paths[0], -1) + 1
             # (the first copy is one that no edit turns)
-            paths = (name_of(paths[0], number and number + 1),)
+            number = turned.get(paths[0], 0 if bodies else 2)
+            turned[paths[0]] = max(number, 1) + 1
+            paths = (name_of(paths[0], number),)
         found.append((edit, paths))
     return found
 

@@ -84,14 +84,14 @@ def rounds(pairs):
 
 
 def planned(crate, edits, begins=False):
-    """The trials of a crate's edits: of one function's bodies all but the first in copies of it, or in other trials; what is no
-    function's body alone, over the functions that it says refuse it, or else over the whole crate. Where none takes the whole crate,
-    and nothing is proved that they begin with, the first trial of bodies leads, with as many as there are."""
-    pairs = [(it, functions.turned_by(it)) for it in edits]
+    """The trials of a crate's edits: of one function's bodies all but the first in copies of it, or in other trials; what turns more
+    than one function, over the functions that it says refuse it, or else over the whole crate. Where none takes the whole crate, and
+    nothing is proved that they begin with, the first trial of bodies leads, with as many as there are."""
+    pairs = copies.apart(edits)
     named = [Trial(crate, [it], [it.refused_by]) for it, paths in pairs if not paths and it.refused_by]
     alone = [Trial(crate, [it], [()]) for it, paths in pairs if not paths and not it.refused_by]
     trials = []
-    for number, them in enumerate(rounds(copies.apart([it for it in pairs if it[1]]))):
+    for number, them in enumerate(rounds([it for it in pairs if it[1]])):
         leads = begins and not alone and not number
         size = len(them) if leads else -(-len(them) // -(-len(them) // MOST))
         for at in range(0, len(them), size):

@@ -151,6 +151,8 @@ CASES = [
     ("says_what_would_refuse_another", "2 * n", "n * 2", NOT_REFUSED, ""),
     ("says_what_has_no_answers", "2 * n", "n + n", NOT_REFUSED, ""),
     ("says_what_refuses_what_cannot_be_read", "2 * n", "2 * m", BAD, ""),
+    ("asks_for_another_limit", "limit_of 3 }", "limit_of 4 }", REFUSED, BY_HAND),
+    ("asks_for_seven_as_a_sum", "result ≡ 7 }", "result ≡ 3 + 4 }", NOT_REFUSED, ""),
     ("sums_to_seven_too", "4 + 3", "2 + 5", NOT_REFUSED, ""),
     ("has_another_type", "1 - 1", "true", BAD, ""),
     ("is_nowhere", "8 + 8", "9 + 9", BAD, ""),

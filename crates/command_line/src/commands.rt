@@ -116,7 +116,7 @@ fn draw<'a>(alloc: Global) -> Result<Command<'a>, AllocError>
 fn pages<'a>(alloc: Global) -> Result<Command<'a>, AllocError>
     ensures { IfOk result (IsSubcommand words.pages) }
 {
-    let about = "Play a trace and tell how many pages suffice for it";
+    let about = "Play a trace and tell what it needs, in blocks and in pages";
     let pace = "Tell what the pace needs, whenever its cycles begin";
     let load = "Tell what the load in this file needs, in TOML, and whether the trace keeps to it";
     let plan = "Tell the plans by which a heap paces itself, for the most words that are live";

@@ -45,9 +45,10 @@ def module_of(proofs):
 
 
 def calls_itself(path, body):
-    """Whether a function's body may name the function itself."""
+    """Whether a function's body calls the function itself, or names it by its type."""
     above, _, name = path.rpartition("::")
-    return bool(re.search(rf"(?<![\w.])(?:self\.|Self::|{above.rpartition('::')[2] or 'self'}::|(?<!:)){name}\b", body))
+    of_type = rf"(?<![\w.])(?:self\.|Self::|{above.rpartition('::')[2] or 'self'}::){name}\b"
+    return bool(re.search(rf"{of_type}|(?<![\w.:]){name}\s*\(", body))
 
 
 @functools.cache

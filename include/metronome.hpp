@@ -14,8 +14,10 @@
 
 #include "metronome_heap.hpp"
 
+#include <array>
 #include <cstddef>
 #include <cstdint>
+#include <initializer_list>
 #include <memory>
 #include <new>
 #include <optional>
@@ -89,6 +91,22 @@ public:
         done = progress.done;
         return progress.status;
     }
+    // What as many reference cells hold, from the first on, into those of another root's object, from its cell to_first on. Each is
+    // loaded into `through` and stored from there: tells how many of these loads and stores were done.
+    std::uint32_t try_copy_refs(std::uint32_t first, Root &to, std::uint32_t to_first, std::uint32_t count, Root &through,
+                                std::uint32_t &done) const noexcept {
+        if (const std::uint32_t why = beside(to)) return why;
+        if (const std::uint32_t why = beside(through)) return why;
+        const metronome_progress progress =
+            metronome_copy_refs(owner->handle(), owner->number, through.slot, slot, first, to.slot, to_first, count);
+        done = progress.done;
+        return progress.status;
+    }
+    // What the other root holds, into this one, and null into the other.
+    std::uint32_t try_take(Root &from) noexcept {
+        if (const std::uint32_t why = beside(from)) return why;
+        return metronome_move(owner->handle(), owner->number, slot, from.slot).status;
+    }
     // What the other root holds, into this one.
     std::uint32_t try_assign(const Root &from) noexcept {
         if (const std::uint32_t why = beside(from)) return why;
@@ -144,6 +162,12 @@ public:
         std::uint32_t done = 0;
         detail::need(try_put_words(first, words, count, done));
     }
+    // At most 252 references at once.
+    void copy_refs(std::uint32_t first, Root &to, std::uint32_t to_first, std::uint32_t count, Root &through) const {
+        std::uint32_t done = 0;
+        detail::need(try_copy_refs(first, to, to_first, count, through, done));
+    }
+    void take(Root &from) { detail::need(try_take(from)); }
     // Whether it was stored: the cell was `old`.
     bool compare_put(std::uint32_t i, std::uint64_t old, std::uint64_t replacement) {
         bool stored = false;
@@ -223,6 +247,22 @@ public:
         if (const std::uint32_t why = holds(into)) return why;
         return detail::status_of(metronome_new_plain(state->handle(), state->number, into.slot, refs, words));
     }
+    // A new object, whose first reference cells hold what so many roots do, and its first word cells so many words: at most 252
+    // together. Tells how many commands were done: the new object, each store and each word.
+    std::uint32_t try_new_with(std::uint32_t refs, std::uint32_t words, const Root *const *held, std::size_t held_count,
+                               const std::uint64_t *contents, std::size_t word_count, Root &into, std::uint32_t &done) noexcept {
+        std::array<std::uint32_t, 252> slots{};
+        if (const std::uint32_t why = holds(into)) return why;
+        if (held_count > slots.size()) return METRONOME_TOO_LARGE;
+        for (std::size_t i = 0; i < held_count; i++) {
+            if (const std::uint32_t why = holds(*held[i])) return why;
+            slots[i] = held[i]->slot;
+        }
+        const metronome_progress progress = metronome_new_with(state->handle(), state->number, into.slot, refs, words, slots.data(),
+                                                               held_count, contents, word_count);
+        done = progress.done;
+        return progress.status;
+    }
     std::uint32_t try_new_refs(std::uint32_t refs, Root &into) noexcept {
         if (const std::uint32_t why = holds(into)) return why;
         return detail::status_of(metronome_new_refs(state->handle(), state->number, into.slot, refs));
@@ -264,6 +304,13 @@ public:
         return made;
     }
     void new_plain(std::uint32_t refs, std::uint32_t words, Root &into) { detail::need(try_new_plain(refs, words, into)); }
+    Root new_with(std::uint32_t refs, std::uint32_t words, std::initializer_list<const Root *> held,
+                  std::initializer_list<std::uint64_t> contents) {
+        Root made = null();
+        std::uint32_t done = 0;
+        detail::need(try_new_with(refs, words, held.begin(), held.size(), contents.begin(), contents.size(), made, done));
+        return made;
+    }
     Root new_refs(std::uint32_t refs) {
         Root made = null();
         detail::need(try_new_refs(refs, made));

@@ -89,18 +89,24 @@ static void references(void) {
     IS(told(metronome_copy_refs(&heap, 0, 6, 3, 0, 5, 0, 253), 0, METRONOME_TOO_LARGE));
 }
 
-/* Each on a handle that holds nothing. */
-static void no_heap(void) {
-    metronome closed = METRONOME_CLOSED;
+/* Each on a handle, of a mutator, for which none of it can be done: it says why, and has read nothing. */
+static void each_refused(metronome *handle, uint32_t mutator, uint32_t why) {
     const uint64_t in[] = { 1 };
     const uint32_t held[] = { 0 };
     uint64_t out[] = { 9 };
-    IS(told(metronome_clear_slots(&closed, 0, 0, 1), 0, METRONOME_NO_HEAP));
-    IS(told(metronome_move(&closed, 0, 0, 1), 0, METRONOME_NO_HEAP));
-    IS(told(metronome_get_words(&closed, 0, 0, 0, out, 1), 0, METRONOME_NO_HEAP) && out[0] == 9);
-    IS(told(metronome_put_words(&closed, 0, 0, 0, in, 1), 0, METRONOME_NO_HEAP));
-    IS(told(metronome_copy_refs(&closed, 0, 0, 0, 0, 1, 0, 1), 0, METRONOME_NO_HEAP));
-    IS(told(metronome_new_with(&closed, 0, 0, 1, 1, held, 1, in, 1), 0, METRONOME_NO_HEAP));
+    IS(told(metronome_clear_slots(handle, mutator, 0, 1), 0, why));
+    IS(told(metronome_move(handle, mutator, 0, 1), 0, why));
+    IS(told(metronome_get_words(handle, mutator, 0, 0, out, 1), 0, why) && out[0] == 9);
+    IS(told(metronome_put_words(handle, mutator, 0, 0, in, 1), 0, why));
+    IS(told(metronome_copy_refs(handle, mutator, 0, 0, 0, 1, 0, 1), 0, why));
+    IS(told(metronome_new_with(handle, mutator, 0, 1, 1, held, 1, in, 1), 0, why));
+}
+
+/* Handles that hold nothing: one that is closed, and what is none. */
+static void no_heap(void) {
+    metronome closed = METRONOME_CLOSED, none = { &closed, 1 };
+    each_refused(&closed, 0, METRONOME_NO_HEAP);
+    each_refused(&none, 0, METRONOME_BAD_HANDLE);
 }
 
 int main(void) {
@@ -114,6 +120,8 @@ int main(void) {
     words();
     slots();
     references();
+    each_refused(&heap, 1, METRONOME_NOT_LIVE);
+    each_refused(&heap, 2, METRONOME_BAD_SLOT);
     metronome_destroy(&heap);
 #ifdef RECORDED
     IS(metronome_record_lost() == 0);

@@ -144,6 +144,40 @@ static void check_calls(Mutator &mutator) {
     CHECK(is);
 }
 
+// Calls that do a list of commands: what they tell where all are done, and where one is refused.
+static void check_lists(Mutator &mutator) {
+    std::optional<Root> a, b, c;
+    IS(METRONOME_OK, mutator.try_null(a));
+    IS(METRONOME_OK, mutator.try_null(b));
+    IS(METRONOME_OK, mutator.try_null(c));
+    const std::uint64_t in[] = { 7, 8, 9 };
+    std::uint64_t out[] = { 0, 0, 0 };
+    std::uint32_t done = 0;
+    IS(METRONOME_OK, mutator.try_new_words(3, *a));
+    const Root *const held[] = { &*a, &*b };
+    IS(METRONOME_OK, mutator.try_new_with(2, 3, held, 2, in, 3, *b, done));
+    CHECK(done == 6);
+    IS(METRONOME_BAD_INDEX, mutator.try_new_with(1, 0, held, 2, nullptr, 0, *c, done));
+    CHECK(done == 2);
+    IS(METRONOME_TOO_LARGE, mutator.try_new_with(1, 1, held, 2, nullptr, 251, *c, done));
+    IS(METRONOME_TOO_LARGE, mutator.try_new_with(1, 1, held, 253, nullptr, 0, *c, done));
+    IS(METRONOME_OK, b->try_get_words(0, out, 3, done));
+    CHECK(done == 3 && out[2] == 9);
+    IS(METRONOME_BAD_INDEX, a->try_put_words(2, in, 2, done));
+    CHECK(done == 1);
+    bool is = false;
+    IS(METRONOME_OK, b->try_copy_refs(0, *b, 1, 1, *c, done));
+    IS(METRONOME_OK, c->try_same(*a, is));
+    CHECK(is && done == 2);
+    IS(METRONOME_WRONG_KIND, a->try_copy_refs(0, *b, 0, 1, *c, done));
+    IS(METRONOME_TOO_LARGE, b->try_copy_refs(0, *b, 0, 253, *c, done));
+    IS(METRONOME_OK, c->try_take(*b));
+    IS(METRONOME_OK, b->try_is_null(is));
+    CHECK(is && done == 0);
+    IS(METRONOME_OK, c->try_get_words(0, out, 1, done));
+    CHECK(out[0] == 7);
+}
+
 // A root of one mutator beside one of another.
 static void check_strangers(Heap &heap, Mutator &mutator) {
     std::optional<Mutator> other;
@@ -156,6 +190,13 @@ static void check_strangers(Heap &heap, Mutator &mutator) {
     IS(METRONOME_OTHER_MUTATOR, own->try_store(0, *strange));
     IS(METRONOME_OTHER_MUTATOR, own->try_same(*strange, is));
     IS(METRONOME_OTHER_MUTATOR, mutator.try_new_refs(1, *strange));
+    std::uint32_t done = 7;
+    const Root *const held[] = { &*strange };
+    IS(METRONOME_OTHER_MUTATOR, mutator.try_new_with(1, 0, held, 1, nullptr, 0, *own, done));
+    IS(METRONOME_OTHER_MUTATOR, own->try_copy_refs(0, *strange, 0, 1, *own, done));
+    IS(METRONOME_OTHER_MUTATOR, own->try_copy_refs(0, *own, 0, 1, *strange, done));
+    IS(METRONOME_OTHER_MUTATOR, own->try_take(*strange));
+    CHECK(done == 7);
     strange.reset();
 }
 
@@ -194,6 +235,15 @@ static void check_throwing() {
     }
     CHECK(list.get(0) == 2 && list.load(0).get(0) == 1 && list.load(0).load(0).load(0).is_null());
     CHECK(list.compare_put(0, 2, 4) && !list.compare_put(0, 2, 5) && list.describe().shape.words == 1);
+    Root pair = mutator.new_with(2, 1, { &list, &list }, { 5 });
+    Root through = mutator.null(), other = mutator.new_refs(2);
+    pair.copy_refs(0, other, 0, 2, through);
+    CHECK(other.load(1).same(list) && pair.get(0) == 5);
+    other.take(pair);
+    CHECK(pair.is_null() && other.get(0) == 5);
+    throws(METRONOME_TOO_LARGE, "the object is too large", __LINE__, [&] { other.copy_refs(0, other, 0, 253, through); });
+    other.clear();
+    through.clear();
     mutator.store_static(0, list);
     CHECK(mutator.load_static(0).same(list) && !mutator.compare_static(0, mutator.null(), list));
     CHECK(heap.begin() && !heap.begin() && heap.quantum(256).units > 0 && heap.phase() != METRONOME_IDLE && heap.units() > 0);
@@ -227,6 +277,7 @@ int main() {
     IS(METRONOME_OK, Mutator::try_join(heap, 0, mutator));
     check_slots(heap, *mutator);
     check_calls(*mutator);
+    check_lists(*mutator);
     check_strangers(heap, *mutator);
     CHECK(roots_used(heap) == 0);
     check_throwing();

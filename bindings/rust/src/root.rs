@@ -142,7 +142,7 @@ impl<'m> Root<'m> {
     /// [`Root::get`], and as `TooLarge` where there is room for more.
     pub fn get_words(&self, first: u32, words: &mut [u64]) -> Result<()> {
         if self.mutator.is_recorded() && words.len() <= MOST_WORDS {
-            return words.iter_mut().zip(first..).try_for_each(|(word, i)| self.get(i).map(|told| *word = told));
+            return (0..).zip(words).try_for_each(|(i, word)| self.get(first.saturating_add(i)).map(|told| *word = told));
         }
         // SAFETY: the heap is open, and it and the words live through the call.
         let call =
@@ -154,7 +154,7 @@ impl<'m> Root<'m> {
     /// Refused as [`Root::get_words`].
     pub fn put_words(&self, first: u32, words: &[u64]) -> Result<()> {
         if self.mutator.is_recorded() && words.len() <= MOST_WORDS {
-            return words.iter().zip(first..).try_for_each(|(word, i)| self.put(i, *word));
+            return (0..).zip(words).try_for_each(|(i, word)| self.put(first.saturating_add(i), *word));
         }
         // SAFETY: the heap is open, and it and the words live through the call.
         let call =
@@ -166,15 +166,15 @@ impl<'m> Root<'m> {
     /// root's, from cell `to_first` on, one after the other: each by way of the root `through`, which holds the last one then.
     /// Refused as [`Root::load`], and as `TooLarge`.
     pub fn copy_refs(&self, first: u32, to: &Root<'_>, to_first: u32, count: u32, through: &Root<'_>) -> Result<()> {
+        let (by, into) = (through.slot_of(self.mutator)?, to.slot_of(self.mutator)?);
         if self.mutator.is_recorded() && count as usize <= MOST_WORDS {
             return (0..count).try_for_each(|i| {
                 self.load_into(first.saturating_add(i), through)?;
                 to.store(to_first.saturating_add(i), through)
             });
         }
-        let (through, to) = (through.slot_of(self.mutator)?, to.slot_of(self.mutator)?);
         // SAFETY: the heap is open, and lives through the call.
-        let call = |heap, m| unsafe { calls::metronome_copy_refs(heap, m, through, self.slot, first, to, to_first, count) };
+        let call = |heap, m| unsafe { calls::metronome_copy_refs(heap, m, by, self.slot, first, into, to_first, count) };
         self.mutator.list(call).all().map(drop)
     }
 

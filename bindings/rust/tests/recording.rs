@@ -132,6 +132,22 @@ fn a_line_that_is_not_taken_ends_the_recording_alone() -> Result<()> {
 }
 
 #[test]
+fn lists_of_commands_are_refused_as_they_are_unrecorded() -> Result<()> {
+    let settings = Settings { mutators: 2, live: 2, ..SMALL };
+    let recorded = Heap::recorded(&settings, Recording::new(Page::default(), Page::default()))?;
+    for heap in [Heap::new(&settings)?, recorded] {
+        let (mutator, other) = (heap.mutator(0)?, heap.mutator(1)?);
+        let (cell, through, strange) = (mutator.new_plain(1, 2)?, mutator.null()?, other.new_refs(1)?);
+        cell.store(0, &cell)?;
+        assert_eq!(cell.get_words(u32::MAX, &mut [0; 2]).err(), Some(Refusal::BadIndex));
+        assert_eq!(cell.put_words(u32::MAX, &[0; 2]).err(), Some(Refusal::BadIndex));
+        assert_eq!(cell.copy_refs(0, &strange, 0, 1, &through).err(), Some(Refusal::OtherMutator));
+        assert!(through.is_null());
+    }
+    Ok(())
+}
+
+#[test]
 fn what_is_refused_records_nothing() {
     let trace = Page::default();
     let faulty = Settings { pages: 0, ..SMALL };

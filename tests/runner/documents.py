@@ -4,6 +4,7 @@ A line '    $ COMMAND' of an indented block, or '$ COMMAND' of one between ``` l
 block, up to the next command or an empty line, are what it prints; a line '..' of them stands for any lines. Commands run in
 a new folder, which has bin/metronome and the examples, those of a document one after the other. Each run of the program ends with
 status 0 in them, and the command too, but for one that ends in a search which finds nothing (1); the error stream gets nothing.
+Where a command has `2>&1` a fault is shown, and the program ends with another status.
 """
 import os
 import re
@@ -65,7 +66,7 @@ class Document:
         faults = [] if is_as_wanted(wanted, ended.output) else [difference("output", wanted, ended.output)]
         if ended.errors:
             faults.append(difference("errors", b"", ended.errors))
-        if any(statuses):
+        if any(it == 0 if "2>&1" in shown.command else it for it in statuses):
             faults.append(f"  the program ended with status {', '.join(map(str, statuses))}")
         if ended.status != 0 and not (ended.status == 1 and SEARCH.fullmatch(shown.command)):
             faults.append(f"  status {ended.status}")

@@ -32,6 +32,7 @@ FILES = {
     "same.runs": "$ help\n> ..\n$ more\nas before\n",
     "taken.runs": "text: words\n$ taken <text\ntakes 2\n",
     "shown.md": "# It\n\n    $ bin/metronome help\n    help\n    $ bin/metronome help | grep -c other\n    0\n",
+    "fault.md": "# It\n\n    $ bin/metronome wrong 2>&1 | tail -n 1\n    wrong\n",
 }
 # How the program answers that is right, with each file.
 ANSWERS = {
@@ -44,6 +45,7 @@ ANSWERS = {
     "play config -": (0, "", ""),
     "help": (0, "help\n", ""),
     "more": (0, "help\n", ""),
+    "wrong": (4, "", "wrong\n"),
     "taken": (0, "", "", 2),
 }
 OF_FAULT = {
@@ -82,6 +84,8 @@ WRONG = [
     ("shown.md", "help", (7, "help\n", "")),
     ("shown.md", "help", (0, "", "help\n")),
     ("shown.md", "help", (0, "help\nmore\n", "")),
+    ("fault.md", "wrong", (0, "", "wrong\n")),
+    ("fault.md", "wrong", (4, "", "right\n")),
 ]
 # Files of cases that hold none, or in which some can't be read.
 UNREAD = {

@@ -114,7 +114,8 @@ pub extern "C" fn metronome_get_words_into(
     ensures many { most_cells < length words.old
         → (held_in heap.new ≡ held_in heap.old) × (words.new ≡ words.old) × (result ≡ too_many) }
 {
-    if words.len() > PLAIN_CELLS as usize {
+    let room = words.len();
+    if room > PLAIN_CELLS as usize {
         return MetronomeProgress::too_many();
     }
     MetronomeProgress::from_outcome(heap.read_words(mutator, obj, first, words))

@@ -60,7 +60,7 @@ static void check_texts(void) {
         { METRONOME_NULL_SLOT, "the slot holds null" },
         { METRONOME_BAD_INDEX, "no such cell" },
         { METRONOME_WRONG_KIND, "the object has no such cells" },
-        { METRONOME_TOO_LARGE, "the object is too large, or too many cells are named" },
+        { METRONOME_TOO_LARGE, "too large an object, or too many cells" },
         { METRONOME_IDENTITIES_SPENT, "all identities are spent" },
         { METRONOME_NO_SPACE, "no space" },
         { METRONOME_BAD_STATIC, "no such static" },

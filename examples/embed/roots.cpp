@@ -241,7 +241,7 @@ static void check_throwing() {
     CHECK(other.load(1).same(list) && pair.get(0) == 5);
     other.take(pair);
     CHECK(pair.is_null() && other.get(0) == 5);
-    throws(METRONOME_TOO_LARGE, "the object is too large, or too many cells are named", __LINE__, [&] { other.copy_refs(0, other, 0, 253, through); });
+    throws(METRONOME_TOO_LARGE, "too large an object, or too many cells", __LINE__, [&] { other.copy_refs(0, other, 0, 253, through); });
     other.clear();
     through.clear();
     mutator.store_static(0, list);

@@ -94,7 +94,7 @@ fn refusals_are_told() -> Result<()> {
         (cell.get(1).err(), Refusal::BadIndex, "no such cell"),
         (words.load(0).err(), Refusal::WrongKind, "the object has no such cells"),
         (mutator.null()?.get(0).err(), Refusal::NullSlot, "the slot holds null"),
-        (mutator.new_plain(200, 53).err(), Refusal::TooLarge, "the object is too large, or too many cells are named"),
+        (mutator.new_plain(200, 53).err(), Refusal::TooLarge, "too large an object, or too many cells"),
         (mutator.new_refs(4_000_000).err(), Refusal::NoSpace, "no space"),
         (mutator.load_static(1).err(), Refusal::BadStatic, "no such static"),
         (heap.quantum(255).err(), Refusal::BadBudget, "the budget is out of range"),

@@ -185,7 +185,7 @@ impl Status {
             Status::Refused(Refusal::NullSlot) => "the slot holds null",
             Status::Refused(Refusal::BadIndex) => "no such cell",
             Status::Refused(Refusal::WrongKind) => "the object has no such cells",
-            Status::Refused(Refusal::TooLarge) => "the object is too large, or too many cells are named",
+            Status::Refused(Refusal::TooLarge) => "too large an object, or too many cells",
             Status::Refused(Refusal::IdentitiesSpent) => "all identities are spent",
             Status::Refused(Refusal::NoSpace) => "no space",
             Status::Refused(Refusal::BadStatic) => "no such static",

@@ -159,7 +159,8 @@ static void check_lists(Mutator &mutator) {
     CHECK(done == 6);
     IS(METRONOME_BAD_INDEX, mutator.try_new_with(1, 0, held, 2, nullptr, 0, *c, done));
     CHECK(done == 2);
-    IS(METRONOME_TOO_LARGE, mutator.try_new_with(1, 1, held, 2, nullptr, 251, *c, done));
+    const std::uint64_t many[251] = {};
+    IS(METRONOME_TOO_LARGE, mutator.try_new_with(1, 1, held, 2, many, 251, *c, done));
     IS(METRONOME_TOO_LARGE, mutator.try_new_with(1, 1, held, 253, nullptr, 0, *c, done));
     IS(METRONOME_OK, b->try_get_words(0, out, 3, done));
     CHECK(done == 3 && out[2] == 9);

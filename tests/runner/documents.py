@@ -4,10 +4,12 @@ A line '    $ COMMAND' of an indented block, or '$ COMMAND' of one between ``` l
 block, up to the next command or an empty line, are what it prints; a line '..' of them stands for any lines. Commands run in
 a new folder, which has bin/metronome and the examples, those of a document one after the other. Each run of the program ends with
 status 0 in them, and the command too, but for one that ends in a search which finds nothing (1); the error stream gets nothing.
-Where a command has `2>&1` a fault is shown, and the program ends with another status.
+Where a command has `2>&1` a fault is shown, and the program ends with another status. One that begins with what isn't installed is
+left out, and told of.
 """
 import os
 import re
+import shutil
 import subprocess
 from dataclasses import dataclass
 
@@ -88,7 +90,7 @@ class Document:
             statuses = f"{aside}/statuses"
             with open(os.open(f"{folder}/bin/metronome", os.O_CREAT | os.O_WRONLY, 0o755), "w", encoding="utf-8") as file:
                 file.write(NOTING.format(program=program.path, statuses=statuses))
-            return [(it, *ran(it.command, folder, statuses)) for it in commands(lines)]
+            return [(it, *ran(it.command, folder, statuses)) for it in commands(lines) if is_installed(it.command)]
 
     def write(self, program):
         """Writes what its commands print into the document, but for those with a line '..'."""
@@ -108,6 +110,15 @@ def commands(lines):
         found = SHOWN.match(line)
         if found and bool(found[1]) != fenced:
             yield Shown(found[1], found[2], at + 1, end_of_block(lines, at + 1, found[1]))
+
+
+def is_installed(command):
+    """Whether the program is there with which a command begins; it is told where it isn't."""
+    word = command.split()[0]
+    if "/" in word or shutil.which(word):
+        return True
+    print(f"{word} isn't there, and this is left out: {command}", flush=True)
+    return False
 
 
 def end_of_block(lines, at, indent):

@@ -1,5 +1,5 @@
 -- The squares of pages, page after page, and the parts of one.
-use Rattle.std.proofs.Common.{◌≡◌, ℕ, suc, ◌+◌, ◌-◌, ◌*◌, ◌<◌, true, false, List, [], ◌∷◌, ◌++◌, length, drop, get_or, Option, None, Some, is_some, ap, ◌∙◌, sym, refl, add-one, arith}
+use Rattle.std.proofs.Common.{◌≡◌, ℕ, suc, ◌+◌, ◌-◌, ◌*◌, ◌<◌, true, false, List, [], ◌∷◌, ◌++◌, length, drop, get_or, Option, None, Some, is_some, ◌||◌, ap, ◌∙◌, sym, refl, add-one, arith}
 use Rattle.std.proofs.Math.Seq.{drop-cons}
 use Rattle.size_classes.specs.Sizes.{size_of}
 use Rattle.heap_model.specs.Pages.{Page, page_at, is_free}
@@ -15,7 +15,7 @@ use Rattle.pictures.specs.declared.layers.Layer.{Layer}
 use Rattle.pictures.specs.declared.squares.Squares.{Squares}
 use Rattle.pictures.specs.declared.squares.Squares.TheVariants.{Large, Middle, Small}
 use Rattle.pictures.specs.Lines.{each_from}
-use Rattle.pictures.specs.PageMap.{row_number, free_from, density_of, mark_of, mark_band, used_square, page_square, square, layer_path, layer_shown, strokes, each_shown, squares_shown}
+use Rattle.pictures.specs.PageMap.{row_number, free_from, density_of, mark_of, mark_band, used_square, page_square, square, layer_path, layer_shown, strokes, each_shown, squares_shown, is_marked, has_mark}
 use Rattle.pictures.specs.Squares.{squares_for, square_x, square_y, scale_of}
 
 -- what is drawn of the next page by its number, and of those behind it
@@ -23,6 +23,21 @@ pub page_on : (drawn : ℕ → Option Page → List Element) (pages : List (Opti
     → each_from drawn k (drop k pages) ≡ drawn k (get_or pages k None) ++ each_from drawn (k + 1) (drop (k + 1) pages)
 page_on drawn pages k l =
     ap (each_from drawn k) (drop-cons pages k None l) ∙ ap (λ n. drawn k (get_or pages k None) ++ each_from drawn (k + 1) (drop n pages)) (sym (add-one k))
+
+-- whether the next page has a mark, or one of those behind it
+mark_at : (layer : Layer) (pages : List (Option Page)) (k : ℕ) (page : Option PageView) → k < length pages → page ≡ view_of (page_at pages k)
+    → has_mark layer (drop k pages) ≡ is_marked layer page || has_mark layer (drop (k + 1) pages)
+mark_at layer pages k page l is =
+    ap (has_mark layer) (drop-cons pages k None l)
+    ∙ ap (λ v. is_marked layer v || has_mark layer (drop (suc k) pages)) (sym is) ∙ ap (λ n. is_marked layer page || has_mark layer (drop n pages)) (sym (add-one k))
+
+-- a page that has a mark
+pub mark_on : (layer : Layer) (pages : List (Option Page)) (k : ℕ) (page : Option PageView) → k < length pages → page ≡ view_of (page_at pages k) → is_marked layer page ≡ true → has_mark layer (drop k pages) ≡ true
+mark_on layer pages k page l is marked = mark_at layer pages k page l is ∙ ap (λ b. b || has_mark layer (drop (k + 1) pages)) marked
+
+-- a page that has none
+pub mark_not_on : (layer : Layer) (pages : List (Option Page)) (k : ℕ) (page : Option PageView) → k < length pages → page ≡ view_of (page_at pages k) → is_marked layer page ≡ false → has_mark layer (drop k pages) ≡ has_mark layer (drop (k + 1) pages)
+mark_not_on layer pages k page l is plain = mark_at layer pages k page l is ∙ ap (λ b. b || has_mark layer (drop (k + 1) pages)) plain
 
 -- a layer, in parts
 pub layer_is : (pages : List (Option Page)) (layer : Layer) (path : Element) → path ≡ layer_path layer → layer_shown pages layer ≡ (path ∷ []) ++ (strokes pages layer ++ PathEnd ∷ [])

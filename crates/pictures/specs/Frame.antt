@@ -1,5 +1,5 @@
 -- What all pictures have: a title on white paper, and a legend.
-use Rattle.std.specs.Prelude.{ℕ, ◌+◌, ◌*◌, List, [], ◌∷◌}
+use Rattle.std.specs.Prelude.{ℕ, ◌+◌, ◌*◌, Bool, if◌then◌else◌, List, [], ◌∷◌, Option, Some, None}
 use Rattle.pictures.specs.declared.colour.Colour.{Colour}
 use Rattle.pictures.specs.declared.colour.Colour.TheVariants.{White}
 use Rattle.pictures.specs.declared.caption.Words.{Words}
@@ -20,3 +20,7 @@ swatch place colour = Rectangle (20 + 130 * place) 48 14 14 colour
 -- what a colour of the legend means, at a place counted from 0 on
 abbrev pub meaning : ℕ → Words → Element
 meaning place words = Text (40 + 130 * place) 60 12 Start (captions.Words words)
+
+-- an element of a legend, which has it only where the picture has what it tells of
+abbrev pub told_if : Bool → Element → Option Element
+told_if there element = if there then Some element else None

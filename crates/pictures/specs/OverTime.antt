@@ -1,5 +1,6 @@
 -- The picture of a heap over a run, from samples of it.
-use Rattle.std.specs.Prelude.{ℕ, ◌+◌, ◌-◌, ◌*◌, min, nat_lt, Bool, if◌then◌else◌, List, [], ◌∷◌, ◌++◌, length, take, slice_get, option_map, Option, Some, None}
+use Rattle.std.specs.Prelude.{ℕ, ◌+◌, ◌-◌, ◌*◌, min, nat_lt, Bool, if◌then◌else◌, List, [], ◌∷◌, ◌++◌, length, take, slice_get, option_map, is_some, Option, Some, None}
+use Rattle.std.specs.List.{list_any}
 use Rattle.heap_model.specs.Pages.{free_pages}
 use Rattle.heap_model.specs.State.{HeapState}
 use Rattle.nodes.specs.Copies.{copies_in}
@@ -11,13 +12,14 @@ use Rattle.pictures.specs.declared.caption.Caption.TheVariants.{Words}
 use Rattle.pictures.specs.declared.element.Anchor.TheVariants.{Start, Middle, End}
 use Rattle.pictures.specs.declared.element.Element.{Element}
 use Rattle.pictures.specs.declared.element.Element.TheVariants.{Rectangle, Veil, Text, Close}
+use Rattle.pictures.specs.declared.sample.Phases.{Phases}
 use Rattle.pictures.specs.declared.sample.Sample.{Sample}
 use Rattle.pictures.specs.declared.over_time.Scale.{Scale}
 use Rattle.pictures.specs.declared.over_time.TheConstants.{MOST_SAMPLES}
 use Rattle.pictures.specs.Axes.{line_x, height_of, axis_numbers}
 use Rattle.pictures.specs.Joining.{phases_of}
 use Rattle.pictures.specs.Elements.{svg_text}
-use Rattle.pictures.specs.Frame.{frame, swatch, meaning}
+use Rattle.pictures.specs.Frame.{frame, swatch, meaning, told_if}
 use Rattle.pictures.specs.Lines.{present}
 
 -- what a heap is like after a line: the phase of its cycle, its pages in use and, where they are counted, its objects
@@ -65,30 +67,57 @@ samples_from scale [] = []
 samples_from scale (s ∷ later) =
     present (sample_marks scale s (next_x scale.lines (slice_get later 0))) ++ samples_from scale later
 
+-- whether the pages in use rise above the least, within the ticks of a sample
+abbrev pub rises : Scale → Sample → Bool
+rises scale s = nat_lt (height_of s.least_pages scale.pages) (height_of s.most_pages scale.pages)
+
+-- the phases of samples
+abbrev pub phases_in : List Sample → Phases
+phases_in samples = record {
+  roots = list_any (λ s. s.phases.roots) samples;
+  marking = list_any (λ s. s.phases.marking) samples;
+  sweeping = list_any (λ s. s.phases.sweeping) samples;
+  moving = list_any (λ s. s.phases.moving) samples;
+}
+
+-- what the colours mean that there are; the objects stand in the legend as the dash that they are
+abbrev pub time_legend : Scale → List Sample → List (Option Element)
+time_legend scale samples =
+    let most = list_any (rises scale) samples in
+    let counted = list_any (λ s. is_some s.objects) samples in
+    let phases = phases_in samples in
+    Some (swatch 0 Sky) ∷ Some (meaning 0 LeastPages)
+    ∷ told_if most (Veil 150 48 14 14 23 Blue) ∷ told_if most (meaning 1 MostPages)
+    ∷ told_if counted (Rectangle 280 54 14 3 Blue) ∷ told_if counted (meaning 2 Objects)
+    ∷ told_if phases.roots (swatch 3 Yellow) ∷ told_if phases.roots (meaning 3 Roots)
+    ∷ told_if phases.marking (swatch 4 Orange) ∷ told_if phases.marking (meaning 4 Marking)
+    ∷ told_if phases.sweeping (swatch 5 Green) ∷ told_if phases.sweeping (meaning 5 Sweeping)
+    ∷ told_if phases.moving (swatch 6 Purple) ∷ told_if phases.moving (meaning 6 Moving) ∷ []
+
 -- the numbers of the axes, and the samples
 abbrev pub time_shown : Scale → List Sample → List Element
 time_shown scale samples =
     axis_numbers Lines scale.lines
     ++ (axis_numbers Pages scale.pages ++ (axis_numbers Objects_axis scale.objects ++ samples_from scale samples))
 
+-- the legend, and what it explains
+abbrev pub time_drawn : Scale → List Sample → List Element
+time_drawn scale samples = present (time_legend scale samples) ++ time_shown scale samples
+
 -- what stands around the picture of a heap over time
 abbrev pub time_frame : List Element
 time_frame = frame 1200 528 HeapOverTime
 
--- what the colours mean, and the names of the axes; the objects stand in the legend as the dash that they are
+-- the names of the axes
 abbrev pub time_axes : List Element
 time_axes =
-    swatch 0 Sky ∷ meaning 0 LeastPages ∷ Veil 150 48 14 14 23 Blue ∷ meaning 1 MostPages
-    ∷ Rectangle 280 54 14 3 Blue ∷ meaning 2 Objects
-    ∷ swatch 3 Yellow ∷ meaning 3 Roots ∷ swatch 4 Orange ∷ meaning 4 Marking ∷ swatch 5 Green ∷ meaning 5 Sweeping
-    ∷ swatch 6 Purple ∷ meaning 6 Moving
-    ∷ Text 20 86 11 Start (Words PagesInUse) ∷ Text 20 276 11 Start (Words Objects)
+    Text 20 86 11 Start (Words PagesInUse) ∷ Text 20 276 11 Start (Words Objects)
     ∷ Text 72 465 11 End (Words PhaseName) ∷ Text 620 514 11 Middle (Words LinesOfTrace)
     ∷ []
 
 -- the elements of the picture of a heap over time
 abbrev pub time_chart : Scale → List Sample → List Element
-time_chart scale samples = time_frame ++ (time_axes ++ (time_shown scale samples ++ Close ∷ []))
+time_chart scale samples = time_frame ++ (time_axes ++ (time_drawn scale samples ++ Close ∷ []))
 
 -- the text of the picture, which has the first samples alone
 abbrev pub time_picture : Scale → List Sample → List ℕ

@@ -1,6 +1,7 @@
 -- The map of the pages of a heap: a square for each page in use, in rows, with bars of free pages between them.
-use Rattle.std.specs.Prelude.{ℕ, zero, suc, Bool, true, false, ◌+◌, ◌-◌, ◌*◌, ◌%◌, min, ◌==◌, not, ◌&&◌, if◌then◌else◌, List, [], ◌∷◌, ◌++◌, length, Option, Some, None, option_to_list}
+use Rattle.std.specs.Prelude.{ℕ, zero, suc, Bool, true, false, nat_lt, ◌+◌, ◌-◌, ◌*◌, ◌%◌, min, ◌==◌, not, ◌&&◌, if◌then◌else◌, List, [], ◌∷◌, ◌++◌, length, Option, Some, None, option_to_list}
 use Rattle.std.specs.Int.{div_ceil}
+use Rattle.std.specs.List.{list_any}
 use Rattle.size_classes.specs.Sizes.{size_of, blocks_in}
 use Rattle.heap_model.specs.Pages.{Page, page_at, is_free, free_pages}
 use Rattle.heap_model.specs.State.{HeapState}
@@ -22,8 +23,8 @@ use Rattle.pictures.specs.declared.squares.Squares.{Squares}
 use Rattle.pictures.specs.declared.squares.Squares.TheVariants.{Small}
 use Rattle.pictures.specs.Captions.{phase_words}
 use Rattle.pictures.specs.Elements.{svg_text}
-use Rattle.pictures.specs.Frame.{frame, swatch, meaning}
-use Rattle.pictures.specs.Lines.{each_from}
+use Rattle.pictures.specs.Frame.{frame, swatch, meaning, told_if}
+use Rattle.pictures.specs.Lines.{each_from, present}
 use Rattle.pictures.specs.Squares.{squares_for, scale_of, row_of, square_x, square_y, map_height}
 
 -- the number of a page whose square is the first of a row
@@ -162,20 +163,43 @@ abbrev pub number_words : Squares → Words
 number_words Small = NoNumbers
 number_words squares = NumberOfWords
 
--- the phase, the units spent in the cycle that runs, or else in the last one, all pages, and the free ones; what
--- the colours mean; and how many old copies there are
+-- the phase, the units spent in the cycle that runs, or else in the last one, all pages, and the free ones
 abbrev pub map_told : HeapState → List Element
 map_told h =
-    Text 1180 30 13 End (Heap (phase_words h.phase) h.units (length h.store.pages) (free_pages h.store.pages))
-    ∷ swatch 0 Pale ∷ meaning 0 FreePage
-    ∷ Veil 150 48 14 14 40 Blue ∷ meaning 1 FewAllocated ∷ Veil 280 48 14 14 85 Blue ∷ meaning 2 AllAllocated
-    ∷ Rectangle 410 57 14 5 Orange ∷ meaning 3 EvacuatingPage ∷ Rectangle 540 57 14 5 Yellow ∷ meaning 4 TargetPage
-    ∷ meaning 5 (number_words (squares_for (length h.store.pages)))
-    ∷ Text 1180 60 12 End (OldCopies (copies_in h.store).old) ∷ []
+    Text 1180 30 13 End (Heap (phase_words h.phase) h.units (length h.store.pages) (free_pages h.store.pages)) ∷ []
+
+-- whether a page in use has the mark of a layer
+abbrev pub is_marked : Layer → Option PageView → Bool
+is_marked layer None = false
+is_marked layer (Some v) = has layer v
+
+-- whether one of these pages has it
+abbrev pub has_mark : Layer → List (Option Page) → Bool
+has_mark layer pages = list_any (λ page. is_marked layer (view_of page)) pages
+
+-- what the colours that there are mean, and how many old copies there are
+abbrev pub map_legend : HeapState → List (Option Element)
+map_legend h =
+    let pages = h.store.pages in
+    let free = nat_lt 0 (free_pages pages) in
+    let used = nat_lt (free_pages pages) (length pages) in
+    let evacuating = has_mark Evacuating pages in
+    let target = has_mark Target pages in
+    told_if free (swatch 0 Pale) ∷ told_if free (meaning 0 FreePage)
+    ∷ told_if used (Veil 150 48 14 14 40 Blue) ∷ told_if used (meaning 1 FewAllocated)
+    ∷ told_if used (Veil 280 48 14 14 85 Blue) ∷ told_if used (meaning 2 AllAllocated)
+    ∷ told_if evacuating (Rectangle 410 57 14 5 Orange) ∷ told_if evacuating (meaning 3 EvacuatingPage)
+    ∷ told_if target (Rectangle 540 57 14 5 Yellow) ∷ told_if target (meaning 4 TargetPage)
+    ∷ told_if used (meaning 5 (number_words (squares_for (length pages))))
+    ∷ Some (Text 1180 60 12 End (OldCopies (copies_in h.store).old)) ∷ []
 
 -- the squares of all pages, as large as may be
+abbrev pub map_squares : HeapState → List Element
+map_squares h = squares_shown (squares_for (length h.store.pages)) h.store.pages
+
+-- the legend, and the squares
 abbrev pub map_shown : HeapState → List Element
-map_shown h = squares_shown (squares_for (length h.store.pages)) h.store.pages
+map_shown h = present (map_legend h) ++ map_squares h
 
 -- the elements of the picture of pages
 abbrev pub page_map : HeapState → List Element

@@ -44,6 +44,13 @@ pub(crate) fn meaning(place: u32, words: Words) -> Element
     )
 }
 
+/// An element of a legend, which has it only where the picture has what it tells of.
+pub(crate) fn told_if(there: bool, element: Element) -> Option<Element>
+    ensures { result ≡ frames.told_if there element }
+{
+    if there { Some(element) } else { None }
+}
+
 /// Writes the beginning of a picture of this width and height, with a title, and what it tells.
 pub(crate) fn write_head<K: Sink>(
     width: u32,

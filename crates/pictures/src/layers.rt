@@ -2,6 +2,7 @@
 ghost use Rattle.std.specs.Prelude.{◌≡◌, ◌<◌, ◌≤◌, ◌+◌, ◌++◌, OnOk, OnErr, IfSome, option_to_list};
 ghost use Rattle.streams.specs.Streams.{GrowsByPart, failed};
 ghost use Rattle.pictures.specs.Elements.{svg_text};
+ghost use Rattle.pictures.specs.PageMap as maps;
 ghost use Rattle.pictures.specs.PageMap.{has, has_free, middle_of, layer_path, stroke_of, stroke_at, layer_shown, row_number, layers_shown, squares_shown};
 ghost use Rattle.pictures.specs.Squares.{square_x, square_y};
 ghost use Rattle.pictures.specs.declared.squares.Squares.TheVariants.{Small};
@@ -129,6 +130,29 @@ fn stroke_at(heap: &Heap, layer: Layer, number: u32) -> Option<Element>
     let (x, y) = (Squares::Small.x(number), Squares::Small.y(number));
     let bar = bar_length(heap, Squares::Small, number as usize) as u32;
     stroke(layer, x, y, bar, heap.page(number as usize))
+}
+
+/// Whether a page in use has the mark of a layer.
+fn is_marked(layer: Layer, page: Option<PageView>) -> bool
+    requires { IfSome page (λ v. v.allocated ≤ 512) }
+    ensures { result ≡ maps.is_marked layer page }
+{
+    match page {
+        None => false,
+        Some(page) => layer.has(&page),
+    }
+}
+
+/// Whether a page of a heap has it.
+pub(crate) fn has_mark(heap: &Heap, layer: Layer) -> bool
+    ensures { result ≡ maps.has_mark layer heap.now.store.pages }
+{
+    for number in 0..heap.pages() {
+        if is_marked(layer, heap.page(number)) {
+            return true;
+        }
+    }
+    false
 }
 
 /// Writes a line of a layer, if there is one.

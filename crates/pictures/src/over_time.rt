@@ -1,17 +1,18 @@
 //! The picture of a heap over a run.
-ghost use Rattle.std.specs.Prelude.{◌≡◌, ◌<◌, ◌≤◌, ◌+◌, ◌++◌, length, slice_get, OnOk, OnErr};
+ghost use Rattle.std.specs.Prelude.{◌≡◌, ◌<◌, ◌≤◌, ◌+◌, ◌++◌, length, slice_get, is_some, OnOk, OnErr};
 ghost use Rattle.streams.specs.Streams.{GrowsByPart, failed};
 ghost use Rattle.pictures.specs.Elements.{svg_text};
 ghost use Rattle.pictures.specs.Lines.{present};
+ghost use Rattle.std.specs.List.{list_any};
 ghost use Rattle.pictures.specs.OverTime as pictures;
-ghost use Rattle.pictures.specs.OverTime.{next_x, sample_marks, samples_from, time_axes, time_shown, time_chart, time_picture};
+ghost use Rattle.pictures.specs.OverTime.{next_x, sample_marks, samples_from, time_axes, time_legend, time_shown, time_drawn, time_chart, time_picture};
 
 use crate::axis::{Axis, height, write_axis, x_of};
 use crate::caption::{Caption, Words};
 use crate::colour::Colour;
 use crate::element::{Anchor, Element};
-use crate::frame::{meaning, swatch, write_head};
-use crate::sample::Sample;
+use crate::frame::{meaning, swatch, told_if, write_head};
+use crate::sample::{Phases, Sample};
 use crate::writing::{write_line, write_present};
 use streams::{Sink, WriteFailed};
 
@@ -135,6 +136,92 @@ fn write_samples<K: Sink>(
     Ok(())
 }
 
+/// Whether the pages in use rise above the least, within the ticks of a sample.
+fn any_rises(scale: &Scale, samples: &[Sample]) -> bool
+    ensures { result ≡ list_any (pictures.rises scale.now) samples.now }
+{
+    samples.iter().any(|sample| rises(scale, sample))
+}
+
+/// Whether those of a sample do.
+fn rises(scale: &Scale, sample: &Sample) -> bool
+    ensures { result ≡ pictures.rises scale.now sample.now }
+{
+    height(sample.least_pages, scale.pages) < height(sample.most_pages, scale.pages)
+}
+
+/// Whether objects were counted.
+fn any_counted(samples: &[Sample]) -> bool
+    ensures { result ≡ list_any (λ s. is_some s.objects) samples.now }
+{
+    samples.iter().any(|sample| sample.objects.is_some())
+}
+
+/// The phases of samples.
+fn phases_in(samples: &[Sample]) -> Phases
+    ensures { result ≡ pictures.phases_in samples.now }
+{
+    Phases {
+        roots: any_roots(samples),
+        marking: any_marking(samples),
+        sweeping: any_sweeping(samples),
+        moving: any_moving(samples),
+    }
+}
+
+/// Whether one of them was in the phase of roots.
+fn any_roots(samples: &[Sample]) -> bool
+    ensures { result ≡ list_any (λ s. s.phases.roots) samples.now }
+{
+    samples.iter().any(|sample| sample.phases.roots)
+}
+
+/// Whether one of them was in marking.
+fn any_marking(samples: &[Sample]) -> bool
+    ensures { result ≡ list_any (λ s. s.phases.marking) samples.now }
+{
+    samples.iter().any(|sample| sample.phases.marking)
+}
+
+/// Whether one of them was in sweeping.
+fn any_sweeping(samples: &[Sample]) -> bool
+    ensures { result ≡ list_any (λ s. s.phases.sweeping) samples.now }
+{
+    samples.iter().any(|sample| sample.phases.sweeping)
+}
+
+/// Whether one of them was in moving.
+fn any_moving(samples: &[Sample]) -> bool
+    ensures { result ≡ list_any (λ s. s.phases.moving) samples.now }
+{
+    samples.iter().any(|sample| sample.phases.moving)
+}
+
+/// What the colours mean that there are; the objects stand there as the dash that they are.
+fn legend(scale: &Scale, samples: &[Sample]) -> [Option<Element>; 14]
+    ensures { result ≡ time_legend scale.now samples.now }
+{
+    let most = any_rises(scale, samples);
+    let counted = any_counted(samples);
+    let phases = phases_in(samples);
+    [
+        Some(swatch(0, Colour::Sky)),
+        Some(meaning(0, Words::LeastPages)),
+        told_if(most, Element::Veil(150, 48, 14, 14, 23, Colour::Blue)),
+        told_if(most, meaning(1, Words::MostPages)),
+        told_if(counted, Element::Rectangle(280, 54, 14, 3, Colour::Blue)),
+        told_if(counted, meaning(2, Words::Objects)),
+        told_if(phases.roots, swatch(3, Colour::Yellow)),
+        told_if(phases.roots, meaning(3, Words::Roots)),
+        told_if(phases.marking, swatch(4, Colour::Orange)),
+        told_if(phases.marking, meaning(4, Words::Marking)),
+        told_if(phases.sweeping, swatch(5, Colour::Green)),
+        told_if(phases.sweeping, meaning(5, Words::Sweeping)),
+        told_if(phases.moving, swatch(6, Colour::Purple)),
+        told_if(phases.moving, meaning(6, Words::Moving)),
+    ]
+}
+
 /// Writes the numbers of the axes, and what is drawn of samples.
 fn write_shown<K: Sink>(scale: &Scale, samples: &[Sample], sink: &mut K) -> Result<(), WriteFailed>
     ensures ok { OnOk result (K.taken sink.new ≡ K.taken sink.old ++ svg_text (time_shown scale.now samples.now)) }
@@ -148,25 +235,22 @@ fn write_shown<K: Sink>(scale: &Scale, samples: &[Sample], sink: &mut K) -> Resu
     write_samples(scale, samples, sink)
 }
 
-/// What the colours mean, and the names of the axes.
-fn axes() -> [Element; 18]
+/// Writes the legend, and what it explains.
+fn write_drawn<K: Sink>(scale: &Scale, samples: &[Sample], sink: &mut K) -> Result<(), WriteFailed>
+    ensures ok { OnOk result (K.taken sink.new ≡ K.taken sink.old ++ svg_text (time_drawn scale.now samples.now)) }
+    ensures err { OnErr result (GrowsByPart (K.taken sink.old) (K.taken sink.new)
+        (svg_text (time_drawn scale.now samples.now))) }
+    ensures cause { K.failures sink.new ≡ K.failures sink.old + failed result }
+{
+    write_present(sink, &legend(scale, samples))?;
+    write_shown(scale, samples, sink)
+}
+
+/// The names of the axes.
+fn axes() -> [Element; 4]
     ensures { result ≡ time_axes }
 {
     [
-        swatch(0, Colour::Sky),
-        meaning(0, Words::LeastPages),
-        Element::Veil(150, 48, 14, 14, 23, Colour::Blue),
-        meaning(1, Words::MostPages),
-        Element::Rectangle(280, 54, 14, 3, Colour::Blue),
-        meaning(2, Words::Objects),
-        swatch(3, Colour::Yellow),
-        meaning(3, Words::Roots),
-        swatch(4, Colour::Orange),
-        meaning(4, Words::Marking),
-        swatch(5, Colour::Green),
-        meaning(5, Words::Sweeping),
-        swatch(6, Colour::Purple),
-        meaning(6, Words::Moving),
         Element::Text(20, 86, 11, Anchor::Start, Caption::Words(Words::PagesInUse)),
         Element::Text(20, 276, 11, Anchor::Start, Caption::Words(Words::Objects)),
         Element::Text(72, 465, 11, Anchor::End, Caption::Words(Words::PhaseName)),
@@ -188,7 +272,7 @@ fn draw_samples<K: Sink>(scale: &Scale, samples: &[Sample], sink: &mut K) -> Res
     ensures cause { K.failures sink.new ≡ K.failures sink.old + failed result }
 {
     write_head(1200, 528, Words::HeapOverTime, &axes(), sink)?;
-    write_shown(scale, samples, sink)?;
+    write_drawn(scale, samples, sink)?;
     write_line(sink, Element::Close)
 }
 
@@ -196,7 +280,8 @@ fn draw_samples<K: Sink>(scale: &Scale, samples: &[Sample], sink: &mut K) -> Res
 /// its trace, from the new heap before line 1 to the last line of the scale. Each sample is drawn from its line to that
 /// of the next: the pages in use as a bar, below it the objects, where they were counted, as a dash, and at the bottom
 /// the phase as a band of colours. The scale says for which numbers of pages and of objects the whole height stands;
-/// what is more is drawn as high, and a line after the last one of the scale as far. Axes have round numbers. Only the
+/// what is more is drawn as high, and a line after the last one of the scale as far. The legend has the colours that
+/// there are. Axes have round numbers. Only the
 /// first MOST_SAMPLES samples are drawn. It takes no memory. After an error, which comes only where the sink failed,
 /// the sink has taken a beginning of the document.
 pub fn draw_time<K: Sink>(

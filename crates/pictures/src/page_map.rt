@@ -3,17 +3,18 @@ ghost use Rattle.std.specs.Prelude.{◌≡◌, ◌<◌, ◌≤◌, ◌+◌, ◌^
 ghost use Rattle.streams.specs.Streams.{GrowsByPart, failed};
 ghost use Rattle.pictures.specs.Elements.{svg_text};
 ghost use Rattle.pictures.specs.PageMap as maps;
-ghost use Rattle.pictures.specs.PageMap.{row_number, free_from, free_bar, density_of, mark_of, used_square, page_square, drawn_of, map_shown, map_told, pages_picture};
+ghost use Rattle.pictures.specs.PageMap.{row_number, free_from, free_bar, density_of, mark_of, used_square, page_square, drawn_of, map_legend, map_squares, map_shown, map_told, pages_picture};
+ghost use Rattle.pictures.specs.Lines.{present};
 
 use crate::caption::{Caption, Words};
 use crate::colour::Colour;
 use crate::each_page::{PageDrawing, write_pages};
 use crate::element::{Anchor, Element};
-use crate::frame::{meaning, swatch, write_head};
-use crate::layers::write_small;
+use crate::frame::{meaning, swatch, told_if, write_head};
+use crate::layers::{Layer, has_mark, write_small};
 use crate::look::name_of;
 use crate::squares::{Squares, height};
-use crate::writing::{write_line, write_lines};
+use crate::writing::{write_line, write_lines, write_present};
 use machine::Heap;
 use pages::PageView;
 use streams::{Sink, WriteFailed};
@@ -212,8 +213,8 @@ impl PageDrawing for Squares {
 
 /// Writes the squares of all pages.
 fn write_squares<K: Sink>(heap: &Heap, sink: &mut K) -> Result<(), WriteFailed>
-    ensures ok { OnOk result (K.taken sink.new ≡ K.taken sink.old ++ svg_text (map_shown heap.now)) }
-    ensures err { OnErr result (GrowsByPart (K.taken sink.old) (K.taken sink.new) (svg_text (map_shown heap.now))) }
+    ensures ok { OnOk result (K.taken sink.new ≡ K.taken sink.old ++ svg_text (map_squares heap.now)) }
+    ensures err { OnErr result (GrowsByPart (K.taken sink.old) (K.taken sink.new) (svg_text (map_squares heap.now))) }
     ensures cause { K.failures sink.new ≡ K.failures sink.old + failed result }
 {
     match Squares::for_pages(heap.pages()) {
@@ -232,8 +233,8 @@ fn number_words(squares: Squares) -> Words
     }
 }
 
-/// What is said of the heap as a whole, and what the colours mean.
-fn legend(heap: &Heap) -> [Element; 13]
+/// What is said of the heap as a whole.
+fn summary(heap: &Heap) -> [Element; 1]
     ensures { result ≡ map_told heap.now }
 {
     let summary = Caption::Heap {
@@ -242,28 +243,51 @@ fn legend(heap: &Heap) -> [Element; 13]
         pages: heap.pages() as u64,
         free: heap.free_pages() as u64,
     };
-    let old = Caption::OldCopies(heap.copies().old as u64);
+    [Element::Text(1180, 30, 13, Anchor::End, summary)]
+}
+
+/// What the colours mean that there are, and how many old copies there are.
+fn legend(heap: &Heap) -> [Option<Element>; 12]
+    ensures { result ≡ map_legend heap.now }
+{
+    let free = 0 < heap.free_pages();
+    let used = heap.free_pages() < heap.pages();
+    let evacuating = has_mark(heap, Layer::Evacuating);
+    let target = has_mark(heap, Layer::Target);
     let numbers = number_words(Squares::for_pages(heap.pages()));
+    let old = Caption::OldCopies(heap.copies().old as u64);
     [
-        Element::Text(1180, 30, 13, Anchor::End, summary),
-        swatch(0, Colour::Pale),
-        meaning(0, Words::FreePage),
-        Element::Veil(150, 48, 14, 14, 40, Colour::Blue),
-        meaning(1, Words::FewAllocated),
-        Element::Veil(280, 48, 14, 14, 85, Colour::Blue),
-        meaning(2, Words::AllAllocated),
-        Element::Rectangle(410, 57, 14, 5, Colour::Orange),
-        meaning(3, Words::EvacuatingPage),
-        Element::Rectangle(540, 57, 14, 5, Colour::Yellow),
-        meaning(4, Words::TargetPage),
-        meaning(5, numbers),
-        Element::Text(1180, 60, 12, Anchor::End, old),
+        told_if(free, swatch(0, Colour::Pale)),
+        told_if(free, meaning(0, Words::FreePage)),
+        told_if(used, Element::Veil(150, 48, 14, 14, 40, Colour::Blue)),
+        told_if(used, meaning(1, Words::FewAllocated)),
+        told_if(used, Element::Veil(280, 48, 14, 14, 85, Colour::Blue)),
+        told_if(used, meaning(2, Words::AllAllocated)),
+        told_if(
+            evacuating,
+            Element::Rectangle(410, 57, 14, 5, Colour::Orange),
+        ),
+        told_if(evacuating, meaning(3, Words::EvacuatingPage)),
+        told_if(target, Element::Rectangle(540, 57, 14, 5, Colour::Yellow)),
+        told_if(target, meaning(4, Words::TargetPage)),
+        told_if(used, meaning(5, numbers)),
+        Some(Element::Text(1180, 60, 12, Anchor::End, old)),
     ]
+}
+
+/// Writes the legend, and the squares of all pages.
+fn write_shown<K: Sink>(heap: &Heap, sink: &mut K) -> Result<(), WriteFailed>
+    ensures ok { OnOk result (K.taken sink.new ≡ K.taken sink.old ++ svg_text (map_shown heap.now)) }
+    ensures err { OnErr result (GrowsByPart (K.taken sink.old) (K.taken sink.new) (svg_text (map_shown heap.now))) }
+    ensures cause { K.failures sink.new ≡ K.failures sink.old + failed result }
+{
+    write_present(sink, &legend(heap))?;
+    write_squares(heap, sink)
 }
 
 /// Writes the map of the pages of a heap to a sink, as an SVG document of lines that end with LF: the
 /// phase, the units of work since the last cycle began, how many pages there are and how many are free,
-/// a legend with the number of old copies, and a square for each page in use. Up to 256 pages stand 16 in a row, up to
+/// a legend of the colours that there are with the number of old copies, and a square for each page in use. Up to 256 pages stand 16 in a row, up to
 /// 1024 32, and more 64, so all pages that a file may ask for fit on 1200 by 800 units; the number of the first stands
 /// before each row. The more of a page's blocks are allocated, the darker is its square; it tells the words of a block,
 /// and has a band of one colour where the page is evacuating, and of another where it is a target. Free pages that stand
@@ -277,7 +301,7 @@ pub fn draw_pages<K: Sink>(heap: &Heap, sink: &mut K) -> Result<(), WriteFailed>
     ensures cause { K.failures sink.new ≡ K.failures sink.old + failed result }
 {
     let height = height(heap.pages());
-    write_head(1200, height, Words::PagesOfTheHeap, &legend(heap), sink)?;
-    write_squares(heap, sink)?;
+    write_head(1200, height, Words::PagesOfTheHeap, &summary(heap), sink)?;
+    write_shown(heap, sink)?;
     write_line(sink, Element::Close)
 }

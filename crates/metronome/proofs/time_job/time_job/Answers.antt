@@ -1,4 +1,4 @@
-use Rattle.std.proofs.Common.{List, Ok, Err, refl, sym, subst, arith}
+use Rattle.std.proofs.Common.{◌≡◌, ◌++◌, List, Ok, Err, refl, sym, subst, arith}
 use Rattle.std.specs.Prelude.{Result}
 use Rattle.streams.specs.Streams.{GrowsByPart, given_by}
 use Rattle.pictures.specs.declared.sample.Sample.{Sample}
@@ -25,6 +25,15 @@ returns-in_err-draw_time-clause-done g c =
     let part = subst Scaled c.scale-scale.ensures (subst Items c.as_slice.ensures.value c.in_err-draw_time.ensures.err) in
     let failed = failed_so c.from_residual-in_err-draw_time.result _ c.from_residual-in_err-draw_time.ensures.1 in
     (Ok samples, c.in_ok-samples.ensures.surveyed, subst Drawn (sym failed) (refl, part))
+
+pub returns-clause-done : goal.returns-clause-done
+returns-clause-done g c =
+    let samples = c.in_ok-samples.samples in
+    let old = g.K.Sink.taken c.args.sink.now in
+    let new = g.K.Sink.taken c.draw_time.new.sink in
+    let Items : List Sample → Type 0 = λ items. new ≡ old ++ time_picture c.scale-scale.result items in
+    let Scaled : Scale → Type 0 = λ scale. new ≡ old ++ time_picture scale samples.items.items in
+    (Ok samples, c.in_ok-samples.ensures.surveyed, (refl, subst Scaled c.scale-scale.ensures (subst Items c.as_slice.ensures.value c.in_ok-draw_time.ensures.ok)))
 
 pub returns-in_err-samples-clause-reads : goal.returns-in_err-samples-clause-reads
 returns-in_err-samples-clause-reads g c = reads_text c.from_residual.result c.in_err-samples.field-0.0 _ _ c.from_residual.ensures.1 c.in_err-samples.ensures.reads

@@ -16,19 +16,19 @@ head_is h n told high is = ap (λ k. frame 1200 k PagesOfTheHeap ++ told) high �
 pub returns-in_err-write_head-clause-err : goal.returns-in_err-write_head-clause-err
 returns-in_err-write_head-clause-err g c =
     let h = c.args.heap.now in
-    at_err c.from_residual.result _ (in_head _ (map_frame h) (map_told h) (map_shown h) (head_is h _ _ (c.height-height.ensures ∙ ap map_height c.pages.ensures.pages) c.legend.ensures) _ _ c.in_err-write_head.ensures.err)
+    at_err c.from_residual.result _ (in_head _ (map_frame h) (map_told h) (map_shown h) (head_is h _ _ (c.height-height.ensures ∙ ap map_height c.pages.ensures.pages) c.summary.ensures) _ _ c.in_err-write_head.ensures.err)
 
-pub returns-in_err-write_squares-clause-err : goal.returns-in_err-write_squares-clause-err
-returns-in_err-write_squares-clause-err g c =
+pub returns-in_err-write_shown-clause-err : goal.returns-in_err-write_shown-clause-err
+returns-in_err-write_shown-clause-err g c =
     let h = c.args.heap.now in
-    at_err c.from_residual-in_err-write_squares.result _ (in_body _ (map_frame h) (map_told h) (map_shown h) (head_is h _ _ (c.height-height.ensures ∙ ap map_height c.pages.ensures.pages) c.legend.ensures) _ _ c.in_ok-write_head.ensures.ok _ c.in_err-write_squares.ensures.err)
+    at_err c.from_residual-in_err-write_shown.result _ (in_body _ (map_frame h) (map_told h) (map_shown h) (head_is h _ _ (c.height-height.ensures ∙ ap map_height c.pages.ensures.pages) c.summary.ensures) _ _ c.in_ok-write_head.ensures.ok _ c.in_err-write_shown.ensures.err)
 
 pub returns-clause-ok : goal.returns-clause-ok
 returns-clause-ok g c =
     let h = c.args.heap.now in
-    on_ok_weaker c.write_line.result (to_end _ (map_frame h) (map_told h) (map_shown h) (head_is h _ _ (c.height-height.ensures ∙ ap map_height c.pages.ensures.pages) c.legend.ensures) _ _ c.in_ok-write_head.ensures.ok _ c.in_ok-write_squares.ensures.ok _) c.write_line.ensures.ok
+    on_ok_weaker c.write_line.result (to_end _ (map_frame h) (map_told h) (map_shown h) (head_is h _ _ (c.height-height.ensures ∙ ap map_height c.pages.ensures.pages) c.summary.ensures) _ _ c.in_ok-write_head.ensures.ok _ c.in_ok-write_shown.ensures.ok _) c.write_line.ensures.ok
 
 pub returns-clause-err : goal.returns-clause-err
 returns-clause-err g c =
     let h = c.args.heap.now in
-    on_err_weaker c.write_line.result (in_end _ (map_frame h) (map_told h) (map_shown h) (head_is h _ _ (c.height-height.ensures ∙ ap map_height c.pages.ensures.pages) c.legend.ensures) _ _ c.in_ok-write_head.ensures.ok _ c.in_ok-write_squares.ensures.ok _) c.write_line.ensures.err
+    on_err_weaker c.write_line.result (in_end _ (map_frame h) (map_told h) (map_shown h) (head_is h _ _ (c.height-height.ensures ∙ ap map_height c.pages.ensures.pages) c.summary.ensures) _ _ c.in_ok-write_head.ensures.ok _ c.in_ok-write_shown.ensures.ok _) c.write_line.ensures.err

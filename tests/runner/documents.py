@@ -4,8 +4,8 @@ A line '    $ COMMAND' of an indented block, or '$ COMMAND' of one between ``` l
 block, up to the next command or an empty line, are what it prints; a line '..' of them stands for any lines. Commands run in
 a new folder, which has bin/metronome and the examples, those of a document one after the other. Each run of the program ends with
 status 0 in them, and the command too, but for one that ends in a search which finds nothing (1); the error stream gets nothing.
-Where a command has `2>&1` a fault is shown, and the program ends with another status. One that begins with what isn't installed is
-left out, and told of.
+Where a command has `2>&1` a fault is shown, and the program ends with another status. One that begins with a program that the
+gate can do without is left out where that isn't installed, and told of.
 """
 import os
 import re
@@ -18,6 +18,9 @@ from runner.results import Result, difference, is_as_wanted
 
 SHOWN = re.compile(r"^( {4}|)\$ (.*)$")
 SEARCH = re.compile(r".*\| grep [^|]*")
+
+# What commands begin with that the gate can do without.
+SPARED = ("dot",)
 
 # What stands in the program's place: it runs the program, and notes with which status that ended.
 NOTING = """#!/bin/sh
@@ -113,9 +116,9 @@ def commands(lines):
 
 
 def is_installed(command):
-    """Whether the program is there with which a command begins; it is told where it isn't."""
+    """Whether the program is there with which a command begins, if the gate can do without it; it is told where it isn't."""
     word = command.split()[0]
-    if "/" in word or shutil.which(word):
+    if word not in SPARED or shutil.which(word):
         return True
     print(f"{word} isn't there, and this is left out: {command}", flush=True)
     return False

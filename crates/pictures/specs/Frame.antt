@@ -21,6 +21,6 @@ swatch place colour = Rectangle (20 + 130 * place) 48 14 14 colour
 abbrev pub meaning : ℕ → Words → Element
 meaning place words = Text (40 + 130 * place) 60 12 Start (captions.Words words)
 
--- an element of a legend, which has it only where the picture has what it tells of
+-- an element of a legend, where what it explains is drawn; else none
 abbrev pub told_if : Bool → Element → Option Element
 told_if there element = if there then Some element else None

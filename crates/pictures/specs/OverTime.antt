@@ -80,7 +80,7 @@ phases_in samples = record {
   moving = list_any (λ s. s.phases.moving) samples;
 }
 
--- what the colours mean that there are; the objects stand in the legend as the dash that they are
+-- what the colours mean that are drawn; objects stand in the legend as the dash that they are
 abbrev pub time_legend : Scale → List Sample → List (Option Element)
 time_legend scale samples =
     let most = list_any (rises scale) samples in

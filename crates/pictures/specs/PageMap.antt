@@ -173,11 +173,11 @@ abbrev pub is_marked : Layer → Option PageView → Bool
 is_marked layer None = false
 is_marked layer (Some v) = has layer v
 
--- whether one of these pages has it
+-- whether one of these pages has the mark of a layer
 abbrev pub has_mark : Layer → List (Option Page) → Bool
 has_mark layer pages = list_any (λ page. is_marked layer (view_of page)) pages
 
--- what the colours that there are mean, and how many old copies there are
+-- what the colours mean that are drawn, and how many old copies there are
 abbrev pub map_legend : HeapState → List (Option Element)
 map_legend h =
     let pages = h.store.pages in

@@ -44,7 +44,7 @@ pub(crate) fn meaning(place: u32, words: Words) -> Element
     )
 }
 
-/// An element of a legend, which has it only where the picture has what it tells of.
+/// An element of a legend, where what it explains is drawn.
 pub(crate) fn told_if(there: bool, element: Element) -> Option<Element>
     ensures { result ≡ frames.told_if there element }
 {

@@ -143,7 +143,7 @@ fn is_marked(layer: Layer, page: Option<PageView>) -> bool
     }
 }
 
-/// Whether a page of a heap has it.
+/// Whether a page of a heap has the mark of a layer.
 pub(crate) fn has_mark(heap: &Heap, layer: Layer) -> bool
     ensures { result ≡ maps.has_mark layer heap.now.store.pages }
 {

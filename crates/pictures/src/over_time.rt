@@ -136,21 +136,21 @@ fn write_samples<K: Sink>(
     Ok(())
 }
 
-/// Whether the pages in use rise above the least, within the ticks of a sample.
+/// Whether the pages in use rise above the least within the ticks of some sample.
 fn any_rises(scale: &Scale, samples: &[Sample]) -> bool
     ensures { result ≡ list_any (pictures.rises scale.now) samples.now }
 {
     samples.iter().any(|sample| rises(scale, sample))
 }
 
-/// Whether those of a sample do.
+/// Whether the pages in use rise above the least within the ticks of this sample.
 fn rises(scale: &Scale, sample: &Sample) -> bool
     ensures { result ≡ pictures.rises scale.now sample.now }
 {
     height(sample.least_pages, scale.pages) < height(sample.most_pages, scale.pages)
 }
 
-/// Whether objects were counted.
+/// Whether objects were counted for some sample.
 fn any_counted(samples: &[Sample]) -> bool
     ensures { result ≡ list_any (λ s. is_some s.objects) samples.now }
 {
@@ -169,35 +169,35 @@ fn phases_in(samples: &[Sample]) -> Phases
     }
 }
 
-/// Whether one of them was in the phase of roots.
+/// Whether some sample has the phase of roots.
 fn any_roots(samples: &[Sample]) -> bool
     ensures { result ≡ list_any (λ s. s.phases.roots) samples.now }
 {
     samples.iter().any(|sample| sample.phases.roots)
 }
 
-/// Whether one of them was in marking.
+/// Whether some sample has the phase of marking.
 fn any_marking(samples: &[Sample]) -> bool
     ensures { result ≡ list_any (λ s. s.phases.marking) samples.now }
 {
     samples.iter().any(|sample| sample.phases.marking)
 }
 
-/// Whether one of them was in sweeping.
+/// Whether some sample has the phase of sweeping.
 fn any_sweeping(samples: &[Sample]) -> bool
     ensures { result ≡ list_any (λ s. s.phases.sweeping) samples.now }
 {
     samples.iter().any(|sample| sample.phases.sweeping)
 }
 
-/// Whether one of them was in moving.
+/// Whether some sample has the phase of moving.
 fn any_moving(samples: &[Sample]) -> bool
     ensures { result ≡ list_any (λ s. s.phases.moving) samples.now }
 {
     samples.iter().any(|sample| sample.phases.moving)
 }
 
-/// What the colours mean that there are; the objects stand there as the dash that they are.
+/// What the colours mean that are drawn; objects stand there as the dash that they are.
 fn legend(scale: &Scale, samples: &[Sample]) -> [Option<Element>; 14]
     ensures { result ≡ time_legend scale.now samples.now }
 {
@@ -280,10 +280,10 @@ fn draw_samples<K: Sink>(scale: &Scale, samples: &[Sample], sink: &mut K) -> Res
 /// its trace, from the new heap before line 1 to the last line of the scale. Each sample is drawn from its line to that
 /// of the next: the pages in use as a bar, below it the objects, where they were counted, as a dash, and at the bottom
 /// the phase as a band of colours. The scale says for which numbers of pages and of objects the whole height stands;
-/// what is more is drawn as high, and a line after the last one of the scale as far. The legend has the colours that
-/// there are. Axes have round numbers. Only the
-/// first MOST_SAMPLES samples are drawn. It takes no memory. After an error, which comes only where the sink failed,
-/// the sink has taken a beginning of the document.
+/// what is more is drawn as high, and a line after the last one of the scale as far. The legend has each phase, more
+/// pages than the least, and objects where they are drawn. Axes have round numbers. Only the first MOST_SAMPLES samples
+/// are drawn. It takes no memory. After an error, which comes only where the sink failed, the sink has taken a beginning
+/// of the document.
 pub fn draw_time<K: Sink>(
     scale: &Scale,
     samples: &[Sample],

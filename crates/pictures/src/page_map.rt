@@ -246,7 +246,7 @@ fn summary(heap: &Heap) -> [Element; 1]
     [Element::Text(1180, 30, 13, Anchor::End, summary)]
 }
 
-/// What the colours mean that there are, and how many old copies there are.
+/// What the colours mean that are drawn, and how many old copies there are.
 fn legend(heap: &Heap) -> [Option<Element>; 12]
     ensures { result ≡ map_legend heap.now }
 {
@@ -285,16 +285,16 @@ fn write_shown<K: Sink>(heap: &Heap, sink: &mut K) -> Result<(), WriteFailed>
     write_squares(heap, sink)
 }
 
-/// Writes the map of the pages of a heap to a sink, as an SVG document of lines that end with LF: the
-/// phase, the units of work since the last cycle began, how many pages there are and how many are free,
-/// a legend of the colours that there are with the number of old copies, and a square for each page in use. Up to 256 pages stand 16 in a row, up to
-/// 1024 32, and more 64, so all pages that a file may ask for fit on 1200 by 800 units; the number of the first stands
-/// before each row. The more of a page's blocks are allocated, the darker is its square; it tells the words of a block,
-/// and has a band of one colour where the page is evacuating, and of another where it is a target. Free pages that stand
-/// together in a row are one pale bar. Under the pointer a square shows its page's number, the words of a block, the
-/// allocated blocks of all, and its marks, and a bar the numbers of its first and its last page. Of more than 1024 pages
-/// no square tells anything: all pages as full are one path. It takes no memory.
-/// After an error, which comes only where the sink failed, the sink has taken a beginning of the document.
+/// Writes the map of the pages of a heap to a sink, as an SVG document of lines that end with LF: the phase, the units
+/// of work since the last cycle began, how many pages there are and how many are free, a legend of what is drawn with
+/// the number of old copies, and a square for each page in use. Up to 256 pages stand 16 in a row, up to 1024 32, and
+/// more 64, so all pages that a file may ask for fit on 1200 by 800 units; the number of the first stands before each
+/// row. The more of a page's blocks are allocated, the darker is its square; it tells the words of a block, and has a
+/// band of one colour where the page is evacuating, and of another where it is a target. Free pages that stand together
+/// in a row are one pale bar. Under the pointer a square shows its page's number, the words of a block, the allocated
+/// blocks of all, and its marks, and a bar the numbers of its first and its last page. Of more than 1024 pages no
+/// square tells anything: all pages as full are one path. It takes no memory. After an error, which comes only where
+/// the sink failed, the sink has taken a beginning of the document.
 pub fn draw_pages<K: Sink>(heap: &Heap, sink: &mut K) -> Result<(), WriteFailed>
     ensures ok { OnOk result (K.taken sink.new ≡ K.taken sink.old ++ pages_picture heap.now) }
     ensures err { OnErr result (GrowsByPart (K.taken sink.old) (K.taken sink.new) (pages_picture heap.now)) }

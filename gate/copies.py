@@ -94,6 +94,16 @@ def apart(edits):
     return found
 
 
+def alone(edits, others):
+    """Those of these edits that turn none of the functions that others turn, and aren't refused by a function that refuses them."""
+
+    def reached(them):
+        return {of(it)[0] for edit, paths in apart(them) if not edit.fault for it in paths or edit.refused_by}
+
+    known = reached(others)
+    return [it for it in edits if not reached([it]) & known]
+
+
 def control(crate):
     """The path of a copy of the crate's shortest function of which there can be one: a copy that no edit turns is to be proved. None
     where there is no such function."""

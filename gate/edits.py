@@ -7,6 +7,8 @@ from dataclasses import dataclass, field
 
 from kit import rt
 
+# Where a crate's wrong bodies stand; and below that, those that take the prover long, where another turns the same function.
+FOLDER, SLOW = "wrong-bodies", "wrong-bodies/slow"
 NAME = re.compile(r"[A-Za-z0-9_-][A-Za-z0-9_.-]*\.edit")
 # A line that `rt` doesn't read: the function, as the prover names it below the crate, whose proof fails with a definition's edit.
 REFUSED_BY = re.compile(r"^refused by: (\S+)$", re.M)
@@ -70,4 +72,10 @@ def read(crate, file):
 def edits_of(crate, folder):
     """The edits in a folder of the crate, in the order of their names."""
     at = f"{crate.folder}/{folder}"
-    return [read(crate, f"{at}/{name}") for name in sorted(os.listdir(at))] if os.path.isdir(at) else []
+    names = sorted(os.listdir(at)) if os.path.isdir(at) else []
+    return [read(crate, f"{at}/{name}") for name in names if not os.path.isdir(f"{at}/{name}")]
+
+
+def wrong_bodies(crate, is_quick=False):
+    """The wrong bodies of a crate; without the slow ones where the run is to be quick."""
+    return edits_of(crate, FOLDER) + ([] if is_quick else edits_of(crate, SLOW))

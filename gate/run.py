@@ -15,15 +15,14 @@ import verdicts
 from kept import Kept
 from kit import rt
 
-FOLDER = "wrong-bodies"
-
 
 class Run:
-    """The edits of some crates, what was found of them so far, and the run that proves the crates beside it, if there is one."""
+    """The edits of some crates, without the slow ones where it is to be quick, what was found of them so far, and the run that
+    proves the crates beside it, if there is one."""
 
-    def __init__(self, crates, anew, proving=None):
+    def __init__(self, crates, anew, is_quick=False, proving=None):
         self.kept, self.proving = Kept(anew), proving
-        self.edits = {it.name: edits.edits_of(it, FOLDER) for it in crates}
+        self.edits = {it.name: edits.wrong_bodies(it, is_quick) for it in crates}
         self.found, self.grounds, self.checks, self.seconds, self.unproved = {}, {}, Counter(), Counter(), set()
         self.telling = threading.Lock()
 
@@ -143,9 +142,9 @@ def tasks_of(run, crates):
     return tasks
 
 
-def made(crates, jobs, anew, proving=None):
-    """The run of all edits of these crates."""
-    run = Run(crates, anew, proving)
+def made(crates, jobs, anew, is_quick=False, proving=None):
+    """The run of the edits of these crates."""
+    run = Run(crates, anew, is_quick, proving)
     held = rt.rtlib.lock({below for it in crates for below in [it, *it.below()]})
     try:
         lanes.run((tasks_beside if proving else tasks_of)(run, crates), jobs)
@@ -155,9 +154,9 @@ def made(crates, jobs, anew, proving=None):
     return run
 
 
-def tried(crates, jobs, anew, proving=None):
+def tried(crates, jobs, anew, is_quick=False, proving=None):
     """How many edits of these crates were refused, and how many weren't; it says which."""
-    run = made(crates, jobs, anew, proving)
+    run = made(crates, jobs, anew, is_quick, proving)
     for crate in crates:
         if run.checks[crate.name]:
             print(f"{crate.name}: {len(run.edits[crate.name])} edits, {run.checks[crate.name]} checks, {run.seconds[crate.name]:.0f} s")

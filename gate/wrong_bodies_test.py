@@ -3,6 +3,7 @@ import json
 import os
 import tempfile
 
+import copies
 import edits
 import functions
 import kept
@@ -191,17 +192,21 @@ REFUSED_BY = {
 }
 
 
+# The slow ones, of which the first alone turns what a quick one turns.
+SLOW = ("begins_at_one_less_one", "asks_for_none")
+
+
 def crate_in(room):
     """The crate of this test, written in a folder, with its edits."""
     for name, text in FILES.items():
         os.makedirs(os.path.dirname(f"{room}/{name}"), exist_ok=True)
         with open(f"{room}/{name}", "w", encoding="utf-8") as file:
             file.write(text)
-    folder = f"{room}/crates/told/{run.FOLDER}"
-    os.makedirs(folder)
+    folder = f"{room}/crates/told/{edits.FOLDER}"
+    os.makedirs(f"{room}/crates/told/{edits.SLOW}")
     for name, old, new, *_ in CASES:
         path = "specs/Limit.antt" if old in SPECS else "src/lib.rt"
-        with open(f"{folder}/{name}.edit", "w", encoding="utf-8") as file:
+        with open(f"{folder}/{'slow/' * (name in SLOW)}{name}.edit", "w", encoding="utf-8") as file:
             file.write(f"file: {path}\nold: {old}\nnew: {new}\n")
             if name in REFUSED_BY:
                 file.write(f"refused by: {REFUSED_BY[name]}\n")
@@ -222,7 +227,7 @@ def judged(made):
 
 def stops(crate):
     """Whether an edit that says what refuses it isn't told as refused where the prover met a limit of its own alone."""
-    edit = edits.read(crate, f"{crate.folder}/{run.FOLDER}/says_what_refuses_it.edit")
+    edit = edits.read(crate, f"{crate.folder}/{edits.FOLDER}/says_what_refuses_it.edit")
     trial = trials.Trial(crate, [edit], [edit.refused_by])
     told = {text: [it.kind for it in trials.of_named(trial, text)[0]] for text in (STOPPED, ANSWER_STOPPED, NO_PROOF)}
     return [told[STOPPED] == [], told[ANSWER_STOPPED] == [], told[NO_PROOF] == [REFUSED]]
@@ -230,9 +235,9 @@ def stops(crate):
 
 def keeps(crate):
     """Whether what was refused is kept, and nothing else that lies in its place counts."""
-    edit = edits.read(crate, f"{crate.folder}/{run.FOLDER}/adds_two.edit")
+    edit = edits.read(crate, f"{crate.folder}/{edits.FOLDER}/adds_two.edit")
     store = kept.Kept(anew=False)
-    other = edits.read(crate, f"{crate.folder}/{run.FOLDER}/adds_three.edit")
+    other = edits.read(crate, f"{crate.folder}/{edits.FOLDER}/adds_three.edit")
     good = [store.refused(edit) == [CLAUSE, "ensures"]]
     whole = kept.text_of(store.place(edit)).decode()
     for text in [*FORGED, whole[:-2], whole.replace("adds_two", "adds_ten"), kept.text_of(store.place(other)).decode()]:
@@ -246,14 +251,14 @@ def keeps(crate):
 
 def guards(crate):
     """Whether a trial is thrown away in which a function is wrong that it isn't said to turn."""
-    edit = edits.read(crate, f"{crate.folder}/{run.FOLDER}/adds_two.edit")
+    edit = edits.read(crate, f"{crate.folder}/{edits.FOLDER}/adds_two.edit")
     results, _, wrong = trials.tried(trials.Trial(crate, [edit], [("both",)]))
     return not results and wrong == ["told::more"]
 
 
 def is_judged_beside_callers(crate):
     """Whether a trial comes to a verdict beside functions that aren't proved only since they call what it turns."""
-    edit = edits.read(crate, f"{crate.folder}/{run.FOLDER}/adds_two.edit")
+    edit = edits.read(crate, f"{crate.folder}/{edits.FOLDER}/adds_two.edit")
     callers = {"two_more", "both"}
     turned = tuple(it.path for it in functions.functions_below(crate.folder)["src/lib.rt"] if it.path not in callers)
     results, *_ = trials.tried(trials.Trial(crate, [edit], [turned]))
@@ -263,7 +268,7 @@ def is_judged_beside_callers(crate):
 def leads(crate, jobs):
     """Whether a trial that leads, over nothing, refuses what it must and no more, and leaves what the next one begins with."""
     kinds = {f"told/{name}": kind for name, _, _, kind, _ in CASES}
-    bodies = [it for it in edits.edits_of(crate, run.FOLDER) if functions.turned_by(it)]
+    bodies = [it for it in edits.wrong_bodies(crate) if functions.turned_by(it)]
     wanted = {kind: {it.name for it in bodies if kinds[it.name] == kind} for kind in (REFUSED, NOT_REFUSED)}
     planned = trials.planned(crate, [it for it in bodies if any(it.name in them for them in wanted.values())], begins=True)
     found = [trials.tried(it, jobs) for it in planned]
@@ -272,10 +277,21 @@ def leads(crate, jobs):
     return planned[0].leads and (refused, again) == tuple(wanted.values()) and not any(wrong for *_, wrong in found)
 
 
+def leaves_slow_ones(crate):
+    """Whether a quick run leaves out the slow ones and no others, and one is found that alone turns what it turns."""
+    every, quick = ([it.name for it in edits.wrong_bodies(crate, is_quick)] for is_quick in (False, True))
+    slow, others = edits.edits_of(crate, edits.SLOW), edits.edits_of(crate, edits.FOLDER)
+    return [
+        sorted(every) == sorted(f"told/{name}" for name, *_ in CASES),
+        sorted(set(every) - set(quick)) == sorted(f"told/{name}" for name in SLOW),
+        [it.name for it in copies.alone(slow, others)] == ["told/asks_for_none"],
+    ]
+
+
 def asks_besides(crate):
     """Whether a trial that leads asks also for what other edits say refuses them, but for what it turns itself."""
     names = ("adds_two", "has_another_limit", "says_what_refuses_it", "says_what_has_no_answers")
-    them = [edits.read(crate, f"{crate.folder}/{run.FOLDER}/{it}.edit") for it in names]
+    them = [edits.read(crate, f"{crate.folder}/{edits.FOLDER}/{it}.edit") for it in names]
     return [
         trials.planned(crate, [them[0], *them[2:]], begins=True)[0].besides == ("limit", "seven"),
         trials.planned(crate, them, begins=True)[0].besides == ("seven",),
@@ -290,7 +306,7 @@ def passed(jobs):
         made = run.made([crate], jobs, anew=False)
         found = made.found
         good = [*judged(made), *stops(crate), *keeps(crate), guards(crate), is_judged_beside_callers(crate)]
-        good += asks_besides(crate)
+        good += asks_besides(crate) + leaves_slow_ones(crate)
         with tempfile.TemporaryDirectory(prefix="wrong-bodies-") as other:
             good.append(leads(crate_in(other), jobs))
         left = {it.name for it in run.Run([crate], anew=False).left(crate)}

@@ -1,14 +1,15 @@
 -- How the program is put together of its subcommands, and what clap finds of them.
-use Rattle.std.proofs.Common.{◌≡◌, ◌⊎◌, inl, inr, Bool, true, false, List, Option, Some, None, option_map, refl, ap, ap₂, ◌∙◌, sym, subst}
+use Rattle.std.proofs.Common.{◌≡◌, ◌⊎◌, inl, inr, Bool, true, false, List, [], ◌∷◌, ◌++◌, Option, Some, None, option_map, refl, ap, ap₂, ◌∙◌, sym, subst}
 use Rattle.std.proofs.lemmas.Option.{same_Some}
 use Rattle.std.specs.Prelude.{◌&&◌, not}
-use Rattle.clap.specs.Words.{App, Shape, Text, Row, app_of, is_simple, is_simple_and_free, subcommand_of, fault_of, IsAmong, HasMatchesOf, subcommand_rows_of, AddsSubcommand, with_subcommand}
+use Rattle.clap.specs.Words.{App, Shape, Rule, Text, Row, app_of, rule_of, is_simple, is_simple_and_free, subcommand_of, fault_of, IsAmong, HasMatchesOf, subcommand_rows_of, AddsArg, AddsSubcommand, with_rule, with_subcommand}
+use Rattle.clap.specs.declared.builder.arg.Arg.{Arg}
 use Rattle.clap.specs.declared.error.kind.ErrorKind.{ErrorKind}
 use Rattle.clap.specs.declared.error.kind.ErrorKind.TheVariants.{DisplayHelp, DisplayVersion, OutOfMemory}
 use Rattle.clap.specs.declared.builder.command.Command.{Command}
 use Rattle.clap.specs.declared.parser.matches.ArgMatches.{ArgMatches}
 use Rattle.clap.proofs.OnLiterals.{clap_on_literals}
-use Rattle.command_line.specs.Program.{metronome, IsSubcommand}
+use Rattle.command_line.specs.Program.{by_default, metronome, on_file, IsArgument, IsSubcommand}
 use Rattle.command_line.specs.Words.{AsksForHelp}
 
 -- the third of these is false where all hold but those of which it is said that they don't
@@ -17,6 +18,18 @@ third_off true false false rest e = refl
 third_off true false true rest e = absurd (let z : false ≡ true = e in cc)
 third_off true true c rest e = absurd (let z : false ≡ true = e in cc)
 third_off false b c rest e = absurd (let z : false ≡ true = e in cc)
+
+-- a subcommand with one more argument
+pub with_argument : (old new : Command) (arg : Arg) (before : Shape) (rule : Rule) → AddsArg old arg new → IsSubcommand before old → IsArgument rule arg → IsSubcommand (record before { rules = before.rules ++ rule ∷ [] }) new
+with_argument old new arg before rule adds told is = adds.shape is.1 ∙ ap₂ with_rule told is.0
+
+-- a subcommand on a file that is this argument
+pub on_this_file : (command : Command) (file : Arg) (name : Text) (rule : Rule) → IsSubcommand (on_file name (rule_of file) []) command → IsArgument rule file → IsSubcommand (on_file name rule []) command
+on_this_file command file name rule told is = told ∙ ap (λ (r : Rule). record { top = on_file name r []; subs = [] }) is.0
+
+-- an argument that has a default, of one that is this
+pub defaulted : (arg other : Arg) (value : Text) (rule : Rule) → IsArgument (by_default value (rule_of arg)) other → IsArgument rule arg → IsArgument (by_default value rule) other
+defaulted arg other value rule told is = (told.0 ∙ ap (by_default value) is.0, told.1)
 
 -- a subcommand is plain as its shape is
 pub plain_as : (shape : Shape) (command : Command) → IsSubcommand shape command → shape.is_plain ≡ true → (app_of command).top.is_plain ≡ true

@@ -17,9 +17,13 @@ short_number = Signed (pos 0) (pos 4294967295)
 abbrev pub long_number : ValueParser
 long_number = Unsigned 0 18446744073709551615
 
+-- an argument that is needed
+abbrev pub needed : Rule → Rule
+needed rule = record rule { required = true }
+
 -- a word in its place, which is needed
 abbrev pub place : Text → Rule
-place name = record (new_rule name) { required = true }
+place name = needed (new_rule name)
 
 -- a number in its place
 abbrev pub number : Text → Rule
@@ -41,6 +45,10 @@ word name = record (new_rule name) { long = Some name; value_names = 1 }
 -- a name and a number
 abbrev pub figure : Text → Rule
 figure name = record (word name) { parser = Some short_number }
+
+-- a name and a number that fits 64 bits
+abbrev pub long_figure : Text → Rule
+long_figure name = record (word name) { parser = Some long_number }
 
 -- a name and one number or more
 abbrev pub figures : Text → Rule
@@ -97,7 +105,7 @@ mmu = on_trace (codes "mmu") (numbers (codes "WINDOW") ∷ [])
 -- draws a picture
 abbrev pub draw : Shape
 draw = on_trace (codes "draw")
-    (record (word (codes "as")) { required = true } ∷ figure (codes "after") ∷ figure (codes "most") ∷ [])
+    (needed (word (codes "as")) ∷ figure (codes "after") ∷ figure (codes "most") ∷ [])
 
 -- tells how many pages suffice
 abbrev pub pages : Shape
@@ -106,7 +114,7 @@ pages = on_trace (codes "pages") (flag (codes "pace") ∷ word (codes "load") �
 -- tells how a heap would pace itself
 abbrev pub plan : Shape
 plan = on_config (codes "plan")
-    (record (word (codes "live")) { parser = Some long_number; required = true } ∷ figures (codes "classes") ∷ [])
+    (needed (long_figure (codes "live")) ∷ figures (codes "classes") ∷ [])
 
 -- the program: it has a version, and wants a subcommand
 abbrev pub metronome : App

@@ -46,29 +46,19 @@ fn threads<'a>(alloc: Global) -> Result<Command<'a>, AllocError>
 {
     let file = place(alloc, "SCRIPTS", "The scripts, or - for standard input");
     let about = "Run scripts on threads and write their history";
-    let turns = figure(alloc, "turns", "N", "Quanta of the collector, 0 to 10000");
-    let budget = figure(
-        alloc,
-        "budget",
-        "B",
-        "Units of each quantum, 256 to 1000000",
-    );
+    let turns = "Quanta of the collector, 0 to 10000";
+    let budget = "Units of each quantum, 256 to 1000000";
     on_file(alloc, "threads", about, file)?
-        .arg(turns.default_value("100"))?
-        .arg(budget.default_value("256"))
+        .arg(by_default(figure(alloc, "turns", "N", turns), "100"))?
+        .arg(by_default(figure(alloc, "budget", "B", budget), "256"))
 }
 
 fn inspect<'a>(alloc: Global) -> Result<Command<'a>, AllocError>
     ensures { IfOk result (IsSubcommand words.inspect) }
 {
-    let by = word(
-        alloc,
-        "by",
-        "PART",
-        "By what to report: page, shape or size",
-    );
+    let by = "By what to report: page, shape or size";
     on_trace(alloc, "inspect", "Play a trace and report the heap")?
-        .arg(by.default_value("page"))?
+        .arg(by_default(word(alloc, "by", "PART", by), "page"))?
         .arg(after(alloc))
 }
 
@@ -83,32 +73,27 @@ fn path<'a>(alloc: Global) -> Result<Command<'a>, AllocError>
     ensures { IfOk result (IsSubcommand words.path) }
 {
     let help = "The identity of the object, as the replies name it";
-    let id = place(alloc, "ID", help).value_parser(value_parser!(u64));
-    on_trace(
-        alloc,
-        "path",
-        "Play a trace and tell why an object is alive",
-    )?
-    .arg(id)?
-    .arg(after(alloc))
+    let about = "Play a trace and tell why an object is alive";
+    on_trace(alloc, "path", about)?
+        .arg(number(alloc, "ID", help))?
+        .arg(after(alloc))
 }
 
 fn mmu<'a>(alloc: Global) -> Result<Command<'a>, AllocError>
     ensures { IfOk result (IsSubcommand words.mmu) }
 {
     let about = "Play a trace and write the least that mutators have of windows";
-    let windows = place(alloc, "WINDOW", "Windows, each of 1 to 1099511627776 ticks");
-    on_trace(alloc, "mmu", about)?.arg(windows.num_args(1..).value_parser(value_parser!(u64)))
+    let windows = "Windows, each of 1 to 1099511627776 ticks";
+    on_trace(alloc, "mmu", about)?.arg(number(alloc, "WINDOW", windows).num_args(1..))
 }
 
 fn draw<'a>(alloc: Global) -> Result<Command<'a>, AllocError>
     ensures { IfOk result (IsSubcommand words.draw) }
 {
     let help = "The picture: events, graph, pages, time or utilisation";
-    let picture = word(alloc, "as", "PICTURE", help).required(true);
     let most = "Draw at most N objects of a graph, 500 if not said";
     on_trace(alloc, "draw", "Play a trace and draw a picture")?
-        .arg(picture)?
+        .arg(needed(word(alloc, "as", "PICTURE", help)))?
         .arg(after(alloc))?
         .arg(figure(alloc, "most", "N", most))
 }
@@ -130,10 +115,9 @@ fn plan<'a>(alloc: Global) -> Result<Command<'a>, AllocError>
     ensures { IfOk result (IsSubcommand words.plan) }
 {
     let help = "Words of the blocks of live objects, headers included";
-    let live = word(alloc, "live", "N", help).value_parser(value_parser!(u64));
     let sizes = "Words of a block of each size class that is asked for, all if not said";
     on_config(alloc, "plan", "Tell how a heap would pace itself")?
-        .arg(live.required(true))?
+        .arg(needed(long_figure(alloc, "live", "N", help)))?
         .arg(figures(alloc, "classes", "S", sizes))
 }
 
@@ -182,7 +166,30 @@ fn after<'a>(alloc: Global) -> Arg<'a>
 fn place<'a>(alloc: Global, name: &'a str, help: &'a str) -> Arg<'a>
     ensures { IsArgument (words.place name.now) result }
 {
-    Arg::new(alloc, name).help(help).required(true)
+    needed(Arg::new(alloc, name).help(help))
+}
+
+/// A number in its place, which is needed.
+fn number<'a>(alloc: Global, name: &'a str, help: &'a str) -> Arg<'a>
+    ensures { IsArgument (words.number name.now) result }
+{
+    place(alloc, name, help).value_parser(value_parser!(u64))
+}
+
+/// An argument that is needed.
+fn needed<'a>(arg: Arg<'a>) -> Arg<'a>
+    requires { arg.global ≡ false }
+    ensures { IsArgument (words.needed (rule_of arg.entry)) result }
+{
+    arg.required(true)
+}
+
+/// An argument that is this where it isn't given.
+fn by_default<'a>(arg: Arg<'a>, value: &'a str) -> Arg<'a>
+    requires { arg.global ≡ false }
+    ensures { IsArgument (words.by_default value.now (rule_of arg.entry)) result }
+{
+    arg.default_value(value)
 }
 
 /// The name alone.
@@ -210,6 +217,13 @@ fn figure<'a>(alloc: Global, name: &'a str, value: &'a str, help: &'a str) -> Ar
     ensures { IsArgument (words.figure name.now) result }
 {
     word(alloc, name, value, help).value_parser(value_parser!(u32))
+}
+
+/// The name and a number of 64 bits, which help calls by another name.
+fn long_figure<'a>(alloc: Global, name: &'a str, value: &'a str, help: &'a str) -> Arg<'a>
+    ensures { IsArgument (words.long_figure name.now) result }
+{
+    word(alloc, name, value, help).value_parser(value_parser!(u64))
 }
 
 /// The name and one number or more, each of which help calls by another name.

@@ -4,34 +4,21 @@ use Rattle.std.proofs.lemmas.Nat.{le-div}
 use Rattle.std.proofs.Math.Nat.{div-mul-le_self, mul-le-mul_left, mul-le-mul_right, lt-div-mul-add}
 use Rattle.size_classes.specs.declared.class.TheConstants.{CLASSES, PAGE_WORDS}
 use Rattle.settings.specs.declared.config.Config.{Config}
-use Rattle.settings.specs.declared.config.TheConstants.{LEAST_BUDGET}
-use Rattle.settings.specs.Config.{cycle_limit_of}
-use Rattle.size_classes.specs.Sizes.{size_of, blocks_in}
-use Rattle.space.specs.Fitting.{swept_at, unmoved_quanta_at}
+use Rattle.size_classes.specs.Sizes.{blocks_in}
+use Rattle.space.specs.Fitting.{swept_at, moving_at, unmoved_quanta_at}
 use Rattle.fragmentation.specs.declared.flow.TheConstants.{LEAST_PAGE_FILL, PARTLY_FILLED_PAGES}
 use Rattle.fragmentation.specs.Flow.{classes_made}
-use Rattle.paced.specs.Planning.{cycle_quanta, FitsEvenlyFor, IsFastestFor, cycle_quanta_at, HasPlanOn, IsResized, HasPlan}
+use Rattle.paced.specs.Planning.{cycle_quanta, FitsEvenlyFor, IsFastestFor, cycle_quanta_at, quanta_for, HasPlanOn, IsResized, HasPlan}
 
 -- of more, divided by less, comes no less
 div_more : (x y c d : ℕ) → 0 < d → x ≤ y → d ≤ c → x / c ≤ y / d
 div_more x y c d some l g = le-div (x / c) y d some (let m = mul-le-mul_left (x / c) g in let v = div-mul-le_self x c in omega (arith, m, v, l))
 
-most : blocks_in 0 ≡ 512
-unfolding size_of blocks_in
-most = refl
-
--- roots, marking and sweeping spend no more than a whole cycle
-swept_less : (c : Config) → swept_at c c.pages ≤ cycle_limit_of c
-swept_less c = subst (λ b. c.mutators * c.slots + c.statics + PAGE_WORDS * c.pages + (b + 1) * c.pages + (b + 4) ≤ cycle_limit_of c) (sym most) (less (c.mutators * c.slots) c.statics c.pages ((c.defrag_pages + CLASSES) * c.pages) c.pages_in_range.0)
-  where
-    less : (r s p x : ℕ) → 1 ≤ p → r + s + PAGE_WORDS * p + (512 + 1) * p + (512 + 4) ≤ r + s + 3 * (PAGE_WORDS * p) + x + 4
-    less r s p x one = omega (arith, one)
-
--- nor do they take more quanta
+-- roots, marking and sweeping take no more quanta than a whole cycle
 traced_less : (c : Config) → unmoved_quanta_at c c.pages ≤ cycle_quanta c
 traced_less c =
     let b = c.budget_in_range.0 in
-    let d = div_more (swept_at c c.pages) (cycle_limit_of c) (c.collector_ticks * c.rate) (c.collector_ticks * c.rate - (LEAST_BUDGET - 1)) (omega (arith, b)) (swept_less c) (omega arith) in
+    let d = div_more (swept_at c c.pages) (swept_at c c.pages + moving_at c c.pages + 255 * (moving_at c c.pages / (c.collector_ticks * c.rate - 255) + 1)) (c.collector_ticks * c.rate) (c.collector_ticks * c.rate) (omega (arith, b)) (omega arith) (omega arith) in
     omega (arith, d)
 
 -- the words for which there is room besides what is live, where blocks are made of so many classes
@@ -96,17 +83,19 @@ module _ (makes : ℕ → Bool) (classes : ℕ) (made : classes_made makes ≡ c
 
 -- on a number of pages there is a plan where one fits in a configuration that has so many
 module _ (makes : ℕ → Bool) (c resized : Config) (live : ℕ) (is : IsResized c resized) where
+  swept : swept_at c resized.pages ≡ swept_at resized resized.pages
+  swept = ap (λ r. r + PAGE_WORDS * resized.pages + (blocks_in 0 + 1) * resized.pages + (blocks_in 0 + 4)) (sym is.roots)
+
   whole : cycle_quanta_at c resized.pages ≡ cycle_quanta resized
   whole =
-      let r = is.roots in
-      let e : (resized.pages + CLASSES) * resized.pages ≡ (resized.defrag_pages + CLASSES) * resized.pages = ap (λ z. (z + CLASSES) * resized.pages) (sym is.empties_all) in
-      let l : c.mutators * c.slots + c.statics + 3 * (PAGE_WORDS * resized.pages) + (resized.pages + CLASSES) * resized.pages + 4 ≡ cycle_limit_of resized = omega (arith, r, e) in
-      ap (λ z. z / (c.collector_ticks * c.rate - (LEAST_BUDGET - 1)) + 1) l ∙ ap (λ b. cycle_limit_of resized / (b - (LEAST_BUDGET - 1)) + 1) (sym is.budget)
+      let moving : (resized.pages + CLASSES) * resized.pages + PAGE_WORDS * resized.pages + 1 ≡ moving_at resized resized.pages = ap (λ z. (z + CLASSES) * resized.pages + PAGE_WORDS * resized.pages + 1) (sym is.empties_all) in
+      ap (λ s. quanta_for s ((resized.pages + CLASSES) * resized.pages + PAGE_WORDS * resized.pages + 1) (c.collector_ticks * c.rate)) swept
+      ∙ ap (λ m. quanta_for (swept_at resized resized.pages) m (c.collector_ticks * c.rate)) moving
+      ∙ ap (λ b. quanta_for (swept_at resized resized.pages) (moving_at resized resized.pages) b) (sym is.budget)
 
   traced : unmoved_quanta_at c resized.pages ≡ unmoved_quanta_at resized resized.pages
   traced =
-      let l : swept_at c resized.pages ≡ swept_at resized resized.pages = ap (λ r. r + PAGE_WORDS * resized.pages + (blocks_in 0 + 1) * resized.pages + (blocks_in 0 + 4)) (sym is.roots) in
-      ap (λ z. z / (c.collector_ticks * c.rate) + 1) l ∙ ap (λ b. swept_at resized resized.pages / b + 1) (sym is.budget)
+      ap (λ z. z / (c.collector_ticks * c.rate) + 1) swept ∙ ap (λ b. swept_at resized resized.pages / b + 1) (sym is.budget)
 
   same_words : live + (2 * cycle_quanta_at c resized.pages + (unmoved_quanta_at c resized.pages * 1 + 0)) ≡ live + (2 * (1 * cycle_quanta resized) + (unmoved_quanta_at resized resized.pages * 1 + 0))
   same_words = let w = whole in let t = traced in omega (arith, w, t)

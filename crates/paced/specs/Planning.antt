@@ -3,16 +3,16 @@ use Rattle.std.specs.Prelude.{◌≡◌, ℕ, ◌+◌, ◌-◌, ◌*◌, ◌/◌
 use Rattle.size_classes.specs.declared.class.TheConstants.{CLASSES, PAGE_WORDS}
 use Rattle.settings.specs.declared.config.Config.{Config}
 use Rattle.settings.specs.declared.config.TheConstants.{LEAST_BUDGET, MOST_HEAP_PAGES}
-use Rattle.settings.specs.Config.{cycle_limit_of}
-use Rattle.space.specs.Fitting.{unmoved_quanta_at}
+use Rattle.space.specs.Fitting.{swept_at, quanta_at, unmoved_quanta_at}
 use Rattle.fragmentation.specs.Flow.{flow_pages}
 use Rattle.fragmentation.specs.Configured.{FlowFitsIn}
 use Rattle.paced.specs.declared.plan.Plan.{Plan}
 use Rattle.paced.specs.Rooms.{flow_for}
 
--- the quanta of its schedule that a whole cycle takes at most: each may leave 255 units of its budget
+-- the quanta of its schedule that a whole cycle takes at most: those that end in moving may leave 255 units of their
+-- budgets
 abbrev pub cycle_quanta : Config → ℕ
-cycle_quanta c = cycle_limit_of c / (c.collector_ticks * c.rate - (LEAST_BUDGET - 1)) + 1
+cycle_quanta c = quanta_at c c.pages
 
 -- So many words for each quantum, and as many for each that a whole cycle takes at most, fit in a configuration, where
 -- blocks are made of these classes alone.
@@ -31,11 +31,16 @@ IsFastestFor makes c live (Some plan) = (1 ≤ plan.quantum_words)
 abbrev pub IsFastest : Config → ℕ → Option Plan → Type 0
 IsFastest = IsFastestFor (λ class. true)
 
+-- the quanta of a budget that a whole cycle takes at most, where roots, marking and sweeping spend so many units at most,
+-- and moving so many
+abbrev pub quanta_for : ℕ → ℕ → ℕ → ℕ
+quanta_for swept moving budget =
+    (swept + moving + (LEAST_BUDGET - 1) * (moving / (budget - (LEAST_BUDGET - 1)) + 1)) / budget + 1
+
 -- the quanta of its schedule that a whole cycle takes at most on this many pages, all of which it may empty
 abbrev pub cycle_quanta_at : Config → ℕ → ℕ
 cycle_quanta_at c pages =
-    (c.mutators * c.slots + c.statics + 3 * (PAGE_WORDS * pages) + (pages + CLASSES) * pages + 4)
-    / (c.collector_ticks * c.rate - (LEAST_BUDGET - 1)) + 1
+    quanta_for (swept_at c pages) ((pages + CLASSES) * pages + PAGE_WORDS * pages + 1) (c.collector_ticks * c.rate)
 
 -- There is a plan on this many pages, all of which a cycle may empty, where blocks are made of these classes alone: that
 -- with one word for each quantum.

@@ -18,6 +18,6 @@ pub use laws::{
 pub use paced::PacedHeap;
 pub use pacer::{AbovePlan, Pacer};
 pub use plan::{
-    Plan, classes_in, flow_fits, flow_fits_for, least_pages, least_pages_for, moves_all, planned,
-    planned_for,
+    Plan, classes_in, cycle_quanta, flow_fits, flow_fits_for, least_pages, least_pages_for,
+    moves_all, planned, planned_for,
 };

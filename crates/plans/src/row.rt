@@ -1,21 +1,14 @@
 //! The plan on a number of pages, as a line.
 ghost use Rattle.std.specs.Prelude.{◌≡◌, ◌≤◌, IfOk, IfSome, option_map, string_bytes};
 ghost use Rattle.settings.specs.declared.config.TheConstants.{MOST_HEAP_PAGES};
-ghost use Rattle.paced.specs.Planning.{cycle_quanta, IsFastestFor};
+ghost use Rattle.paced.specs.Planning.{IsFastestFor};
 ghost use Rattle.plans.specs.Report.{made_of, tenths_of, plan_line, IsRow};
 
 use crate::on_pages::on_pages;
-use paced::{Plan, planned, planned_for};
-use settings::{Config, LEAST_BUDGET};
+use paced::{Plan, cycle_quanta, planned, planned_for};
+use settings::Config;
 use size_classes::Class;
 use std::alloc::{AllocError, Global};
-
-/// The quanta of the configuration's budget that a whole cycle takes at most.
-fn cycle_quanta(config: &Config) -> u64
-    ensures { result ≡ cycle_quanta config.now }
-{
-    config.cycle_limit() / u64::from(config.budget() - (LEAST_BUDGET - 1)) + 1
-}
 
 /// Tenths of a unit for each word, where so many words are asked for at a quantum of so many units, rounded up.
 fn tenths(units: u32, words: u64) -> u128

@@ -7,7 +7,7 @@ use Rattle.paced.proofs.plan.has_plan_on.Goals as goal
 
 pub returns : goal.returns
 returns c = λ makes made.
-    let w = c.whole_quanta_on.ensures.quanta in
+    let w = c.cycle_quanta_on.ensures.quanta in
     let t = c.traced_quanta.ensures.quanta in
     let l = c.from.ensures in
     let q = c.from-2.ensures in

@@ -5,10 +5,10 @@ use Rattle.std.proofs.Math.Nat.{div-mul-le_self, mul-le-mul_left, mul-le-mul_rig
 use Rattle.size_classes.specs.declared.class.TheConstants.{CLASSES, PAGE_WORDS}
 use Rattle.settings.specs.declared.config.Config.{Config}
 use Rattle.size_classes.specs.Sizes.{blocks_in}
-use Rattle.space.specs.Fitting.{swept_at, moving_at, unmoved_quanta_at}
+use Rattle.space.specs.Fitting.{swept_at, moving_at, moved_quanta_at, unmoved_quanta_at}
 use Rattle.fragmentation.specs.declared.flow.TheConstants.{LEAST_PAGE_FILL, PARTLY_FILLED_PAGES}
 use Rattle.fragmentation.specs.Flow.{classes_made}
-use Rattle.paced.specs.Planning.{cycle_quanta, FitsEvenlyFor, IsFastestFor, cycle_quanta_at, quanta_for, HasPlanOn, IsResized, HasPlan}
+use Rattle.paced.specs.Planning.{cycle_quanta, FitsEvenlyFor, IsFastestFor, HasPlanOn, IsResized, HasPlan}
 
 -- of more, divided by less, comes no less
 div_more : (x y c d : ℕ) → 0 < d → x ≤ y → d ≤ c → x / c ≤ y / d
@@ -18,7 +18,7 @@ div_more x y c d some l g = le-div (x / c) y d some (let m = mul-le-mul_left (x 
 traced_less : (c : Config) → unmoved_quanta_at c c.pages ≤ cycle_quanta c
 traced_less c =
     let b = c.budget_in_range.0 in
-    let d = div_more (swept_at c c.pages) (swept_at c c.pages + moving_at c c.pages + 255 * (moving_at c c.pages / (c.collector_ticks * c.rate - 255) + 1)) (c.collector_ticks * c.rate) (c.collector_ticks * c.rate) (omega (arith, b)) (omega arith) (omega arith) in
+    let d = div_more (swept_at c c.pages) (swept_at c c.pages + moving_at c.pages c.defrag_pages + 255 * (moving_at c.pages c.defrag_pages / (c.collector_ticks * c.rate - 255) + 1)) (c.collector_ticks * c.rate) (c.collector_ticks * c.rate) (omega (arith, b)) (omega arith) (omega arith) in
     omega (arith, d)
 
 -- the words for which there is room besides what is live, where blocks are made of so many classes
@@ -86,18 +86,18 @@ module _ (makes : ℕ → Bool) (c resized : Config) (live : ℕ) (is : IsResize
   swept : swept_at c resized.pages ≡ swept_at resized resized.pages
   swept = ap (λ r. r + PAGE_WORDS * resized.pages + (blocks_in 0 + 1) * resized.pages + (blocks_in 0 + 4)) (sym is.roots)
 
-  whole : cycle_quanta_at c resized.pages ≡ cycle_quanta resized
+  whole : moved_quanta_at c resized.pages resized.pages ≡ cycle_quanta resized
   whole =
-      let moving : (resized.pages + CLASSES) * resized.pages + PAGE_WORDS * resized.pages + 1 ≡ moving_at resized resized.pages = ap (λ z. (z + CLASSES) * resized.pages + PAGE_WORDS * resized.pages + 1) (sym is.empties_all) in
-      ap (λ s. quanta_for s ((resized.pages + CLASSES) * resized.pages + PAGE_WORDS * resized.pages + 1) (c.collector_ticks * c.rate)) swept
-      ∙ ap (λ m. quanta_for (swept_at resized resized.pages) m (c.collector_ticks * c.rate)) moving
-      ∙ ap (λ b. quanta_for (swept_at resized resized.pages) (moving_at resized resized.pages) b) (sym is.budget)
+      let k = c.collector_ticks * c.rate in
+      ap (λ s. (s + moving_at resized.pages resized.pages + 255 * (moving_at resized.pages resized.pages / (k - 255) + 1)) / k + 1) swept
+      ∙ ap (λ b. (swept_at resized resized.pages + moving_at resized.pages resized.pages + 255 * (moving_at resized.pages resized.pages / (b - 255) + 1)) / b + 1) (sym is.budget)
+      ∙ ap (moved_quanta_at resized resized.pages) (sym is.empties_all)
 
   traced : unmoved_quanta_at c resized.pages ≡ unmoved_quanta_at resized resized.pages
   traced =
       ap (λ z. z / (c.collector_ticks * c.rate) + 1) swept ∙ ap (λ b. swept_at resized resized.pages / b + 1) (sym is.budget)
 
-  same_words : live + (2 * cycle_quanta_at c resized.pages + (unmoved_quanta_at c resized.pages * 1 + 0)) ≡ live + (2 * (1 * cycle_quanta resized) + (unmoved_quanta_at resized resized.pages * 1 + 0))
+  same_words : live + (2 * moved_quanta_at c resized.pages resized.pages + (unmoved_quanta_at c resized.pages * 1 + 0)) ≡ live + (2 * (1 * cycle_quanta resized) + (unmoved_quanta_at resized resized.pages * 1 + 0))
   same_words = let w = whole in let t = traced in omega (arith, w, t)
 
   pub resized_plan : HasPlanOn makes c live resized.pages → HasPlan makes resized live

@@ -1,9 +1,8 @@
 -- Which plan is chosen.
 use Rattle.std.specs.Prelude.{◌≡◌, ℕ, ◌+◌, ◌-◌, ◌*◌, ◌/◌, ◌<◌, ◌≤◌, Bool, true, Option, Some, None}
-use Rattle.size_classes.specs.declared.class.TheConstants.{CLASSES, PAGE_WORDS}
 use Rattle.settings.specs.declared.config.Config.{Config}
-use Rattle.settings.specs.declared.config.TheConstants.{LEAST_BUDGET, MOST_HEAP_PAGES}
-use Rattle.space.specs.Fitting.{swept_at, quanta_at, unmoved_quanta_at}
+use Rattle.settings.specs.declared.config.TheConstants.{MOST_HEAP_PAGES}
+use Rattle.space.specs.Fitting.{moved_quanta_at, unmoved_quanta_at}
 use Rattle.fragmentation.specs.Flow.{flow_pages}
 use Rattle.fragmentation.specs.Configured.{FlowFitsIn}
 use Rattle.paced.specs.declared.plan.Plan.{Plan}
@@ -12,7 +11,7 @@ use Rattle.paced.specs.Rooms.{flow_for}
 -- the quanta of its schedule that a whole cycle takes at most: those that end in moving may leave 255 units of their
 -- budgets
 abbrev pub cycle_quanta : Config → ℕ
-cycle_quanta c = quanta_at c c.pages
+cycle_quanta c = moved_quanta_at c c.pages c.defrag_pages
 
 -- So many words for each quantum, and as many for each that a whole cycle takes at most, fit in a configuration, where
 -- blocks are made of these classes alone.
@@ -31,22 +30,11 @@ IsFastestFor makes c live (Some plan) = (1 ≤ plan.quantum_words)
 abbrev pub IsFastest : Config → ℕ → Option Plan → Type 0
 IsFastest = IsFastestFor (λ class. true)
 
--- the quanta of a budget that a whole cycle takes at most, where roots, marking and sweeping spend so many units at most,
--- and moving so many
-abbrev pub quanta_for : ℕ → ℕ → ℕ → ℕ
-quanta_for swept moving budget =
-    (swept + moving + (LEAST_BUDGET - 1) * (moving / (budget - (LEAST_BUDGET - 1)) + 1)) / budget + 1
-
--- the quanta of its schedule that a whole cycle takes at most on this many pages, all of which it may empty
-abbrev pub cycle_quanta_at : Config → ℕ → ℕ
-cycle_quanta_at c pages =
-    quanta_for (swept_at c pages) ((pages + CLASSES) * pages + PAGE_WORDS * pages + 1) (c.collector_ticks * c.rate)
-
 -- There is a plan on this many pages, all of which a cycle may empty, where blocks are made of these classes alone: that
 -- with one word for each quantum.
 abbrev pub HasPlanOn : (ℕ → Bool) → Config → ℕ → ℕ → Type 0
 HasPlanOn makes c live pages =
-    flow_pages (flow_for makes live (record { quantum_words = 1; cycle_words = cycle_quanta_at c pages }))
+    flow_pages (flow_for makes live (record { quantum_words = 1; cycle_words = moved_quanta_at c pages pages }))
     (unmoved_quanta_at c pages)
     ≤ pages
 

@@ -1,15 +1,16 @@
 //! Plans, and whether the flow of one fits in a configuration.
 ghost use Rattle.std.specs.Prelude.{◌≡◌, ℕ, ◌+◌, ◌-◌, ◌*◌, ◌/◌, ◌^◌, ◌<◌, ◌≤◌, ◌↔◌, Bool, IsTrue};
 ghost use Rattle.settings.specs.declared.config.TheConstants.{MOST_HEAP_PAGES};
-ghost use Rattle.space.specs.Fitting.{swept_at, unmoved_quanta_at};
+ghost use Rattle.space.specs.declared.pace.TheConstants.{MOST_QUANTA};
 ghost use Rattle.fragmentation.specs.Configured.{MovesAll, FlowFitsIn};
 ghost use Rattle.fragmentation.specs.Flow.{classes_made};
 ghost use Rattle.paced.specs.Rooms.{planned_flow, flow_for, among};
-ghost use Rattle.paced.specs.Planning.{cycle_quanta, cycle_quanta_at, quanta_for, IsFastest, IsFastestFor, HasPlanOn, IsLeastPages, IsLeastPagesFor};
+ghost use Rattle.paced.specs.Planning.{cycle_quanta, IsFastest, IsFastestFor, HasPlanOn, IsLeastPages, IsLeastPagesFor};
 
 use fragmentation::{LEAST_PAGE_FILL, PARTLY_FILLED_PAGES};
-use settings::{Config, LEAST_BUDGET, MOST_HEAP_PAGES};
-use size_classes::{CLASSES, Class, PAGE_WORDS};
+use settings::{Config, MOST_HEAP_PAGES};
+use size_classes::{CLASSES, Class};
+use space::{moved_quanta, unmoved_quanta};
 
 /// How many words of blocks a heap lets be asked for while its collector works.
 #[derive(Clone, Copy, Debug, PartialEq, Eq)]
@@ -18,54 +19,6 @@ pub struct Plan {
     pub quantum_words: u64,
     /// Words from one cycle's beginning until the next begins.
     pub cycle_words: u64,
-}
-
-/// The units that roots, marking and sweeping spend at most, on this many pages.
-fn swept_units(config: &Config, pages: u32) -> u64
-    requires { pages ≤ MOST_HEAP_PAGES }
-    ensures units { result ≡ swept_at config.now pages }
-    ensures within { result ≤ 2_700_000_000 }
-{
-    let count = u64::from(pages);
-    let roots = u64::from(config.root_cells());
-    let arena = u64::from(PAGE_WORDS) * count;
-    let most = u64::from(Class::new(0).blocks_per_page());
-    roots + arena + (most + 1) * count + (most + 4)
-}
-
-/// The units that moving spends at most, on this many pages, of which a cycle may empty so many.
-fn moving_units(pages: u32, emptied: u32) -> u64
-    requires pages { pages ≤ MOST_HEAP_PAGES }
-    requires emptied { emptied ≤ MOST_HEAP_PAGES }
-    ensures units { result ≡ (emptied + CLASSES) * pages + PAGE_WORDS * pages + 1 }
-    ensures within { result ≤ 1_102_000_000_000 }
-{
-    let count = u64::from(pages);
-    let looks = (u64::from(emptied) + CLASSES as u64) * count;
-    looks + u64::from(PAGE_WORDS) * count + 1
-}
-
-/// The quanta of the configuration's budget that a cycle takes at most, where roots, marking and sweeping spend so many
-/// units at most, and moving so many: a quantum that ends in moving may leave a part of its budget.
-fn quanta_for(config: &Config, swept: u64, moving: u64) -> u64
-    requires swept { swept ≤ 2_700_000_000 }
-    requires moving { moving ≤ 1_102_000_000_000 }
-    ensures quanta { result ≡ quanta_for swept moving (config.now.collector_ticks * config.now.rate) }
-    ensures within { (1 ≤ result) × (result ≤ 300_000_000_000_000) }
-{
-    let budget = u64::from(config.budget());
-    let left = u64::from(LEAST_BUDGET - 1);
-    let ended = moving / (budget - left) + 1;
-    (swept + moving + left * ended) / budget + 1
-}
-
-/// The quanta of the configuration's budget that a cycle takes at most up to its sweep's end, on this many pages.
-fn traced_quanta(config: &Config, pages: u32) -> u64
-    requires { pages ≤ MOST_HEAP_PAGES }
-    ensures quanta { result ≡ unmoved_quanta_at config.now pages }
-    ensures within { result ≤ 10_600_000 }
-{
-    swept_units(config, pages) / u64::from(config.budget()) + 1
 }
 
 /// Of how many size classes these are: each counts once.
@@ -106,7 +59,7 @@ fn fits(config: &Config, live_words: u64, plan: &Plan, classes: u64) -> bool
     ensures { (makes : ℕ → Bool) → classes_made makes ≡ classes
         → IsTrue result ↔ FlowFitsIn config.now (flow_for makes live_words plan.now) }
 {
-    let traced = u128::from(traced_quanta(config, config.pages)) * u128::from(plan.quantum_words);
+    let traced = u128::from(unmoved_quanta(config, config.pages)) * u128::from(plan.quantum_words);
     let words = u128::from(live_words) + (2 * u128::from(plan.cycle_words) + traced);
     traced <= u128::from(plan.cycle_words)
         && pages_for_words(words, classes) <= u128::from(config.pages)
@@ -130,10 +83,9 @@ pub fn flow_fits_for(config: &Config, live_words: u64, plan: &Plan, used: &[Clas
 /// The quanta of the configuration's budget that a whole cycle takes at most.
 pub fn cycle_quanta(config: &Config) -> u64
     ensures quanta { result ≡ cycle_quanta config.now }
-    ensures within { (1 ≤ result) × (result ≤ 300_000_000_000_000) }
+    ensures within { (1 ≤ result) × (result ≤ MOST_QUANTA) }
 {
-    let moving = moving_units(config.pages, config.defrag_pages);
-    quanta_for(config, swept_units(config, config.pages), moving)
+    moved_quanta(config, config.pages, config.defrag_pages)
 }
 
 /// The fastest plan whose flow fits in a configuration, where blocks are made of so many classes.
@@ -146,7 +98,7 @@ fn fastest(config: &Config, live_words: u64, classes: u64) -> Option<Plan>
     let room = (pages.saturating_sub(PARTLY_FILLED_PAGES * classes) * LEAST_PAGE_FILL)
         .saturating_sub(live_words)
         .saturating_sub(1);
-    let quantum_words = room / (2 * whole + traced_quanta(config, config.pages));
+    let quantum_words = room / (2 * whole + unmoved_quanta(config, config.pages));
     if quantum_words == 0 {
         return None;
     }
@@ -173,20 +125,6 @@ pub fn planned_for(config: &Config, live_words: u64, used: &[Class]) -> Option<P
     fastest(config, live_words, classes_in(used))
 }
 
-/// The quanta of the configuration's budget that a whole cycle takes at most, on this many pages, all of which it may
-/// empty.
-fn cycle_quanta_on(config: &Config, pages: u32) -> u64
-    requires { pages ≤ MOST_HEAP_PAGES }
-    ensures quanta { result ≡ cycle_quanta_at config.now pages }
-    ensures within { (1 ≤ result) × (result ≤ 300_000_000_000_000) }
-{
-    quanta_for(
-        config,
-        swept_units(config, pages),
-        moving_units(pages, pages),
-    )
-}
-
 /// Whether there is a plan on this many pages, where blocks are made of so many classes.
 fn has_plan_on(config: &Config, live_words: u64, pages: u32, classes: u64) -> bool
     requires pages { pages ≤ MOST_HEAP_PAGES }
@@ -194,7 +132,7 @@ fn has_plan_on(config: &Config, live_words: u64, pages: u32, classes: u64) -> bo
     ensures { (makes : ℕ → Bool) → classes_made makes ≡ classes
         → IsTrue result ↔ HasPlanOn makes config.now live_words pages }
 {
-    let quanta = 2 * cycle_quanta_on(config, pages) + traced_quanta(config, pages);
+    let quanta = 2 * moved_quanta(config, pages, pages) + unmoved_quanta(config, pages);
     let words = u128::from(live_words) + u128::from(quanta);
     pages_for_words(words, classes) <= u128::from(pages)
 }

@@ -4,3 +4,4 @@ pub mod Spending
 pub mod Unmoved
 pub mod Shifted
 pub mod Moved
+pub mod Lasting

@@ -33,18 +33,22 @@ abbrev pub swept_at : Config → ℕ → ℕ
 swept_at c pages =
     c.mutators * c.slots + c.statics + PAGE_WORDS * pages + (blocks_in 0 + 1) * pages + (blocks_in 0 + 4)
 
--- the units that moving spends at most, in a heap of a configuration with this many pages
-abbrev pub moving_at : Config → ℕ → ℕ
-moving_at c pages = (c.defrag_pages + CLASSES) * pages + PAGE_WORDS * pages + 1
+-- the units that moving spends at most on this many pages, of which a cycle may empty so many: a look at every page for
+-- each class and each page that may be chosen, the words of all pages, and one more
+abbrev pub moving_at : ℕ → ℕ → ℕ
+moving_at pages emptied = (emptied + CLASSES) * pages + PAGE_WORDS * pages + 1
 
--- the quanta of its schedule that end in moving, at most, in a cycle
-abbrev pub ended_at : Config → ℕ → ℕ
-ended_at c pages = moving_at c pages / (c.collector_ticks * c.rate - (LEAST_BUDGET - 1)) + 1
+-- of a cycle on this many pages, of which it may empty so many, the quanta that end in moving, at most
+abbrev pub ended_at : Config → ℕ → ℕ → ℕ
+ended_at c pages emptied = moving_at pages emptied / (c.collector_ticks * c.rate - (LEAST_BUDGET - 1)) + 1
 
--- the quanta of its schedule that a cycle takes at most: those that end in moving may leave 255 units of their budgets
-abbrev pub quanta_at : Config → ℕ → ℕ
-quanta_at c pages =
-    (swept_at c pages + moving_at c pages + (LEAST_BUDGET - 1) * ended_at c pages) / (c.collector_ticks * c.rate) + 1
+-- the quanta of its schedule that a cycle takes at most on this many pages, of which it may empty so many: those that end
+-- in moving may leave 255 units of their budgets
+abbrev pub moved_quanta_at : Config → ℕ → ℕ → ℕ
+moved_quanta_at c pages emptied =
+    (swept_at c pages + moving_at pages emptied + (LEAST_BUDGET - 1) * ended_at c pages emptied)
+    / (c.collector_ticks * c.rate)
+    + 1
 
 -- the quanta that a cycle takes at most where moving never begins: each action costs one unit, so that a quantum
 -- spends its whole budget
@@ -53,7 +57,7 @@ unmoved_quanta_at c pages = swept_at c pages / (c.collector_ticks * c.rate) + 1
 
 -- the pages that a pace takes in a heap that has this many, with those that moving may leave sparse
 abbrev pub moved_pages : Config → Pace → ℕ → ℕ
-moved_pages c p pages = space_for (demand_of p (quanta_at c pages)) (spare_in c)
+moved_pages c p pages = space_for (demand_of p (moved_quanta_at c pages c.defrag_pages)) (spare_in c)
 
 -- the pages that a pace takes in a heap that has this many, with as many free ones as moving begins below, so that it
 -- never begins
@@ -70,7 +74,7 @@ pages_needed c p pages = if is_unmoved c p pages then unmoved_pages c p pages el
 
 -- the quanta with which these pages are reckoned
 abbrev pub quanta_needed : Config → Pace → ℕ → ℕ
-quanta_needed c p pages = if is_unmoved c p pages then unmoved_quanta_at c pages else quanta_at c pages
+quanta_needed c p pages = if is_unmoved c p pages then unmoved_quanta_at c pages else moved_quanta_at c pages c.defrag_pages
 
 -- what a pace takes in a heap of a configuration with this many pages
 pub record IsNeeded (c : Config) (p : Pace) (count : ℕ) (needs : Needs) : Type 0 where

@@ -4,5 +4,6 @@ pub mod Space
 pub mod Counts
 pub mod Placement
 pub mod Pace
+pub mod Lasting
 pub mod Fitting
 pub mod Room

@@ -11,9 +11,11 @@ ghost use Rattle.heap_model.specs.Event.{Course, Event, Runs};
 ghost use Rattle.heap_model.specs.ReachedFrom.{opened};
 ghost use Rattle.space.specs.Demand.{Demand, asked_for};
 ghost use Rattle.space.specs.Tally.{opening_tally, AllKeepTo, EveryNewFindsRoom};
-ghost use Rattle.space.specs.Pace.{Pace, opening_beat, AllKeepPace, moved_quanta, unmoved_quanta, demand_of};
+ghost use Rattle.space.specs.Pace.{Pace, in_cycle, opening_beat, AllKeepPace, moved_quanta, unmoved_quanta, demand_of};
 ghost use Rattle.space.specs.Space.{space_for, spare_of, below_of};
-ghost use Rattle.space.specs.Fitting.{Fits, FitsIn};
+ghost use Rattle.heap_model.specs.Phases.{awaits_sweep_end};
+ghost use Rattle.space.specs.Lasting.{HaveBudgets, LastsAtMost};
+ghost use Rattle.space.specs.Fitting.{Fits, FitsIn, moved_quanta_at, unmoved_quanta_at};
 ghost use Rattle.space.specs.Room.{asks, AllHaveRoom};
 
 /// The space bound. In every run of events from an opening heap that keeps to a demand, no new object is
@@ -84,4 +86,17 @@ pub fn configured_space_suffices()
         → settings_of h ≡ settings_by config → Runs (opened h) es new
         → AllKeepPace p (config.collector_ticks * config.rate) (opening_beat h.limits) es → FitsIn config p config.pages
         → AllHaveRoom es }
+{}
+
+/// In a heap of a configuration whose quanta have at least the schedule's budget, a cycle lasts `moved_quanta_at` quanta
+/// at most, and `unmoved_quanta_at` up to its sweep's end.
+pub fn cycles_end()
+    ensures cycle { (config : Config) (h : HeapState) (es : List Event) (new : Course) → 1 ≤ config.pages
+        → LEAST_BUDGET ≤ config.collector_ticks * config.rate → IsOpening h → settings_of h ≡ settings_by config
+        → Runs (opened h) es new → HaveBudgets (config.collector_ticks * config.rate) es
+        → LastsAtMost in_cycle (moved_quanta_at config config.pages config.defrag_pages) 0 es }
+    ensures sweep { (config : Config) (h : HeapState) (es : List Event) (new : Course) → 1 ≤ config.pages
+        → LEAST_BUDGET ≤ config.collector_ticks * config.rate → IsOpening h → settings_of h ≡ settings_by config
+        → Runs (opened h) es new → HaveBudgets (config.collector_ticks * config.rate) es
+        → LastsAtMost awaits_sweep_end (unmoved_quanta_at config config.pages) 0 es }
 {}

@@ -1,12 +1,12 @@
 //! Whether a configuration has enough pages, so that no new object is refused for lack of space.
 ghost use Rattle.std.specs.Prelude.{◌≡◌, ◌+◌, ◌≤◌, ◌↔◌, IsTrue};
-ghost use Rattle.space.specs.Fitting.{pace_in, spare_in, below_in, swept_at, moving_at, quanta_at, unmoved_quanta_at};
+ghost use Rattle.space.specs.Fitting.{pace_in, spare_in, below_in, swept_at, moving_at, moved_quanta_at, unmoved_quanta_at};
 ghost use Rattle.space.specs.Fitting.{IsNeeded, FitsIn, IsLeast};
 ghost use Rattle.space.specs.Pace.{demand_of};
 ghost use Rattle.space.specs.Space.{space_for};
 ghost use Rattle.settings.specs.declared.config.TheConstants.{MOST_HEAP_PAGES};
 
-use crate::pace::{MOST_QUANTA, Pace};
+use crate::pace::{MOST_QUANTA, MOST_UNMOVED_QUANTA, Pace};
 use settings::{Config, LEAST_BUDGET, MOST_PAGES};
 use size_classes::{CLASSES, Class, PAGE_WORDS};
 
@@ -45,37 +45,40 @@ fn swept(config: &Config, pages: u32) -> u64
     roots + arena + (most + 1) * count + (most + 4)
 }
 
-/// The units that moving spends at most, in a heap of the configuration with this many pages.
-fn moving(config: &Config, pages: u32) -> u64
-    requires { pages ≤ MOST_HEAP_PAGES }
-    ensures moving { result ≡ moving_at config.now pages }
+/// The units that moving spends at most, on this many pages, of which a cycle may empty so many.
+fn moving(pages: u32, emptied: u32) -> u64
+    requires pages { pages ≤ MOST_HEAP_PAGES }
+    requires emptied { emptied ≤ MOST_HEAP_PAGES }
+    ensures moving { result ≡ moving_at pages emptied }
     ensures within { result ≤ 1_102_000_000_000 }
 {
     let count = u64::from(pages);
     let arena = u64::from(PAGE_WORDS) * count;
-    let looks = (u64::from(config.defrag_pages) + CLASSES as u64) * count;
+    let looks = (u64::from(emptied) + CLASSES as u64) * count;
     looks + arena + 1
 }
 
-/// The quanta of the schedule that a cycle takes at most, in a heap of the configuration with this many pages. Those
-/// that end in moving may leave a part of their budgets.
-fn quanta(config: &Config, pages: u32) -> u64
-    requires { pages ≤ MOST_HEAP_PAGES }
-    ensures quanta { result ≡ quanta_at config.now pages }
-    ensures within { result ≤ MOST_QUANTA }
+/// The quanta of the schedule that a cycle takes at most, in a heap of the configuration with this many pages, of which
+/// it may empty so many. Those that end in moving may leave a part of their budgets.
+pub fn moved_quanta(config: &Config, pages: u32, emptied: u32) -> u64
+    requires pages { pages ≤ MOST_HEAP_PAGES }
+    requires emptied { emptied ≤ MOST_HEAP_PAGES }
+    ensures quanta { result ≡ moved_quanta_at config.now pages emptied }
+    ensures within { (1 ≤ result) × (result ≤ MOST_QUANTA) }
 {
     let budget = u64::from(config.budget());
     let left = u64::from(LEAST_BUDGET - 1);
-    let moving = moving(config, pages);
+    let moving = moving(pages, emptied);
     let ended = moving / (budget - left) + 1;
     (swept(config, pages) + moving + left * ended) / budget + 1
 }
 
-/// The quanta that a cycle takes at most where moving never begins, so that each spends its whole budget.
-fn unmoved_quanta(config: &Config, pages: u32) -> u64
+/// The quanta that a cycle takes at most up to its sweep's end, and where moving never begins: each spends its whole
+/// budget.
+pub fn unmoved_quanta(config: &Config, pages: u32) -> u64
     requires { pages ≤ MOST_HEAP_PAGES }
     ensures quanta { result ≡ unmoved_quanta_at config.now pages }
-    ensures within { result ≤ MOST_QUANTA }
+    ensures within { (1 ≤ result) × (result ≤ MOST_UNMOVED_QUANTA) }
 {
     swept(config, pages) / u64::from(config.budget()) + 1
 }
@@ -112,7 +115,8 @@ pub fn pace_needs(config: &Config, pace: &Pace, pages: u32) -> Needs
     ensures { IsNeeded config.now (pace_in pace.now) pages result }
 {
     let unmoved = Needs::of(pace, unmoved_quanta(config, pages), 0, below(config));
-    let moved = Needs::of(pace, quanta(config, pages), spare(config), 0);
+    let quanta = moved_quanta(config, pages, config.defrag_pages);
+    let moved = Needs::of(pace, quanta, spare(config), 0);
     if unmoved.pages <= moved.pages {
         unmoved
     } else {

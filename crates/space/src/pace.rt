@@ -11,6 +11,9 @@ use size_classes::{CLASSES, Class};
 /// More quanta than a cycle can take.
 pub const MOST_QUANTA: u64 = 300_000_000_000_000;
 
+/// More quanta than a cycle can take up to its sweep's end.
+pub const MOST_UNMOVED_QUANTA: u64 = 10_600_000;
+
 /// Of each size class: how many blocks live objects need at most where a cycle begins; how many are asked for
 /// at most while a cycle runs, from its beginning or a quantum up to the next quantum; and how many from the
 /// end of a cycle until the next begins.

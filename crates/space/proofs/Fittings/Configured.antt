@@ -11,16 +11,19 @@ use Rattle.heap_model.specs.State.{HeapState}
 use Rattle.heap_model.specs.Settings.{HeapSettings, settings_of, settings_by}
 use Rattle.heap_model.specs.Opening.{IsOpening}
 use Rattle.heap_model.specs.Spent.{swept_units}
+use Rattle.heap_model.specs.Phases.{awaits_sweep_end}
 use Rattle.heap_model.specs.Event.{Course, Event, Runs}
 use Rattle.heap_model.specs.ReachedFrom.{opened}
 use Rattle.space.specs.Demand.{Demand}
 use Rattle.space.specs.Tally.{opening_tally, AllKeepTo}
 use Rattle.space.specs.Space.{space_for, spare_of, below_of}
-use Rattle.space.specs.Pace.{Pace, opening_beat, AllKeepPace, moving_units, moved_quanta, unmoved_quanta, demand_of}
-use Rattle.space.specs.Fitting.{Fits, spare_in, below_in, swept_at, moving_at, quanta_at, unmoved_quanta_at, moved_pages, unmoved_pages, is_unmoved, FitsIn}
+use Rattle.space.specs.Pace.{Pace, in_cycle, opening_beat, AllKeepPace, moving_units, moved_quanta, unmoved_quanta, demand_of}
+use Rattle.space.specs.Fitting.{Fits, spare_in, below_in, swept_at, moving_at, moved_quanta_at, unmoved_quanta_at, moved_pages, unmoved_pages, is_unmoved, FitsIn}
+use Rattle.space.specs.Lasting.{HaveBudgets, LastsAtMost}
 use Rattle.space.specs.Room.{AllHaveRoom}
 use Rattle.space.proofs.Rooms.{all_have_room}
 use Rattle.space.proofs.Paces.Moved.{pace_keeps}
+use Rattle.space.proofs.Paces.Lasting.{cycle_lasts, sweep_lasts}
 use Rattle.space.proofs.Paces.Unmoved.{unmoved_suffices, unmoved_keeps}
 use Rattle.space.proofs.Tally.{space_suffices}
 
@@ -58,10 +61,10 @@ module _ (config : Config) (h : HeapState) (o : IsOpening h) (same : settings_of
   same_swept : swept_units h ≡ swept_at config config.pages
   same_swept = swept_by (length h.roots) (length h.store.pages) config roots pages
 
-  same_moving : moving_units h ≡ moving_at config config.pages
+  same_moving : moving_units h ≡ moving_at config.pages config.defrag_pages
   same_moving = ap (λ z. (z + CLASSES) * length h.store.pages + PAGE_WORDS * length h.store.pages + 1) defrag ∙ ap (λ z. (config.defrag_pages + CLASSES) * z + PAGE_WORDS * z + 1) pages
 
-  same_quanta : moved_quanta h (config.collector_ticks * config.rate) ≡ quanta_at config config.pages
+  same_quanta : moved_quanta h (config.collector_ticks * config.rate) ≡ moved_quanta_at config config.pages config.defrag_pages
   same_quanta =
       let k = config.collector_ticks * config.rate in
       ap (λ z. (z + moving_units h + 255 * (moving_units h / (k - 255) + 1)) / k + 1) same_swept ∙ ap (λ z. (swept_at config config.pages + z + 255 * (z / (k - 255) + 1)) / k + 1) same_moving
@@ -103,3 +106,11 @@ module _ (config : Config) (h : HeapState) (o : IsOpening h) (same : settings_of
       by_way : (u : Bool) → (if u then unmoved_pages config p config.pages else moved_pages config p config.pages) ≤ config.pages → AllHaveRoom es
       by_way true fits = unmoved fits
       by_way false fits = moved fits
+
+  pub cycle_configured : (es : List Event) (new : Course) → 1 ≤ config.pages → LEAST_BUDGET ≤ config.collector_ticks * config.rate → Runs (opened h) es new
+      → HaveBudgets (config.collector_ticks * config.rate) es → LastsAtMost in_cycle (moved_quanta_at config config.pages config.defrag_pages) 0 es
+  cycle_configured es new one great runs enough = subst (λ most. LastsAtMost in_cycle most 0 es) same_quanta (cycle_lasts h es new (config.collector_ticks * config.rate) (omega (arith, great)) o (some one) runs enough)
+
+  pub sweep_configured : (es : List Event) (new : Course) → 1 ≤ config.pages → LEAST_BUDGET ≤ config.collector_ticks * config.rate → Runs (opened h) es new
+      → HaveBudgets (config.collector_ticks * config.rate) es → LastsAtMost awaits_sweep_end (unmoved_quanta_at config config.pages) 0 es
+  sweep_configured es new one great runs enough = subst (λ most. LastsAtMost awaits_sweep_end most 0 es) same_unmoved (sweep_lasts h es new (config.collector_ticks * config.rate) (omega (arith, great)) o (some one) runs enough)

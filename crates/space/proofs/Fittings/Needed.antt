@@ -5,7 +5,7 @@ use Rattle.settings.specs.declared.config.Config.{Config}
 use Rattle.space.specs.declared.fitting.Needs.{Needs}
 use Rattle.space.specs.Pace.{Pace, demand_of}
 use Rattle.space.specs.Space.{space_for}
-use Rattle.space.specs.Fitting.{spare_in, below_in, quanta_at, unmoved_quanta_at, moved_pages, unmoved_pages, IsNeeded}
+use Rattle.space.specs.Fitting.{spare_in, below_in, moved_quanta_at, unmoved_quanta_at, moved_pages, unmoved_pages, IsNeeded}
 
 yes : (u m : ℕ) → u ≤ m → nat_le u m ≡ true
 yes u m l = grind arith
@@ -34,24 +34,24 @@ module _ (c : Config) (p : Pace) (count : ℕ) where
   }
 
   -- where they move, some may be left sparse, and none has to stay free
-  pub moved_takes : (needs : Needs) (quanta sparse : ℕ) → quanta ≡ quanta_at c count → sparse ≡ spare_in c → needs.pages ≡ space_for (demand_of p quanta) sparse + 0 → needs.quanta ≡ quanta
-      → Takes needs (moved_pages c p count) (quanta_at c count)
+  pub moved_takes : (needs : Needs) (quanta sparse : ℕ) → quanta ≡ moved_quanta_at c count c.defrag_pages → sparse ≡ spare_in c → needs.pages ≡ space_for (demand_of p quanta) sparse + 0 → needs.quanta ≡ quanta
+      → Takes needs (moved_pages c p count) (moved_quanta_at c count c.defrag_pages)
   moved_takes needs quanta sparse q s e d =
       let none : needs.pages ≡ space_for (demand_of p quanta) sparse = omega (arith, e) in
-      record { pages = none ∙ ap (λ n. space_for (demand_of p n) sparse) q ∙ ap (space_for (demand_of p (quanta_at c count))) s; quanta = d ∙ q }
+      record { pages = none ∙ ap (λ n. space_for (demand_of p n) sparse) q ∙ ap (space_for (demand_of p (moved_quanta_at c count c.defrag_pages))) s; quanta = d ∙ q }
 
   -- where blocks that never move take no more pages, what is needed is what these need
-  pub unmoved_needed : (u m : Needs) → Takes u (unmoved_pages c p count) (unmoved_quanta_at c count) → Takes m (moved_pages c p count) (quanta_at c count) → u.pages ≤ m.pages → IsNeeded c p count u
+  pub unmoved_needed : (u m : Needs) → Takes u (unmoved_pages c p count) (unmoved_quanta_at c count) → Takes m (moved_pages c p count) (moved_quanta_at c count c.defrag_pages) → u.pages ≤ m.pages → IsNeeded c p count u
   unmoved_needed u m t s l =
       let e = no_more (unmoved_pages c p count) (moved_pages c p count) u.pages m.pages t.pages s.pages l in record {
         pages = t.pages ∙ sym (ap (λ z. if z then unmoved_pages c p count else moved_pages c p count) e);
-        quanta = t.quanta ∙ sym (ap (λ z. if z then unmoved_quanta_at c count else quanta_at c count) e);
+        quanta = t.quanta ∙ sym (ap (λ z. if z then unmoved_quanta_at c count else moved_quanta_at c count c.defrag_pages) e);
       }
 
   -- and else what is needed where they move
-  pub moved_needed : (u m : Needs) → Takes u (unmoved_pages c p count) (unmoved_quanta_at c count) → Takes m (moved_pages c p count) (quanta_at c count) → m.pages < u.pages → IsNeeded c p count m
+  pub moved_needed : (u m : Needs) → Takes u (unmoved_pages c p count) (unmoved_quanta_at c count) → Takes m (moved_pages c p count) (moved_quanta_at c count c.defrag_pages) → m.pages < u.pages → IsNeeded c p count m
   moved_needed u m t s l =
       let e = more (unmoved_pages c p count) (moved_pages c p count) u.pages m.pages t.pages s.pages l in record {
         pages = s.pages ∙ sym (ap (λ z. if z then unmoved_pages c p count else moved_pages c p count) e);
-        quanta = s.quanta ∙ sym (ap (λ z. if z then unmoved_quanta_at c count else quanta_at c count) e);
+        quanta = s.quanta ∙ sym (ap (λ z. if z then unmoved_quanta_at c count else moved_quanta_at c count c.defrag_pages) e);
       }

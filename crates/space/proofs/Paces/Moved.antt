@@ -26,7 +26,7 @@ use Rattle.heap_model.proofs.Left.{change_left}
 use Rattle.heap_model.proofs.Change.Changed.{represents_changed}
 use Rattle.heap_model.proofs.Event.Kept.{founded, present_row, opening_course}
 use Rattle.heap_model.specs.Phases.{awaits_sweep_end}
-use Rattle.space.specs.Tally.{Tally, opening_tally, after_event, AllKeepTo}
+use Rattle.space.specs.Tally.{opening_tally, AllKeepTo}
 use Rattle.space.specs.Pace.{Pace, Beat, opening_beat, in_cycle, KeepsPace, AllKeepPace, moving_units, moved_quanta, demand_of}
 use Rattle.space.proofs.Paces.Pacing.{idle_phase, quanta_after, runs_keep, opening_paced}
 use Rattle.space.proofs.Paces.Spending.{limit_stays, same_swept, swept_kept, all_spent, few_quanta}
@@ -92,25 +92,25 @@ fresh_within h (moves.Emptying class page block chosen) w e = subst (λ z. IsWit
 
 -- While blocks are moved one quantum more than `more` ended in moving, and each of these spent k - 255 units at least, counted from
 -- the most that a sweep leaves.
-record HasMoved (k : ℕ) (h : HeapState) (r : Course) (ended more units : ℕ) : Type 0 where
-  one : ended ≡ more + 1
-  spent : swept_units h + more * (k - 255) ≤ units
-  within : IsWithin (at_units units r.heap) r.heap.phase
+pub record HasMoved (k : ℕ) (h : HeapState) (r : Course) (ended more units : ℕ) : Type 0 where
+  pub one : ended ≡ more + 1
+  pub spent : swept_units h + more * (k - 255) ≤ units
+  pub within : IsWithin (at_units units r.heap) r.heap.phase
 
 -- What is kept: each of n quanta spent k units at least, but for 255 of each that ended in moving.
-record IsSpent (k : ℕ) (h : HeapState) (r : Course) (t : Tally) (n : ℕ) : Type 0 where
-  limit : cycle_limit r.heap ≡ cycle_limit h
-  settings : settings_of r.heap ≡ settings_of h
-  ended : ℕ
-  more : ℕ
-  units : ℕ
-  spent : in_cycle r.heap.phase ≡ true → n * k ≤ r.heap.units + 255 * ended
-  none : awaits_sweep_end r.heap.phase ≡ true → ended ≡ 0
-  moved : in_cycle r.heap.phase ≡ true → awaits_sweep_end r.heap.phase ≡ false → HasMoved k h r ended more units
+pub record IsSpent (k : ℕ) (h : HeapState) (r : Course) (n : ℕ) : Type 0 where
+  pub limit : cycle_limit r.heap ≡ cycle_limit h
+  pub settings : settings_of r.heap ≡ settings_of h
+  pub ended : ℕ
+  pub more : ℕ
+  pub units : ℕ
+  pub spent : in_cycle r.heap.phase ≡ true → n * k ≤ r.heap.units + 255 * ended
+  pub none : awaits_sweep_end r.heap.phase ≡ true → ended ≡ 0
+  pub moved : in_cycle r.heap.phase ≡ true → awaits_sweep_end r.heap.phase ≡ false → HasMoved k h r ended more units
 
 -- with no cycle running there is nothing to keep
-idle_spent : (k : ℕ) (h : HeapState) (r : Course) (t : Tally) (n : ℕ) → cycle_limit r.heap ≡ cycle_limit h → settings_of r.heap ≡ settings_of h → in_cycle r.heap.phase ≡ false → IsSpent k h r t n
-idle_spent k h r t n limit settings off = record {
+pub idle_spent : (k : ℕ) (h : HeapState) (r : Course) (n : ℕ) → cycle_limit r.heap ≡ cycle_limit h → settings_of r.heap ≡ settings_of h → in_cycle r.heap.phase ≡ false → IsSpent k h r n
+idle_spent k h r n limit settings off = record {
   limit = limit;
   settings = settings;
   ended = 0;
@@ -121,9 +121,20 @@ idle_spent k h r t n limit settings off = record {
   moved = λ on past. absurd (let z : true ≡ false = sym on ∙ off in cc);
 }
 
+-- a quantum's budget is at least k
+abbrev pub HasBudget : ℕ → Event → Type 0
+HasBudget k (Quantum_done budget units phase) = k ≤ budget
+HasBudget k _ = Unit {0}
+
+-- where n quanta of a running cycle were done, so many were done after one more event; where none runs, any number will do
+abbrev pub Counts : Course → Event → ℕ → ℕ → Type 0
+Counts r Cycle_begun n to = to ≡ 0
+Counts r (Quantum_done budget units phase) n to = in_cycle r.heap.phase ≡ true → to ≡ n + 1
+Counts r _ n to = to ≡ n
+
 module _ (h : HeapState) (k : ℕ) (great : 256 ≤ k) where
-  spent_few : (r : Course) (t : Tally) (n : ℕ) → IsCourse r → IsSpent k h r t n → in_cycle r.heap.phase ≡ true → n + 1 ≤ moved_quanta h k
-  spent_few r t n w i on = by_sweep (awaits_sweep_end r.heap.phase) refl
+  pub spent_few : (r : Course) (n : ℕ) → IsCourse r → IsSpent k h r n → in_cycle r.heap.phase ≡ true → n + 1 ≤ moved_quanta h k
+  spent_few r n w i on = by_sweep (awaits_sweep_end r.heap.phase) refl
     where
       same : swept_units r.heap ≡ swept_units h
       same = same_swept h r.heap i.limit i.settings
@@ -152,9 +163,9 @@ module _ (h : HeapState) (k : ℕ) (great : 256 ≤ k) where
           few_quanta k (swept_units h + moving_units h + 255 * (moving_units h / (k - 255) + 1)) n (n * k) (omega (arith, great)) (omega arith) (let some : n * k ≤ swept_units h + moving_units h + 255 * (i.more + 1) = omega (arith, l, s, o, same, same_moving) in omega (arith, some, few))
 
   -- a quantum with a cycle running, which doesn't end it
-  quantum_on : (r new : Course) (budget spends : ℕ) (phase : Phase) (t : Tally) (n : ℕ) → IsCourse r → IsSpent k h r t n → k ≤ budget → Collects r budget spends phase new → cycle_limit new.heap ≡ cycle_limit h → settings_of new.heap ≡ settings_of h
-      → in_cycle r.heap.phase ≡ true → in_cycle new.heap.phase ≡ true → (b c : Bool) → awaits_sweep_end r.heap.phase ≡ b → awaits_sweep_end new.heap.phase ≡ c → IsSpent k h new (after_event t (Quantum_done budget spends phase)) (n + 1)
-  quantum_on r new budget spends phase t n w i enough q limit settings on stays = by_sweep
+  quantum_on : (r new : Course) (budget spends : ℕ) (phase : Phase) (n : ℕ) → IsCourse r → IsSpent k h r n → k ≤ budget → Collects r budget spends phase new → cycle_limit new.heap ≡ cycle_limit h → settings_of new.heap ≡ settings_of h
+      → in_cycle r.heap.phase ≡ true → in_cycle new.heap.phase ≡ true → (b c : Bool) → awaits_sweep_end r.heap.phase ≡ b → awaits_sweep_end new.heap.phase ≡ c → IsSpent k h new (n + 1)
+  quantum_on r new budget spends phase n w i enough q limit settings on stays = by_sweep
     where
       away : new.heap.phase ≢ phases.Idle
       away idle = let z : true ≡ false = sym stays ∙ ap in_cycle idle in cc
@@ -174,7 +185,7 @@ module _ (h : HeapState) (k : ℕ) (great : 256 ≤ k) where
       more : (ended : ℕ) → i.ended ≡ ended → (n + 1) * k ≤ new.heap.units + 255 * (ended + 1)
       more ended e = let s = i.spent on in let x = next_times n k in omega (arith, s, x, total, left, enough, e)
 
-      by_sweep : (b c : Bool) → awaits_sweep_end r.heap.phase ≡ b → awaits_sweep_end new.heap.phase ≡ c → IsSpent k h new (after_event t (Quantum_done budget spends phase)) (n + 1)
+      by_sweep : (b c : Bool) → awaits_sweep_end r.heap.phase ≡ b → awaits_sweep_end new.heap.phase ≡ c → IsSpent k h new (n + 1)
       by_sweep true true e f = record {
         limit = limit;
         settings = settings;
@@ -218,9 +229,9 @@ module _ (h : HeapState) (k : ℕ) (great : 256 ≤ k) where
             };
           }
 
-  spent_command : (r new : Course) (t t' : Tally) (n : ℕ) → IsCourse r → IsSpent k h r t n → cycle_limit new.heap ≡ cycle_limit h → settings_of new.heap ≡ settings_of h → (left : LeavesCycle r.heap new.heap)
-      → ((u : ℕ) → IsWithin (at_units u r.heap) r.heap.phase → IsWithin (at_units u new.heap) new.heap.phase) → IsSpent k h new t' n
-  spent_command r new t t' n w i limit settings left within = record {
+  spent_command : (r new : Course) (n : ℕ) → IsCourse r → IsSpent k h r n → cycle_limit new.heap ≡ cycle_limit h → settings_of new.heap ≡ settings_of h → (left : LeavesCycle r.heap new.heap)
+      → ((u : ℕ) → IsWithin (at_units u r.heap) r.heap.phase → IsWithin (at_units u new.heap) new.heap.phase) → IsSpent k h new n
+  spent_command r new n w i limit settings left within = record {
     limit = limit;
     settings = settings;
     ended = i.ended;
@@ -231,8 +242,8 @@ module _ (h : HeapState) (k : ℕ) (great : 256 ≤ k) where
     moved = λ on past. (let v = i.moved (sym (ap in_cycle left.phase) ∙ on) (sym (ap awaits_sweep_end left.phase) ∙ past) in record { one = v.one; spent = v.spent; within = within i.units v.within });
   }
 
-  spent_next : (r : Course) (e : Event) (new : Course) (t : Tally) (b : Beat) (n : ℕ) (p : Pace) → IsCourse r → IsSpent k h r t n → KeepsPace p k b e → Does r e new → IsSpent k h new (after_event t e) (quanta_after r e n)
-  spent_next r (Command_done m c reply) new t b n p w i keeps does = spent_command r new t _ n w i (limit_stays r (Command_done m c reply) new does ∙ i.limit) (does_settings r (Command_done m c reply) new does ∙ i.settings) left within
+  pub spent_next : (r : Course) (e : Event) (new : Course) (n to : ℕ) → IsCourse r → IsSpent k h r n → HasBudget k e → Counts r e n to → Does r e new → IsSpent k h new to
+  spent_next r (Command_done m c reply) new n to w i enough same does = subst (IsSpent k h new) (sym same) (spent_command r new n w i (limit_stays r (Command_done m c reply) new does ∙ i.limit) (does_settings r (Command_done m c reply) new does ∙ i.settings) left within)
     where
       left : LeavesCycle r.heap new.heap
       left = change_left r.heap new.heap (present_of r) (change_by (room_for r.heap c) (present_of r) m c) does.change
@@ -240,18 +251,18 @@ module _ (h : HeapState) (k : ℕ) (great : 256 ≤ k) where
       within : (u : ℕ) → IsWithin (at_units u r.heap) r.heap.phase → IsWithin (at_units u new.heap) new.heap.phase
       within u v = (represents_changed (at_units u r.heap) (at_units u new.heap) (present_of r) (snapshot_of r) (change_by (room_for r.heap c) (present_of r) m c) (represents_at u r.heap (present_of r) (snapshot_of r) w.represents v)
           (founded (present_of r) (room_for r.heap c) m c (present_row r.heap (present_of r) (snapshot_of r) w.represents.consistent)) (change_at u r.heap new.heap (present_of r) _ does.change)).within
-  spent_next r Cycle_begun new t b n p w i keeps does = record {
+  spent_next r Cycle_begun new n to w i enough same does = record {
     limit = limit_stays r Cycle_begun new does ∙ i.limit;
     settings = does_settings r Cycle_begun new does ∙ i.settings;
     ended = 0;
     more = 0;
     units = 0;
-    spent = λ on. omega arith;
+    spent = λ on. subst (λ z. z * k ≤ new.heap.units + 255 * 0) (sym same) (omega arith);
     none = λ on. refl;
     moved = λ on past. absurd (let z : true ≡ false = sym (ap (λ (z : HeapState). awaits_sweep_end z.phase) does.heap) ∙ past in cc);
   }
-  spent_next r Begin_refused new t b n p w i keeps does = subst (λ z. IsSpent k h z t n) (sym does.1) i
-  spent_next r (Quantum_done budget units phase) new t b n p w i keeps does = by_on (in_cycle r.heap.phase) (in_cycle new.heap.phase) refl refl
+  spent_next r Begin_refused new n to w i enough same does = subst (IsSpent k h new) (sym same) (subst (λ z. IsSpent k h z n) (sym does.1) i)
+  spent_next r (Quantum_done budget units phase) new n to w i enough same does = by_on (in_cycle r.heap.phase) (in_cycle new.heap.phase) refl refl
     where
       limit : cycle_limit new.heap ≡ cycle_limit h
       limit = limit_stays r (Quantum_done budget units phase) new does ∙ i.limit
@@ -259,16 +270,28 @@ module _ (h : HeapState) (k : ℕ) (great : 256 ≤ k) where
       settings : settings_of new.heap ≡ settings_of h
       settings = does_settings r (Quantum_done budget units phase) new does ∙ i.settings
 
-      by_on : (b c : Bool) → in_cycle r.heap.phase ≡ b → in_cycle new.heap.phase ≡ c → IsSpent k h new (after_event t (Quantum_done budget units phase)) (if in_cycle r.heap.phase then n + 1 else n)
-      by_on true true e f = subst (λ z. IsSpent k h new (after_event t (Quantum_done budget units phase)) (if z then n + 1 else n)) (sym e)
-          (quantum_on r new budget units phase t n w i keeps does limit settings e f (awaits_sweep_end r.heap.phase) (awaits_sweep_end new.heap.phase) refl refl)
-      by_on true false e f = idle_spent k h new _ _ limit settings f
+      by_on : (b c : Bool) → in_cycle r.heap.phase ≡ b → in_cycle new.heap.phase ≡ c → IsSpent k h new to
+      by_on true true e f = subst (IsSpent k h new) (sym (same e))
+          (quantum_on r new budget units phase n w i enough does limit settings e f (awaits_sweep_end r.heap.phase) (awaits_sweep_end new.heap.phase) refl refl)
+      by_on true false e f = idle_spent k h new to limit settings f
       by_on false c e f =
           let still = idle_chain r.heap new.heap units does.turn.chain (idle_phase r.heap.phase e) in
-          idle_spent k h new _ _ limit settings (ap (λ (z : HeapState). in_cycle z.phase) still.0 ∙ e)
-  spent_next r (Quantum_refused budget) new t b n p w i keeps does = subst (λ z. IsSpent k h z t n) (sym does.1) i
+          idle_spent k h new to limit settings (ap (λ (z : HeapState). in_cycle z.phase) still.0 ∙ e)
+  spent_next r (Quantum_refused budget) new n to w i enough same does = subst (IsSpent k h new) (sym same) (subst (λ z. IsSpent k h z n) (sym does.1) i)
 
 pub pace_keeps : (h : HeapState) (es : List Event) (new : Course) (p : Pace) (k : ℕ) → 256 ≤ k → IsOpening h → 0 < length h.store.pages → Runs (opened h) es new → AllKeepPace p k (opening_beat h.limits) es → AllKeepTo (demand_of p (moved_quanta h k)) (opening_tally h.limits) es
 pace_keeps h es new p k great o some runs keeps =
-    runs_keep p k (moved_quanta h k) (IsSpent k h) (spent_few h k great) (λ r e new t b n w i keeps to does. spent_next h k great r e new t b n p w i keeps does)
-    es (opened h) new (opening_tally h.limits) (opening_beat h.limits) 0 (opening_course h o some) (idle_spent k h (opened h) (opening_tally h.limits) 0 refl refl (ap in_cycle o.phase)) (opening_paced h p (moved_quanta h k) o) runs keeps
+    runs_keep p k (moved_quanta h k) (λ r t n. IsSpent k h r n) (λ r t n. spent_few h k great r n)
+    (λ r e new t b n w i keeps to does. spent_next h k great r e new n (quanta_after r e n) w i (pace_budget p k b e keeps) (counted r e n) does)
+    es (opened h) new (opening_tally h.limits) (opening_beat h.limits) 0 (opening_course h o some) (idle_spent k h (opened h) 0 refl refl (ap in_cycle o.phase)) (opening_paced h p (moved_quanta h k) o) runs keeps
+  where
+    pace_budget : (p : Pace) (k : ℕ) (b : Beat) (e : Event) → KeepsPace p k b e → HasBudget k e
+    pace_budget p k b (Quantum_done budget units phase) keeps = keeps
+    pace_budget p k b _ keeps = tt
+
+    counted : (r : Course) (e : Event) (n : ℕ) → Counts r e n (quanta_after r e n)
+    counted r (Command_done m c reply) n = refl
+    counted r Cycle_begun n = refl
+    counted r Begin_refused n = refl
+    counted r (Quantum_done budget units phase) n = λ on. ap (λ z. if z then n + 1 else n) on
+    counted r (Quantum_refused budget) n = refl

@@ -1,13 +1,7 @@
 -- How many quanta a cycle lasts, by the events alone.
-use Rattle.std.specs.Prelude.{◌≡◌, ℕ, ◌+◌, ◌<◌, ◌≤◌, Bool, true, List, [], ◌∷◌}
+use Rattle.std.specs.Prelude.{◌≡◌, ℕ, ◌+◌, ◌<◌, Bool, true, List, [], ◌∷◌}
 use Rattle.heap_model.specs.declared.phase.Phase.{Phase}
 use Rattle.heap_model.specs.Event.{Event, Cycle_begun, Quantum_done}
-
--- the budget of each quantum is at least k
-abbrev pub HaveBudgets : ℕ → List Event → Type 0
-HaveBudgets k [] = Unit {0}
-HaveBudgets k (Quantum_done budget units phase ∷ es) = (k ≤ budget) × HaveBudgets k es
-HaveBudgets k (e ∷ es) = HaveBudgets k es
 
 -- From a cycle's beginning on, such phases last so many quanta at most, where n were done since the last beginning: a quantum
 -- that ends in one is one of fewer.

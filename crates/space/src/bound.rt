@@ -7,14 +7,14 @@ ghost use Rattle.settings.specs.declared.config.TheConstants.{LEAST_BUDGET};
 ghost use Rattle.heap_model.specs.State.{HeapState};
 ghost use Rattle.heap_model.specs.Settings.{settings_of, settings_by};
 ghost use Rattle.heap_model.specs.Opening.{IsOpening};
-ghost use Rattle.heap_model.specs.Event.{Course, Event, Runs};
+ghost use Rattle.heap_model.specs.Event.{Course, Event, Runs, HaveBudgets};
 ghost use Rattle.heap_model.specs.ReachedFrom.{opened};
 ghost use Rattle.space.specs.Demand.{Demand, asked_for};
 ghost use Rattle.space.specs.Tally.{opening_tally, AllKeepTo, EveryNewFindsRoom};
 ghost use Rattle.space.specs.Pace.{Pace, in_cycle, opening_beat, AllKeepPace, moved_quanta, unmoved_quanta, demand_of};
 ghost use Rattle.space.specs.Space.{space_for, spare_of, below_of};
 ghost use Rattle.heap_model.specs.Phases.{awaits_sweep_end};
-ghost use Rattle.space.specs.Lasting.{HaveBudgets, LastsAtMost};
+ghost use Rattle.space.specs.Lasting.{LastsAtMost};
 ghost use Rattle.space.specs.Fitting.{Fits, FitsIn, moved_quanta_at, unmoved_quanta_at};
 ghost use Rattle.space.specs.Room.{asks, AllHaveRoom};
 

@@ -12,14 +12,14 @@ use Rattle.heap_model.specs.Settings.{HeapSettings, settings_of, settings_by}
 use Rattle.heap_model.specs.Opening.{IsOpening}
 use Rattle.heap_model.specs.Spent.{swept_units}
 use Rattle.heap_model.specs.Phases.{awaits_sweep_end}
-use Rattle.heap_model.specs.Event.{Course, Event, Runs}
+use Rattle.heap_model.specs.Event.{Course, Event, Runs, HaveBudgets}
 use Rattle.heap_model.specs.ReachedFrom.{opened}
 use Rattle.space.specs.Demand.{Demand}
 use Rattle.space.specs.Tally.{opening_tally, AllKeepTo}
 use Rattle.space.specs.Space.{space_for, spare_of, below_of}
 use Rattle.space.specs.Pace.{Pace, in_cycle, opening_beat, AllKeepPace, moving_units, moved_quanta, unmoved_quanta, demand_of}
 use Rattle.space.specs.Fitting.{Fits, spare_in, below_in, swept_at, moving_at, moved_quanta_at, unmoved_quanta_at, moved_pages, unmoved_pages, is_unmoved, FitsIn}
-use Rattle.space.specs.Lasting.{HaveBudgets, LastsAtMost}
+use Rattle.space.specs.Lasting.{LastsAtMost}
 use Rattle.space.specs.Room.{AllHaveRoom}
 use Rattle.space.proofs.Rooms.{all_have_room}
 use Rattle.space.proofs.Paces.Moved.{pace_keeps}

@@ -5,11 +5,11 @@ use Rattle.heap_model.specs.State.{HeapState}
 use Rattle.heap_model.specs.Spent.{swept_units}
 use Rattle.heap_model.specs.Opening.{IsOpening}
 use Rattle.heap_model.specs.Phases.{awaits_sweep_end}
-use Rattle.heap_model.specs.Event.{Course, Event, Command_done, Cycle_begun, Begin_refused, Quantum_done, Quantum_refused, Runs, IsCourse, present_of, snapshot_of}
+use Rattle.heap_model.specs.Event.{Course, Event, Command_done, Cycle_begun, Begin_refused, Quantum_done, Quantum_refused, Runs, IsCourse, HaveBudgets, present_of, snapshot_of}
 use Rattle.heap_model.specs.ReachedFrom.{opened}
 use Rattle.heap_model.proofs.Event.Kept.{does_course, opening_course}
 use Rattle.space.specs.Pace.{in_cycle, moved_quanta, unmoved_quanta}
-use Rattle.space.specs.Lasting.{HaveBudgets, LastsAtMost}
+use Rattle.space.specs.Lasting.{LastsAtMost}
 use Rattle.space.proofs.Paces.Pacing.{idle_phase}
 use Rattle.space.proofs.Paces.Spending.{same_swept, swept_kept, few_quanta}
 use Rattle.space.proofs.Paces.Moved.{IsSpent, idle_spent, spent_few, spent_next}

@@ -196,6 +196,7 @@ fn nulls_from(nodes: &Nodes, block: usize, from: usize, most: usize) -> usize
     requires within { from + most ≤ length (record_of nodes.now block).cells }
     ensures within { result ≤ most }
     ensures null { (k : ℕ) → from ≤ k → k < from + result → slice_index (record_of nodes.now block).cells k ≡ 0 }
+    ensures first { result < most → slice_index (record_of nodes.now block).cells (from + result) ≢ 0 }
 {
     let mut nulls = 0;
     while nulls < most && nodes.cell(block, from + nulls) == 0 {

@@ -1,5 +1,5 @@
 //! One step of the sweep.
-ghost use Rattle.std.specs.Prelude.{◌≡◌, ℕ, ◌+◌, ◌<◌, ◌≤◌, None, length};
+ghost use Rattle.std.specs.Prelude.{◌≡◌, ◌≢◌, ℕ, ◌+◌, ◌<◌, ◌≤◌, None, length};
 ghost use Rattle.heap_model.specs.declared.phase.Phase.TheVariants as phases;
 ghost use Rattle.heap_model.specs.Action.{Chain};
 ghost use Rattle.heap_model.specs.Action as actions;
@@ -64,6 +64,7 @@ fn free_until(nodes: &Nodes, from: usize, end: usize) -> usize
     requires within { end ≤ length nodes.now.pages }
     ensures within { (from ≤ result) × (result ≤ end) }
     ensures free { (k : ℕ) → from ≤ k → k < result → page_at nodes.now.pages k ≡ None }
+    ensures first { result < end → page_at nodes.now.pages result ≢ None }
 {
     // Each page behind those that were touched is free.
     let last = end.min(nodes.pages_touched());

@@ -21,8 +21,8 @@ use Rattle.inspector.specs.NeededReport.{needed_told, IsPaceReport}
 use Rattle.sizing.specs.declared.measured.Measured.{Measured}
 use Rattle.sizing.specs.Measured.{least_units, HasUnits}
 use Rattle.sizing.specs.Measuring.{TraceMeasured}
-use Rattle.plans.specs.Live.{MostLiveFound}
-use Rattle.plans.specs.Report.{IsPlansReport}
+use Rattle.plans.specs.declared.live.MostLive.{MostLive}
+use Rattle.plans.specs.Live.{MostLiveFound, IsRunPlans}
 use Rattle.metronome.specs.declared.answer_job.Answer.{Answer}
 use Rattle.metronome.specs.declared.answer_job.Question.{Question}
 use Rattle.metronome.specs.declared.answer_job.Question.TheVariants as questions
@@ -84,10 +84,11 @@ abbrev pub PagesTold : Bool → Config → Given → Result Answer PlayFault →
 PagesTold pace config given answered = (how : Result Measured PlayFault) × TraceMeasured config given how
     × AnswerOf (λ m answer. TellsPages pace config m (string_bytes answer.text) × (answer.ending ≡ Done)) how answered
 
--- A trace was played on a new heap, and the plans are told for the most words that its live objects had.
+-- A trace was played on a new heap, and the plans are told for the most words that its live objects had, and for the size
+-- classes of which it made blocks.
 abbrev pub PlanTold : Config → Given → Result Answer PlayFault → Type 0
-PlanTold config given answered = (how : Result ℕ PlayFault) × MostLiveFound config given how
-    × AnswerOf (λ live answer. IsPlansReport None config live (string_bytes answer.text) × (answer.ending ≡ Done)) how answered
+PlanTold config given answered = (how : Result MostLive PlayFault) × MostLiveFound config given how
+    × AnswerOf (λ live answer. IsRunPlans config live (string_bytes answer.text) × (answer.ending ≡ Done)) how answered
 
 -- the answer to a question about an input
 abbrev pub IsAnswer : Question → Config → Given → Result Answer PlayFault → Type 0

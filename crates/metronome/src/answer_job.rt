@@ -10,7 +10,7 @@ use crate::fault::{Ending, RunFault};
 use graph_heap::Reference;
 use inspector::pages_needed::{Scope, needed_report, pace_report};
 use inspector::{Layout, Log, cycles_text};
-use plans::{LiveMeter, plans_report};
+use plans::{LiveMeter, run_plans};
 use player::survey_run;
 use settings::Config;
 use sizing::{Measured, Meter};
@@ -131,7 +131,7 @@ fn answer_to<S: Source>(
         }
         Question::Plan => {
             let live = survey_run::<LiveMeter, S>(alloc, config, source)?;
-            offer(plans_report(alloc, config, live, None), Ending::Done)
+            offer(run_plans(alloc, config, &live), Ending::Done)
         }
     }
 }

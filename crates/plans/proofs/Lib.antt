@@ -2,3 +2,4 @@ mod Numbers
 pub mod Rows
 mod Words
 mod Metering
+mod Classes

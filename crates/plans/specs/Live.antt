@@ -1,16 +1,21 @@
--- How many words live objects have at most in a run.
-use Rattle.std.specs.Prelude.{ℕ, ◌-◌, ◌^◌, ◌<◌, ◌≤◌, ◌↔◌, List, Result}
+-- How many words live objects have at most in a run, and of which size classes blocks are made.
+use Rattle.std.specs.Prelude.{◌≡◌, ℕ, ◌-◌, ◌^◌, ◌<◌, ◌≤◌, ◌↔◌, nat_lt, List, ◌++◌, None, Result, slice_index}
 use Rattle.std.specs.List.{All}
 use Rattle.graph_heap.specs.Graph.{Graph}
 use Rattle.settings.specs.declared.config.Config.{Config}
 use Rattle.heap_model.specs.Event.{present_of}
-use Rattle.space.specs.Demand.{LiveWithin}
+use Rattle.size_classes.specs.declared.class.TheConstants.{CLASSES}
+use Rattle.space.specs.Demand.{LiveWithin, blocks_of}
 use Rattle.fragmentation.specs.Flow.{words_of}
 use Rattle.trace.specs.declared.fault.PlayFault.{PlayFault}
 use Rattle.streams.specs.Streams.{Given}
 use Rattle.player.specs.Observing.{run_by}
 use Rattle.player.specs.Steps.{Step}
 use Rattle.player.specs.Surveying.{NewRun, Surveyed}
+use Rattle.sizing.specs.Counts.{AreBlocks}
+use Rattle.paced.specs.Rooms.{among}
+use Rattle.plans.specs.declared.live.MostLive.{MostLive}
+use Rattle.plans.specs.Report.{IsPlansReport, IsClassesLine}
 
 -- the blocks of what is live have at most so many words, headers included
 abbrev pub LivesWithin : ℕ → Graph → Type 0
@@ -25,10 +30,27 @@ AllLiveWithin words steps = All (λ s. LivesWithin words (present_of s.after)) s
 abbrev pub IsMostLive : List Step → ℕ → Type 0
 IsMostLive steps most = (words : ℕ) → words < 2 ^ 64 - 1 → AllLiveWithin words steps ↔ (most ≤ words)
 
--- the number that is told of a run is its most live words
-abbrev pub TellsMostLive : (config : Config) (given : Given) → NewRun config given → ℕ → Type 0
-TellsMostLive config given run most = IsMostLive (run_by run.played).steps most
+-- what is told of a run is its most live words, and how many blocks of each class its objects have, as far as these can be
+-- represented
+pub record TellsMostLive (config : Config) (given : Given) (run : NewRun config given) (found : MostLive) : Type 0 where
+  pub words : IsMostLive (run_by run.played).steps found.words
+  pub blocks : AreBlocks found.blocks (blocks_of (present_of (run_by run.played).now).objects)
 
--- the lines of an input are played on a new player, and the most words are told that are live; or it ends with a fault
-abbrev pub MostLiveFound : Config → Given → Result ℕ PlayFault → Type 0
+-- the lines of an input are played on a new player, and what is live and made at most is told; or it ends with a fault
+abbrev pub MostLiveFound : Config → Given → Result MostLive PlayFault → Type 0
 MostLiveFound = Surveyed TellsMostLive
+
+-- these are the classes of which there are blocks
+abbrev pub AreClasses : List ℕ → List ℕ → Type 0
+AreClasses blocks used = (class : ℕ) → class < CLASSES → among used class ≡ nat_lt 0 (slice_index blocks class)
+
+-- all that is told of the plans for the words that a run had live at most, and the fewest pages on which there is one where
+-- blocks are made of those classes alone of which the run made some
+pub record IsRunPlans (c : Config) (live : MostLive) (text : List ℕ) : Type 0 where
+  pub report : List ℕ
+  pub of_all : IsPlansReport None c live.words report
+  pub used : List ℕ
+  pub made : AreClasses live.blocks used
+  pub line : List ℕ
+  pub of_used : IsClassesLine c live.words used line
+  pub told : text ≡ report ++ line

@@ -75,3 +75,8 @@ pub record IsPlansReport (classes : Option (List ℕ)) (c : Config) (live : ℕ)
   pub rows : List ℕ
   pub table : IsTable (made_of classes) c live (numbers_told c least) rows
   pub told : text ≡ live_line c live classes ++ (fewest_line least ++ rows)
+
+-- of how many size classes these are, and the fewest pages on which there is a plan where blocks are made of them alone
+abbrev pub IsClassesLine : Config → ℕ → List ℕ → List ℕ → Type 0
+IsClassesLine c live used line = (least : Option ℕ) × IsLeastPagesFor (among used) c live least
+    × (line ≡ codes "classes " ++ (decimal (classes_made (among used)) ++ (codes ": " ++ fewest_line least)))

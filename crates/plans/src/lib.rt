@@ -8,8 +8,10 @@ mod on_pages;
 mod order;
 mod report;
 mod row;
+mod runs;
 mod surveying;
 mod table;
 
-pub use live::LiveMeter;
+pub use live::{LiveMeter, MostLive};
 pub use report::plans_report;
+pub use runs::run_plans;

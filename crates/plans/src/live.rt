@@ -1,12 +1,24 @@
-//! How many words live objects have at most in a run.
+//! How many words live objects have at most in a run, and of which size classes blocks are made.
 ghost use Rattle.std.specs.Prelude.{◌≡◌, ◌<◌, length, IfOk, OnOk};
 ghost use Rattle.graph_heap.specs.Graph.{opening};
 ghost use Rattle.graph_heap.specs.History.{IsEntryOf, after_entry};
+ghost use Rattle.space.specs.Demand.{blocks_of};
+ghost use Rattle.sizing.specs.Counts.{AreBlocks};
+ghost use Rattle.sizing.specs.Meter.{AllFit};
 ghost use Rattle.plans.specs.LiveMeter.{ReachedWords, MakesLast, Counts};
 
 use graph_heap::{Entry, Limits, NoMemory, Reference};
 use paced::words_of_shape;
+use sizing::blocks::{Blocks, add, needed_by, none};
 use std::alloc::Global;
+
+/// What a plan for a run goes by: how many words of blocks live objects had at most, headers included, and how many blocks
+/// of each size class were made.
+#[derive(Clone, Copy, Debug, PartialEq, Eq)]
+pub struct MostLive {
+    pub words: u64,
+    pub blocks: Blocks,
+}
 
 /// The graph heap to which events lead, and how many words of blocks its objects had at most that could be reached.
 /// Numbers of words stop at the greatest of 64 bits.
@@ -68,10 +80,26 @@ impl LiveMeter {
         Ok(())
     }
 
-    /// The most so far.
-    pub(crate) fn most(&self) -> u64
-        ensures { result ≡ self.now.most }
+    /// How many blocks of each size class were made.
+    fn made_blocks(&self) -> Blocks
+        ensures { AllFit self.now.graph → AreBlocks result (blocks_of self.now.graph.objects) }
     {
-        self.most
+        let mut blocks = none();
+        for at in 0..self.graph.count() {
+            let shape = self.graph.shape(at as u64 + 1);
+            add(&mut blocks, &needed_by(&shape));
+        }
+        blocks
+    }
+
+    /// What was found so far.
+    pub(crate) fn found(&self) -> MostLive
+        ensures words { result.words ≡ self.now.most }
+        ensures blocks { AllFit self.now.graph → AreBlocks result.blocks (blocks_of self.now.graph.objects) }
+    {
+        MostLive {
+            words: self.most,
+            blocks: self.made_blocks(),
+        }
     }
 }

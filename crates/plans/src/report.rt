@@ -2,7 +2,7 @@
 ghost use Rattle.std.specs.Prelude.{◌≡◌, ◌≤◌, IfOk, IfSome, option_map, string_bytes};
 ghost use Rattle.settings.specs.declared.config.TheConstants.{MOST_HEAP_PAGES};
 ghost use Rattle.paced.specs.Planning.{IsLeastPagesFor};
-ghost use Rattle.plans.specs.Report.{made_of, live_line, fewest_line, numbers_told, IsTable, IsPlansReport};
+ghost use Rattle.plans.specs.Report.{made_of, live_line, fewest_line, numbers_told, IsClassesLine, IsTable, IsPlansReport};
 
 use crate::table::table;
 use paced::{classes_in, least_pages, least_pages_for};
@@ -56,6 +56,21 @@ fn fewest_line(alloc: Global, least: Option<u32>) -> Result<String, AllocError>
     format!(in alloc;
         "fewest {pages}: pages = {pages}, defrag_below = {below}, defrag_pages = {pages}\n"
     )
+}
+
+/// Of how many size classes these are, and the fewest pages on which there is a plan where blocks are made of them alone,
+/// with the keys to set.
+pub(crate) fn classes_line(
+    alloc: Global,
+    config: &Config,
+    live_words: u64,
+    used: &[Class],
+) -> Result<String, AllocError>
+    ensures { IfOk result (λ line. IsClassesLine config.now live_words used.now (string_bytes line)) }
+{
+    let count = classes_in(used);
+    let fewest = fewest_line(alloc, least_pages_for(config, live_words, used))?;
+    format!(in alloc; "classes {count}: {fewest}")
 }
 
 /// The plans on the configuration's own pages, the fewest, and some more.

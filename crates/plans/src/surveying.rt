@@ -1,16 +1,17 @@
 //! The meter of live words, as a survey of a run.
 ghost use Rattle.plans.specs.Live.{TellsMostLive};
 
-use crate::live::LiveMeter;
+use crate::live::{LiveMeter, MostLive};
 use graph_heap::NoMemory;
 use player::{Player, Survey};
 use settings::Config;
 use std::alloc::Global;
 
-/// It finds the least number of words that live objects keep to over the run, whenever a cycle begins: for so many there is
-/// to be a plan (`plans_report`). From 2^64 - 1 on it tells that number.
+/// It finds the least number of words that live objects keep to over the run, whenever a cycle begins, and how many blocks
+/// of each size class were made: for so many words, and for these classes, there is to be a plan (`run_plans`). From
+/// 2^64 - 1 on it tells that number of words.
 impl Survey for LiveMeter {
-    type Findings = u64;
+    type Findings = MostLive;
 
     ghost tells = { TellsMostLive };
 
@@ -18,7 +19,7 @@ impl Survey for LiveMeter {
         LiveMeter::new(alloc, &config.limits())
     }
 
-    fn finish(self, _player: &Player, _lines: u64) -> Result<u64, NoMemory> {
-        Ok(self.most())
+    fn finish(self, _player: &Player, _lines: u64) -> Result<MostLive, NoMemory> {
+        Ok(self.found())
     }
 }

@@ -3,7 +3,7 @@
 #![tactic(auto)]
 
 pub mod arrivals;
-mod blocks;
+pub mod blocks;
 mod load_file;
 mod measured;
 mod meter;

@@ -1,0 +1,36 @@
+//! The plans for what a run had live and made.
+ghost use Rattle.std.specs.Prelude.{IfOk, string_bytes};
+ghost use Rattle.plans.specs.Live.{AreClasses, IsRunPlans};
+
+use crate::live::MostLive;
+use crate::report::{classes_line, plans_report};
+use settings::Config;
+use size_classes::{CLASSES, Class};
+use sizing::blocks::Blocks;
+use std::alloc::{AllocError, Global};
+
+/// The size classes of which there are blocks, in rising order.
+fn classes_of(alloc: Global, blocks: &Blocks) -> Result<Vec<Class>, AllocError>
+    ensures { IfOk result (λ used. AreClasses blocks.now used.items) }
+{
+    let mut used = Vec::new(alloc);
+    for number in 0..CLASSES {
+        if blocks[number] > 0 {
+            used.push(Class::new(number as u8))?;
+        }
+    }
+    Ok(used)
+}
+
+/// All that is told of plans (`plans_report`) for the words that a run had live at most; and the fewest pages on which there
+/// is one where blocks are made of those size classes alone of which the run made some.
+pub fn run_plans(alloc: Global, config: &Config, live: &MostLive) -> Result<String, AllocError>
+    ensures { IfOk result (λ text. IsRunPlans config.now live.now (string_bytes text)) }
+{
+    let used = classes_of(alloc, &live.blocks)?;
+    [
+        plans_report(alloc, config, live.words, None)?,
+        classes_line(alloc, config, live.words, used.as_slice())?,
+    ]
+    .concat(alloc)
+}

@@ -36,7 +36,8 @@ pub record TellsMostLive (config : Config) (given : Given) (run : NewRun config 
   pub words : IsMostLive (run_by run.played).steps found.words
   pub blocks : AreBlocks found.blocks (blocks_of (present_of (run_by run.played).now).objects)
 
--- the lines of an input are played on a new player, and what is live and made at most is told; or it ends with a fault
+-- the lines of an input are played on a new player, and it is told how much is live at most and what is made; or it ends with
+-- a fault
 abbrev pub MostLiveFound : Config → Given → Result MostLive PlayFault → Type 0
 MostLiveFound = Surveyed TellsMostLive
 

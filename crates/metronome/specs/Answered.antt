@@ -84,8 +84,8 @@ abbrev pub PagesTold : Bool → Config → Given → Result Answer PlayFault →
 PagesTold pace config given answered = (how : Result Measured PlayFault) × TraceMeasured config given how
     × AnswerOf (λ m answer. TellsPages pace config m (string_bytes answer.text) × (answer.ending ≡ Done)) how answered
 
--- A trace was played on a new heap, and the plans are told for the most words that its live objects had, and for the size
--- classes of which it made blocks.
+-- A trace was played on a new heap, and the plans are told for the most words that its live objects had; and the fewest
+-- pages with a plan for the size classes of which it made blocks.
 abbrev pub PlanTold : Config → Given → Result Answer PlayFault → Type 0
 PlanTold config given answered = (how : Result MostLive PlayFault) × MostLiveFound config given how
     × AnswerOf (λ live answer. IsRunPlans config live (string_bytes answer.text) × (answer.ending ≡ Done)) how answered

@@ -9,7 +9,7 @@ use size_classes::{CLASSES, Class};
 use sizing::blocks::Blocks;
 use std::alloc::{AllocError, Global};
 
-/// The size classes of which there are blocks, in rising order.
+/// The size classes of which there are blocks.
 fn classes_of(alloc: Global, blocks: &Blocks) -> Result<Vec<Class>, AllocError>
     ensures { IfOk result (λ used. AreClasses blocks.now used.items) }
 {

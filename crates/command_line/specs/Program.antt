@@ -114,7 +114,7 @@ pages = on_trace (codes "pages") (flag (codes "pace") ∷ word (codes "load") �
 -- tells how a heap would pace itself
 abbrev pub plan : Shape
 plan = on_config (codes "plan")
-    (needed (long_figure (codes "live")) ∷ figures (codes "classes") ∷ [])
+    (needed (long_figure (codes "live")) ∷ figures (codes "classes") ∷ flag (codes "draw") ∷ [])
 
 -- the program: it has a version, and wants a subcommand
 abbrev pub metronome : App

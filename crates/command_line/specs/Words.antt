@@ -74,15 +74,16 @@ Asks name rows (Mmu windows) = (name ≡ codes "mmu")
 Asks name rows (Pages by) = (name ≡ codes "pages")
     × (pace : Bool) × IsFlag (one_of (codes "pace") rows) pace × (plan : Bool) × IsFlag (one_of (codes "plan") rows) plan
     × IsSizing pace plan (first_of (codes "load") rows) by
-Asks name rows (Plan live classes) = (name ≡ codes "plan") × IsNumberOrZero 64 (one_of (codes "live") rows) live
+Asks name rows (Plan live classes draw) = (name ≡ codes "plan") × IsNumberOrZero 64 (one_of (codes "live") rows) live
     × AreClassesOf (all_of (codes "classes") rows) (option_map (λ c. c.items) classes)
+    × IsFlag (one_of (codes "draw") rows) draw
 Asks name rows drawing = (name ≡ codes "draw") × IsDrawn rows drawing
 
 -- the argument that has the name of a job's file, if the job has one
 abbrev pub file_argument : Job → Option Text
 file_argument Check = Some (codes "HISTORY")
 file_argument (Threads turns budget) = Some (codes "SCRIPTS")
-file_argument (Plan live classes) = None
+file_argument (Plan live classes draw) = None
 file_argument _ = Some (codes "TRACE")
 
 -- the file that an argument names; none where there is no such argument

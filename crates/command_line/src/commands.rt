@@ -118,7 +118,8 @@ fn plan<'a>(alloc: Global) -> Result<Command<'a>, AllocError>
     let sizes = "Words of a block of each size class that is asked for, all if not said";
     on_config(alloc, "plan", "Tell how a heap would pace itself")?
         .arg(needed(long_figure(alloc, "live", "N", help)))?
-        .arg(figures(alloc, "classes", "S", sizes))
+        .arg(figures(alloc, "classes", "S", sizes))?
+        .arg(flag(alloc, "draw", "Draw the plans as a picture, in SVG"))
 }
 
 /// A subcommand that works on a trace.

@@ -85,10 +85,11 @@ pub enum Job<'a> {
         by: Sizing<'a>,
     },
     /// Tell how a heap would pace itself with this many words of live blocks, on some numbers of pages, for a program
-    /// that asks for blocks of these size classes alone, or of all. It has no other file.
+    /// that asks for blocks of these size classes alone, or of all; or draw it. It has no other file.
     Plan {
         live: u64,
         classes: Option<Vec<Class>>,
+        draw: bool,
     },
 }
 

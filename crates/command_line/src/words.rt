@@ -134,7 +134,11 @@ fn plan<'a>(alloc: Global, found: &ArgMatches<'a>) -> Result<Job<'a>, Refusal>
     let classes = classes_said(alloc, found.get_strs("classes"))?;
     // (clap has refused what is no such number)
     let live = long_number(found, "live").unwrap_or(0);
-    Ok(Job::Plan { live, classes })
+    Ok(Job::Plan {
+        live,
+        classes,
+        draw: flag(found, "draw"),
+    })
 }
 
 /// What a subcommand over a whole trace asks for.

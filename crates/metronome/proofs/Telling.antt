@@ -1,5 +1,5 @@
 -- Lines of windows that are written one after the other.
-use Rattle.std.proofs.Common.{◌≡◌, ℕ, subst, append-nil, List, [], ◌∷◌, ◌++◌, ap, ◌∙◌, sym, append_assoc, inl, inr}
+use Rattle.std.proofs.Common.{◌≡◌, ℕ, subst, List, [], ◌∷◌, ◌++◌, ap, ◌∙◌, sym, append_assoc, inl, inr}
 use Rattle.std.specs.Prelude.{Result, Ok, Err, IfErr}
 use Rattle.std.specs.Result.{IsErrAnd}
 use Rattle.std.specs.List.{AllZip, concat}

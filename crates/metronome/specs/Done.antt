@@ -6,11 +6,9 @@ use Rattle.streams.specs.Streams.{Given, Taken}
 use Rattle.command_line.specs.declared.job.Job.{Job}
 use Rattle.command_line.specs.declared.job.Sizing.TheVariants.{Demand, Pace, Load, Plan as By_plan}
 use Rattle.command_line.specs.declared.job.Job.TheVariants.{Play, Check, Threads, Inspect, Cycles, Path, Mmu, Draw, DrawGraph, DrawTime, Pages, Plan}
-use Rattle.plans.specs.Report.{IsPlansReport}
 use Rattle.player.specs.declared.style.Style.{Style}
 use Rattle.player.specs.declared.style.Style.TheVariants.{Replies, Entries}
 use Rattle.metronome.specs.declared.fault.Ending.{Ending}
-use Rattle.metronome.specs.declared.fault.Ending.TheVariants.{Done}
 use Rattle.metronome.specs.declared.fault.RunFault.{RunFault}
 use Rattle.metronome.specs.declared.answer_job.Question.TheVariants as questions
 use Rattle.metronome.specs.Files.{KnownFiles}
@@ -20,6 +18,7 @@ use Rattle.inspector.specs.declared.cycles.text.Layout.{Layout}
 use Rattle.inspector.specs.declared.cycles.text.Layout.TheVariants.{Columns, Commas}
 use Rattle.metronome.specs.Answered.{Answered}
 use Rattle.metronome.specs.OverTime.{TimeDrawn}
+use Rattle.metronome.specs.Plans.{TellsPlans}
 use Rattle.metronome.specs.Told.{ReportTold}
 use Rattle.metronome.specs.Loaded.{LoadTold, LoadCountsReads}
 use Rattle.metronome.specs.After.{AfterPlay}
@@ -51,8 +50,8 @@ JobDone files (Pages Demand) config = Answered (questions.Pages false) config
 JobDone files (Pages Pace) config = Answered (questions.Pages true) config
 JobDone files (Pages (Load file)) config = LoadTold (files.named file.now) config
 JobDone files (Pages By_plan) config = Answered questions.Plan config
-JobDone files (Plan live classes) config =
-    λ given. ReportTold (IsPlansReport (option_map (λ said. said.items) classes) config live)
+JobDone files (Plan live classes draw) config =
+    λ given. ReportTold (TellsPlans draw (option_map (λ said. said.items) classes) config live)
 
 -- a job counts the failed reads of its source; one by a load may end before it reads
 abbrev pub JobCountsReads : {S : Type 0} → KnownFiles → Job → (S → ℕ) → S → S → Result Ending RunFault → Type 0

@@ -6,7 +6,7 @@ use Rattle.documents.specs.declared.toml_table.ReadFault.TheVariants as settings
 use Rattle.trace.specs.declared.fault.PlayFault.TheVariants.{Read, NoMemory}
 use Rattle.trace.specs.LinesProcessed.{reads_failed, writes_failed}
 use Rattle.metronome.specs.declared.fault.RunFault.{RunFault}
-use Rattle.metronome.specs.declared.fault.RunFault.TheVariants.{Words, Config, Load, Text}
+use Rattle.metronome.specs.declared.fault.RunFault.TheVariants.{Words, Config, Text}
 
 -- the fault of a run whose settings can't be read
 abbrev pub of_settings : ReadFault ConfigFault → RunFault

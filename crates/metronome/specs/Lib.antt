@@ -7,6 +7,7 @@ pub mod Told
 pub mod After
 pub mod Telling
 pub mod OverTime
+pub mod Plans
 pub mod Progress
 pub mod Answered
 pub mod Loaded

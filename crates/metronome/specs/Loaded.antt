@@ -1,5 +1,5 @@
 -- What is reported of a load, and of a trace that is to keep to it.
-use Rattle.std.specs.Prelude.{◌≡◌, ℕ, ◌*◌, true, IsTrue, ◌⊎◌, List, [], ◌++◌, Option, IfSome, Result, Ok, Err}
+use Rattle.std.specs.Prelude.{◌≡◌, ℕ, ◌*◌, true, IsTrue, ◌⊎◌, List, [], ◌++◌, IfSome, Result, Ok, Err}
 use Rattle.settings.specs.declared.config.Config.{Config}
 use Rattle.heap_model.specs.Event.{Event}
 use Rattle.trace.specs.declared.fault.PlayFault.{PlayFault}

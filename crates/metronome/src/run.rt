@@ -228,21 +228,19 @@ fn work<S: Source, K: Sink, O: Opener, T: Threads + Wait + Sync>(
             after_play(alloc, config, source, sink, None, telling)
         }
         Job::Draw { picture, after } => {
-            after_play(
-                alloc,
-                config,
-                source,
-                sink,
-                *after,
-                Telling::Picture(*picture),
-            )
+            let telling = Telling::Picture(*picture);
+            after_play(alloc, config, source, sink, *after, telling)
         }
         Job::DrawGraph { after, most } => {
             after_play(alloc, config, source, sink, *after, Telling::Graph(*most))
         }
         Job::DrawTime => time_job(alloc, config, source, sink),
         Job::Pages { by } => pages_job(host, config, source, sink, *by),
-        Job::Plan { live, classes } => plan_job(alloc, config, *live, classes, sink),
+        Job::Plan {
+            live,
+            classes,
+            draw,
+        } => plan_job(alloc, config, *live, classes, *draw, sink),
     }
 }
 

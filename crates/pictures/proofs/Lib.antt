@@ -4,6 +4,7 @@ pub mod EventLines
 pub mod Drawing
 pub mod SquareLemmas
 pub mod Shares
+pub mod Bars
 pub mod Samples
 pub mod Shown
 pub mod CycleSpans

@@ -1,5 +1,5 @@
--- The axes of the picture over a run: the lines of its trace go to the right, and its pages and its objects up, each in
--- a part of its own.
+-- Axes of pictures. In that over a run the lines of its trace go to the right, and its pages and its objects up, each in
+-- a part of its own; in that of plans their words go up.
 use Rattle.std.specs.Prelude.{ℕ, zero, suc, ◌+◌, ◌-◌, ◌*◌, ◌/◌, min, max, nat_le, unwrap_or, List, [], ◌∷◌, ◌++◌}
 use Rattle.std.specs.List.{find}
 use Rattle.pictures.specs.declared.colour.Colour.TheVariants.{Light}
@@ -29,13 +29,15 @@ height_of n greatest = 150 * min n greatest / max greatest 1
 abbrev pub level_number : ℕ → Caption → List Element
 level_number y caption = Line 76 y 1160 y Light ∷ Text 72 (y + 4) 11 End caption ∷ []
 
--- a number on an axis up to a greatest one: pages have the upper part of the picture, and objects the lower one
+-- a number on an axis up to a greatest one: pages have the upper part of their picture, and objects the lower one; words
+-- have theirs alone
 abbrev pub axis_number : Axis → ℕ → ℕ → List Element
 axis_number axes.Lines greatest n =
     let x = line_x n greatest in
     Line x 100 x 478 Light ∷ Text x 492 11 Middle (Number n) ∷ []
 axis_number axes.Pages greatest n = level_number (250 - height_of n greatest) (Number n)
 axis_number axes.Objects greatest n = level_number (440 - height_of n greatest) (Number n)
+axis_number axes.Words greatest n = level_number (400 - 2 * height_of n greatest) (Number n)
 
 -- this many numbers of an axis up to a greatest one, from a place on
 abbrev pub numbers_from : Axis → ℕ → ℕ → ℕ → List Element

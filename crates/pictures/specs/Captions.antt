@@ -1,5 +1,5 @@
 -- The words of pictures, as text.
-use Rattle.std.specs.Prelude.{ℕ, List, [], ◌++◌, ◌==◌, codes, decimal, if◌then◌else◌}
+use Rattle.std.specs.Prelude.{ℕ, ◌/◌, ◌%◌, List, [], ◌++◌, ◌==◌, codes, decimal, if◌then◌else◌}
 use Rattle.size_classes.specs.Sizes.{size_of, blocks_in}
 use Rattle.heap_model.specs.declared.phase.Phase.{Phase}
 use Rattle.heap_model.specs.declared.phase.Phase.TheVariants as phases
@@ -36,6 +36,11 @@ words_text words.Roots = codes "roots"
 words_text words.Marking = codes "marking"
 words_text words.Sweeping = codes "sweeping"
 words_text words.Moving = codes "moving"
+words_text words.PlansOfAHeap = codes "Plans of a heap that paces itself"
+words_text words.WordsForAQuantum = codes "words for a quantum"
+words_text words.UnitsForAWord = codes "number above: units for a word"
+words_text words.NumberOfPages = codes "number of pages"
+words_text words.NoPlan = codes "no plan"
 
 -- of five values, that of a phase
 abbrev pub by_phase : {A : Type 0} → A → A → A → A → A → Phase → A
@@ -74,6 +79,7 @@ abbrev pub caption_text : Caption → List ℕ
 caption_text (captions.Words w) = words_text w
 caption_text (captions.Number n) = decimal n
 caption_text (captions.Percent n) = decimal n ++ codes " %"
+caption_text (captions.Tenths n) = decimal (n / 10) ++ codes "." ++ decimal (n % 10)
 caption_text (captions.OldCopies n) = codes "old copies " ++ decimal n
 caption_text (captions.Page number page) = page_text number page
 caption_text (captions.Free first last) = free_text first last

@@ -5,6 +5,7 @@ pub mod Elements
 pub mod Frame
 pub mod PageMap
 pub mod Utilisation
+pub mod PlanBars
 pub mod OverTime
 pub mod Squares
 pub mod Joining

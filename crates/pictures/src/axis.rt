@@ -1,4 +1,4 @@
-//! The axes of the picture over a run, with round numbers.
+//! Axes of pictures, with round numbers.
 ghost use Rattle.std.specs.Prelude.{◌≡◌, ◌<◌, ◌≤◌, ◌+◌, ◌*◌, ◌/◌, ◌++◌, OnOk, OnErr};
 ghost use Rattle.streams.specs.Streams.{GrowsByPart, failed};
 ghost use Rattle.pictures.specs.Elements.{svg_text};
@@ -11,12 +11,13 @@ use crate::share::WINDOWS;
 use crate::writing::write_lines;
 use streams::{Sink, WriteFailed};
 
-/// An axis of the picture over a run.
+/// An axis of a picture: of the lines, the pages and the objects of a run, or of the words of plans.
 #[derive(Clone, Copy, Debug, PartialEq, Eq)]
 pub enum Axis {
     Lines,
     Pages,
     Objects,
+    Words,
 }
 
 /// The step between the numbers of an axis up to a greatest one.
@@ -73,6 +74,7 @@ fn number(axis: Axis, greatest: u64, n: u64) -> [Element; 2]
         }
         Axis::Pages => level(250 - height(n, greatest), caption),
         Axis::Objects => level(440 - height(n, greatest), caption),
+        Axis::Words => level(400 - 2 * height(n, greatest), caption),
     }
 }
 

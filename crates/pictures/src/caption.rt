@@ -33,6 +33,11 @@ pub enum Words {
     Marking,
     Sweeping,
     Moving,
+    PlansOfAHeap,
+    WordsForAQuantum,
+    UnitsForAWord,
+    NumberOfPages,
+    NoPlan,
 }
 
 impl Words {
@@ -67,6 +72,11 @@ impl Words {
             Words::Marking => b"marking",
             Words::Sweeping => b"sweeping",
             Words::Moving => b"moving",
+            Words::PlansOfAHeap => b"Plans of a heap that paces itself",
+            Words::WordsForAQuantum => b"words for a quantum",
+            Words::UnitsForAWord => b"number above: units for a word",
+            Words::NumberOfPages => b"number of pages",
+            Words::NoPlan => b"no plan",
         }
     }
 }
@@ -80,6 +90,8 @@ pub enum Caption {
     Number(u64),
     /// A share in per cent.
     Percent(u64),
+    /// Tenths, as a number with one place behind its point.
+    Tenths(u64),
     /// How many old copies there are.
     OldCopies(u64),
     /// A page in use, by its number, and what is seen of it.
@@ -155,6 +167,10 @@ pub(crate) fn put_caption(out: &mut [u8], at: usize, caption: Caption) -> usize
         Caption::Percent(n) => {
             let end = put_named(out, at, b"", n);
             put(out, end, b" %")
+        }
+        Caption::Tenths(n) => {
+            let end = put_named(out, at, b"", n / 10);
+            put_named(out, end, b".", n % 10)
         }
         Caption::OldCopies(n) => put_named(out, at, b"old copies ", n),
         Caption::Page(number, page) => put_page(out, at, number, page),

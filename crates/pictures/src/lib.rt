@@ -16,6 +16,7 @@ mod look;
 mod measuring;
 mod over_time;
 mod page_map;
+mod plan_bars;
 mod reachability;
 mod sample;
 mod share;
@@ -27,6 +28,7 @@ mod writing;
 pub use events::draw_events;
 pub use over_time::{MOST_SAMPLES, Scale, draw_time};
 pub use page_map::draw_pages;
+pub use plan_bars::{PlanBar, PlanFigures, draw_bars};
 pub use reachability::{
     Found, Holder, Route, Search, Standing, Step, path_text, present, search, shortest_path,
 };

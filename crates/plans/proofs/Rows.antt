@@ -1,4 +1,4 @@
--- Lines, one for each number of pages so far.
+-- Items, and lines, one for each number of pages so far.
 use Rattle.std.proofs.Common.{◌≡◌, ℕ, Bool, List, [], ◌∷◌, ◌++◌, Option, Some, None, append_assoc, append-nil, ap, ◌∙◌, sym, subst}
 use Rattle.std.specs.Prelude.{IfSome, ◌≤◌}
 use Rattle.std.specs.List.{AllZip, concat}
@@ -7,16 +7,14 @@ use Rattle.settings.specs.declared.config.Config.{Config}
 use Rattle.settings.specs.declared.config.TheConstants.{MOST_HEAP_PAGES}
 use Rattle.paced.specs.declared.plan.Plan.{Plan}
 use Rattle.paced.specs.Planning.{IsFastestFor, IsLeastPagesFor}
-use Rattle.plans.specs.Order.{IsNext, AreInOrder}
+use Rattle.plans.specs.Order.{IsNext, AreInOrder, OneForEach}
 use Rattle.plans.specs.Report.{IsRow, IsTable}
 
--- The numbers up to a bound have their lines: whatever numbers come above it are in order with them.
-pub record HasRows (makes : ℕ → Bool) (c : Config) (live : ℕ) (numbers : List ℕ) (above : ℕ) (text : List ℕ) : Type 0 where
+-- The numbers up to a bound have an item each: whatever numbers come above it are in order with them.
+pub record HasItems {A : Type 0} (IsOf : ℕ → A → Type 0) (numbers : List ℕ) (above : ℕ) (items : List A) : Type 0 where
   pub shown : List ℕ
   pub in_order : (rest : List ℕ) → AreInOrder numbers above rest → AreInOrder numbers 0 (shown ++ rest)
-  pub lines : List (List ℕ)
-  pub each : AllZip (IsRow makes c live) shown lines
-  pub told : text ≡ concat lines
+  pub each : AllZip IsOf shown items
 
 pub zip_more : {A B : Type 0} (R : A → B → Type 0) (xs : List A) (ys : List B) (x : A) (y : B) → AllZip R xs ys → R x y → AllZip R (xs ++ x ∷ []) (ys ++ y ∷ [])
 zip_more R [] [] x y h r = (r, tt)
@@ -27,30 +25,49 @@ zip_more R (a ∷ xs) (b ∷ ys) x y h r = (h.0, zip_more R xs ys x y h.1 r)
 pub concat_more : (lines : List (List ℕ)) (line : List ℕ) → concat (lines ++ line ∷ []) ≡ concat lines ++ line
 concat_more lines line = concat-append lines (line ∷ []) ∙ ap (λ t. concat lines ++ t) (append-nil line)
 
+module _ {A : Type 0} (IsOf : ℕ → A → Type 0) (numbers : List ℕ) where
+  -- none yet
+  pub no_items : HasItems IsOf numbers 0 []
+  no_items = record { shown = []; in_order = λ rest order. order; each = tt }
+
+  -- the next one
+  pub one_item : (above : ℕ) (items : List A) (next : ℕ) (item : A) → HasItems IsOf numbers above items → IsNext numbers above (Some next) → IsOf next item → HasItems IsOf numbers next (items ++ item ∷ [])
+  one_item above items next item so is one = record {
+    shown = so.shown ++ next ∷ [];
+    in_order = λ rest order. subst (AreInOrder numbers 0) (sym (append_assoc so.shown (next ∷ []) rest)) (so.in_order (next ∷ rest) (is, order));
+    each = zip_more IsOf so.shown items next item so.each one;
+  }
+
+  -- all of them
+  pub all_items : (above : ℕ) (items : List A) → HasItems IsOf numbers above items → IsNext numbers above None → OneForEach IsOf numbers items
+  all_items above items so none = record {
+    shown = so.shown;
+    in_order = subst (AreInOrder numbers 0) (append-nil so.shown) (so.in_order [] none);
+    each = so.each;
+  }
+
+-- The numbers up to a bound have a line each, and these are a text.
+pub record HasRows (makes : ℕ → Bool) (c : Config) (live : ℕ) (numbers : List ℕ) (above : ℕ) (text : List ℕ) : Type 0 where
+  pub lines : List (List ℕ)
+  pub each : HasItems (IsRow makes c live) numbers above lines
+  pub told : text ≡ concat lines
+
 module _ (makes : ℕ → Bool) (c : Config) (live : ℕ) (numbers : List ℕ) where
   -- none yet
   pub no_rows : (text : List ℕ) → text ≡ [] → HasRows makes c live numbers 0 text
-  no_rows text e = record { shown = []; in_order = λ rest order. order; lines = []; each = tt; told = e }
+  no_rows text e = record { lines = []; each = no_items (IsRow makes c live) numbers; told = e }
 
   -- the next one
   pub one_row : (above : ℕ) (text : List ℕ) (next : ℕ) (line new : List ℕ) → HasRows makes c live numbers above text → IsNext numbers above (Some next) → IsRow makes c live next line → new ≡ text ++ line → HasRows makes c live numbers next new
   one_row above text next line new so is row e = record {
-    shown = so.shown ++ next ∷ [];
-    in_order = λ rest order. subst (AreInOrder numbers 0) (sym (append_assoc so.shown (next ∷ []) rest)) (so.in_order (next ∷ rest) (is, order));
     lines = so.lines ++ line ∷ [];
-    each = zip_more (IsRow makes c live) so.shown so.lines next line so.each row;
+    each = one_item (IsRow makes c live) numbers above so.lines next line so.each is row;
     told = e ∙ ap (λ t. t ++ line) so.told ∙ sym (concat_more so.lines line);
   }
 
   -- all of them
   pub all_rows : (above : ℕ) (text : List ℕ) → HasRows makes c live numbers above text → IsNext numbers above None → IsTable makes c live numbers text
-  all_rows above text so none = record {
-    shown = so.shown;
-    in_order = subst (AreInOrder numbers 0) (append-nil so.shown) (so.in_order [] none);
-    lines = so.lines;
-    each = so.each;
-    told = so.told;
-  }
+  all_rows above text so none = record { lines = so.lines; each = all_items (IsRow makes c live) numbers above so.lines so.each none; told = so.told }
 
 -- the fastest plan has a word for each quantum
 pub fastest_words : (makes : ℕ → Bool) (c : Config) (live : ℕ) (plan : Option Plan) → IsFastestFor makes c live plan → IfSome plan (λ p. 1 ≤ p.quantum_words)

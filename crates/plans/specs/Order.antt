@@ -1,6 +1,6 @@
 -- Numbers of pages in rising order, each once.
 use Rattle.std.specs.Prelude.{ℕ, ◌<◌, ◌≤◌, ◌⊎◌, List, [], ◌∷◌, Option, Some, None}
-use Rattle.std.specs.List.{All, Contains}
+use Rattle.std.specs.List.{All, AllZip, Contains}
 use Rattle.settings.specs.declared.config.TheConstants.{MOST_HEAP_PAGES}
 
 -- the least of some numbers above a bound, of those that a heap may have as its pages; or there is none
@@ -13,3 +13,9 @@ IsNext numbers above (Some next) = Contains numbers next × (above < next) × (n
 abbrev pub AreInOrder : List ℕ → ℕ → List ℕ → Type 0
 AreInOrder numbers above [] = IsNext numbers above None
 AreInOrder numbers above (next ∷ rest) = IsNext numbers above (Some next) × AreInOrder numbers next rest
+
+-- items that are one for each of some numbers of pages that a heap may have, in rising order, each once
+pub record OneForEach {A : Type 0} (IsOf : ℕ → A → Type 0) (numbers : List ℕ) (items : List A) : Type 0 where
+  pub shown : List ℕ
+  pub in_order : AreInOrder numbers 0 shown
+  pub each : AllZip IsOf shown items

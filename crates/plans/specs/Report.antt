@@ -1,6 +1,7 @@
 -- What is told of the plans for a number of live words: lines of text.
-use Rattle.std.specs.Prelude.{◌≡◌, ℕ, ◌+◌, ◌-◌, ◌*◌, ◌/◌, nat_lt, if◌then◌else◌, Bool, true, List, [], ◌∷◌, ◌++◌, Option, Some, None, codes, decimal}
-use Rattle.std.specs.List.{AllZip, concat}
+use Rattle.std.specs.Prelude.{◌≡◌, ℕ, ◌+◌, ◌*◌, ◌/◌, nat_lt, if◌then◌else◌, Bool, true, List, [], ◌∷◌, ◌++◌, Option, Some, None, codes, decimal}
+use Rattle.std.specs.Int.{div_ceil}
+use Rattle.std.specs.List.{concat}
 use Rattle.settings.specs.declared.config.Config.{Config}
 use Rattle.settings.specs.declared.config.TheConstants.{MOST_PAGES}
 use Rattle.paced.specs.declared.plan.Plan.{Plan}
@@ -8,7 +9,7 @@ use Rattle.fragmentation.specs.Flow.{classes_made}
 use Rattle.paced.specs.Rooms.{among}
 use Rattle.paced.specs.Planning.{cycle_quanta, IsFastestFor, IsLeastPagesFor}
 use Rattle.plans.specs.OnPages.{IsOnPages}
-use Rattle.plans.specs.Order.{AreInOrder}
+use Rattle.plans.specs.Order.{OneForEach}
 
 -- the size classes of which blocks are made: all, where none are said
 abbrev pub made_of : Option (List ℕ) → ℕ → Bool
@@ -33,7 +34,7 @@ fewest_line (Some pages) = codes "fewest " ++ (decimal pages ++ (
 
 -- tenths of a unit for each of these words, which cost so many units together, rounded up
 abbrev pub tenths_of : ℕ → ℕ → ℕ
-tenths_of units words = (10 * units + (words - 1)) / words
+tenths_of units words = div_ceil (10 * units) words
 
 -- a plan on a configuration's pages: the quanta that a cycle takes at most, the words that may be asked for at each of
 -- them and in a whole cycle, and the tenths of a unit that the collector spends for each word
@@ -57,10 +58,8 @@ pub record IsRow (makes : ℕ → Bool) (c : Config) (live pages : ℕ) (line : 
 
 -- a line for each of some numbers of pages that a heap may have, in rising order, each once
 pub record IsTable (makes : ℕ → Bool) (c : Config) (live : ℕ) (numbers text : List ℕ) : Type 0 where
-  pub shown : List ℕ
-  pub in_order : AreInOrder numbers 0 shown
   pub lines : List (List ℕ)
-  pub each : AllZip (IsRow makes c live) shown lines
+  pub each : OneForEach (IsRow makes c live) numbers lines
   pub told : text ≡ concat lines
 
 -- of how many pages the plans are told: the configuration's own, the fewest, and some more

@@ -1,7 +1,8 @@
-//! What is told of the plans by which a heap paces itself: on how few pages there is one, and what it is on some numbers
-//! of pages; and for how many live words a trace needs one.
+//! What is told of the plans by which a heap paces itself, and what is drawn: on how few pages there is one, and what it is
+//! on some numbers of pages; and for how many live words a trace needs one.
 #![tactic(auto)]
 
+mod bars;
 mod live;
 mod observing;
 mod on_pages;
@@ -12,6 +13,7 @@ mod runs;
 mod surveying;
 mod table;
 
+pub use bars::plan_bars;
 pub use live::{LiveMeter, MostLive};
 pub use report::plans_report;
 pub use runs::run_plans;

@@ -1,5 +1,5 @@
 //! What is told of the plans for a number of live words.
-ghost use Rattle.std.specs.Prelude.{◌≡◌, ◌≤◌, IfOk, IfSome, option_map, string_bytes};
+ghost use Rattle.std.specs.Prelude.{◌≡◌, ◌≤◌, IfOk, IfSome, option_map, string_bytes, take};
 ghost use Rattle.settings.specs.declared.config.TheConstants.{MOST_HEAP_PAGES};
 ghost use Rattle.paced.specs.Planning.{IsLeastPagesFor};
 ghost use Rattle.plans.specs.Report.{made_of, live_line, fewest_line, numbers_told, IsClassesLine, IsTable, IsPlansReport};
@@ -31,7 +31,7 @@ fn live_line(
 }
 
 /// The fewest pages on which there is a plan, where blocks are made of these size classes alone, or of all.
-fn fewest(config: &Config, live_words: u64, classes: Option<&[Class]>) -> Option<u32>
+pub(crate) fn fewest(config: &Config, live_words: u64, classes: Option<&[Class]>) -> Option<u32>
     ensures { IsLeastPagesFor (made_of (option_map (λ used. used.now) classes.entry)) config.now live_words result }
 {
     match classes {
@@ -73,7 +73,24 @@ pub(crate) fn classes_line(
     format!(in alloc; "classes {count}: {fewest}")
 }
 
-/// The plans on the configuration's own pages, the fewest, and some more.
+/// Of how many pages plans are told, where there is one on so few: the configuration's own, the fewest, and some more, as
+/// many numbers as stand behind them. A number may stand there more than once.
+pub(crate) fn numbers_told(config: &Config, least: Option<u32>) -> ([u32; 6], usize)
+    requires { IfSome least (λ pages. pages ≤ MOST_HEAP_PAGES) }
+    ensures told { take result.1 result.0 ≡ numbers_told config.now least }
+    ensures within { result.1 ≤ 6 }
+{
+    let own = config.pages;
+    match least {
+        None => ([own; 6], 1),
+        Some(few) => (
+            [own, few, few + few / 4, few + few / 2, 2 * few, 3 * few],
+            6,
+        ),
+    }
+}
+
+/// The plans on these numbers of pages.
 fn plans(
     alloc: Global,
     config: &Config,
@@ -85,14 +102,8 @@ fn plans(
     ensures { IfOk result (λ text. IsTable (made_of (option_map (λ used. used.now) classes.entry)) config.now live_words
         (numbers_told config.now least) (string_bytes text)) }
 {
-    let own = config.pages;
-    match least {
-        None => table(alloc, config, live_words, classes, &[own]),
-        Some(few) => {
-            let numbers = [own, few, few + few / 4, few + few / 2, 2 * few, 3 * few];
-            table(alloc, config, live_words, classes, &numbers)
-        }
-    }
+    let (numbers, count) = numbers_told(config, least);
+    table(alloc, config, live_words, classes, &numbers[..count])
 }
 
 /// What is told of the plans by which a heap of a configuration paces itself, where live objects have blocks of so many

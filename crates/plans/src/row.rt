@@ -11,12 +11,11 @@ use size_classes::Class;
 use std::alloc::{AllocError, Global};
 
 /// Tenths of a unit for each word, where so many words are asked for at a quantum of so many units, rounded up.
-fn tenths(units: u32, words: u64) -> u128
+pub(crate) fn tenths(units: u32, words: u64) -> u64
     requires { 1 ≤ words }
     ensures { result ≡ tenths_of units words }
 {
-    let words = u128::from(words);
-    (10 * u128::from(units) + (words - 1)) / words
+    (10 * u64::from(units)).div_ceil(words)
 }
 
 /// The line of the plan on a configuration's pages, or of no plan.
@@ -35,7 +34,7 @@ fn plan_line(alloc: Global, config: &Config, plan: Option<Plan>) -> Result<Strin
 }
 
 /// The fastest plan of a configuration, where blocks are made of these size classes alone, or of all.
-fn fastest(config: &Config, live_words: u64, classes: Option<&[Class]>) -> Option<Plan>
+pub(crate) fn fastest(config: &Config, live_words: u64, classes: Option<&[Class]>) -> Option<Plan>
     ensures { IsFastestFor (made_of (option_map (λ used. used.now) classes.entry)) config.now live_words result }
 {
     match classes {

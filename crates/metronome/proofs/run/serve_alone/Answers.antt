@@ -1,4 +1,4 @@
-use Rattle.std.proofs.Common.{[], Some, ap, take, refl, rules, arith}
+use Rattle.std.proofs.Common.{Some, ap, take, refl, rules, arith}
 use Rattle.streams.specs.Streams.{taken_by}
 use Rattle.metronome.specs.Files.{no_file}
 use Rattle.metronome.proofs.Obeying.{job_on, reads_told}

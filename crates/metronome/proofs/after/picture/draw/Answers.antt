@@ -1,4 +1,4 @@
-use Rattle.std.proofs.Common.{refl, ap, subst}
+use Rattle.std.proofs.Common.{refl, subst}
 use Rattle.quanta.specs.Timetable.{Timetable}
 use Rattle.pictures.specs.Events.{events_picture}
 use Rattle.pictures.specs.Utilisation.{AreShares, utilisation_picture}

@@ -2,6 +2,7 @@ pub mod Finishing
 pub mod Writing
 pub mod Reading
 pub mod Telling
+mod MadeText
 pub mod Sharing
 pub mod Covering
 pub mod Failing

@@ -1,5 +1,6 @@
 -- What is written of a job's results.
-use Rattle.std.specs.Prelude.{◌≡◌, ℕ, ◌⊎◌, List, ◌++◌, Result, Ok, Err}
+use Rattle.std.specs.Prelude.{◌≡◌, ℕ, ◌⊎◌, List, ◌++◌, Result, Ok, Err, String, string_bytes}
+use Rattle.std.specs.declared.alloc.Global.{Global}
 use Rattle.trace.specs.declared.fault.PlayFault.{PlayFault}
 use Rattle.trace.specs.declared.fault.PlayFault.TheVariants.{Write, NoMemory}
 use Rattle.streams.specs.Streams.{Taken, GrowsByPart}
@@ -12,6 +13,12 @@ use Rattle.metronome.specs.declared.fault.RunFault.TheVariants.{Text}
 abbrev pub TextWritten : Ending → List ℕ → Taken → Result Ending RunFault → Type 0
 TextWritten last text taken (Ok ending) = (ending ≡ last) × (taken.after ≡ taken.before ++ text)
 TextWritten last text taken (Err fault) = (fault ≡ Text Write) × GrowsByPart taken.before taken.after text
+
+-- a text is written, and the run is done; or no memory was there for it, and nothing is written
+abbrev pub MadeTextTold : {E : Type 0} → Result (String Global) E → Taken → Result Ending RunFault → Type 0
+MadeTextTold (Ok text) taken result = TextWritten Done (string_bytes text) taken result
+MadeTextTold (Err refused) taken (Ok ending) = ⊥
+MadeTextTold (Err refused) taken (Err fault) = (fault ≡ Text NoMemory) × (taken.after ≡ taken.before)
 
 -- what is written of a report: all of it, or a part where a write failed, or nothing for lack of memory
 abbrev pub ReportTold : (List ℕ → Type 0) → Taken → Result Ending RunFault → Type 0

@@ -12,6 +12,7 @@ mod plan_job;
 mod progress;
 mod run;
 mod time_job;
+mod told;
 
 use fault::RunFault;
 use files::HostFiles;

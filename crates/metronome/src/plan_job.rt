@@ -8,13 +8,14 @@ ghost use Rattle.metronome.specs.Plans.{IsPlansPicture, TellsPlans};
 ghost use Rattle.metronome.specs.Told.{ReportTold};
 
 use crate::fault::{Ending, RunFault};
+use crate::told::tell_text;
 use graph_heap::NoMemory;
 use pictures::{PlanBar, draw_bars};
 use plans::{plan_bars, plans_report};
 use settings::Config;
 use size_classes::Class;
 use std::alloc::Global;
-use streams::{Sink, write_all};
+use streams::Sink;
 
 /// What is told of the plans for so many live words, and for these size classes, if any are said.
 fn plans_text(
@@ -39,24 +40,6 @@ fn bars_of_plans(
     ensures { IfOk result (λ bars. ArePlanBars (option_map (λ said. said.items) classes.now) config.now live bars.items) }
 {
     Ok(plan_bars(alloc, config, live, classes.as_deref())?)
-}
-
-/// Tells of the plans.
-fn tell_plans<K: Sink>(
-    alloc: Global,
-    config: &Config,
-    live: u64,
-    classes: &Option<Vec<Class>>,
-    sink: &mut K,
-) -> Result<Ending, RunFault>
-    ensures told { ReportTold (IsPlansReport (option_map (λ said. said.items) classes.now) config.now live)
-        (taken_by K.taken sink.old sink.new) result }
-    ensures reads { failed_reads result ≡ 0 }
-    ensures writes { K.failures sink.new ≡ K.failures sink.old + failed_writes result }
-{
-    let text = plans_text(alloc, config, live, classes)?;
-    write_all(sink, text.as_bytes())?;
-    Ok(Ending::Done)
 }
 
 /// Draws the plans.
@@ -95,6 +78,6 @@ pub fn plan_job<K: Sink>(
     if draw {
         draw_plans(alloc, config, live, classes, sink)
     } else {
-        tell_plans(alloc, config, live, classes, sink)
+        tell_text(plans_text(alloc, config, live, classes), sink)
     }
 }

@@ -6,11 +6,12 @@ ghost use Rattle.metronome.specs.Telling.{TellsWhy};
 ghost use Rattle.metronome.specs.Told.{ReportTold};
 
 use crate::fault::{Ending, RunFault};
+use crate::told::tell_text;
 use graph_heap::{NoMemory, Reference};
 use machine::Heap;
 use pictures::path_text;
 use std::alloc::Global;
-use streams::{Sink, write_all};
+use streams::Sink;
 
 /// What tells why an object is alive in a graph heap, or that it isn't, and whether a heap holds a block of it.
 fn path_report(alloc: Global, heap: &Heap, graph: &Reference, id: u64) -> Result<String, NoMemory>
@@ -32,7 +33,5 @@ pub(crate) fn tell_path<K: Sink>(
     ensures reads { failed_reads result ≡ 0 }
     ensures writes { K.failures sink.new ≡ K.failures sink.old + failed_writes result }
 {
-    let text = path_report(alloc, heap, graph, id)?;
-    write_all(sink, text.as_bytes())?;
-    Ok(Ending::Done)
+    tell_text(path_report(alloc, heap, graph, id), sink)
 }

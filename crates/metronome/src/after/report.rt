@@ -10,13 +10,14 @@ ghost use Rattle.metronome.specs.Telling.{HeapReported};
 ghost use Rattle.metronome.specs.Told.{ReportTold, TextWritten};
 
 use crate::fault::{Ending, RunFault};
+use crate::told::tell_text;
 use command_line::Report;
 use graph_heap::NoMemory;
 use inspector::{report, report_sizes, shapes_text};
 use machine::Heap;
 use player::Player;
 use std::alloc::Global;
-use streams::{Sink, WriteFailed, write_all};
+use streams::{Sink, WriteFailed};
 
 /// Writes a report page by page, of which a sink fails in one way.
 fn write_pages<K: Sink>(heap: &Heap, sink: &mut K) -> Result<(), WriteFailed>
@@ -69,9 +70,7 @@ fn tell_shapes<K: Sink>(alloc: Global, heap: &Heap, sink: &mut K) -> Result<Endi
     ensures reads { failed_reads result ≡ 0 }
     ensures writes { K.failures sink.new ≡ K.failures sink.old + failed_writes result }
 {
-    let text = shapes_report(alloc, heap)?;
-    write_all(sink, text.as_bytes())?;
-    Ok(Ending::Done)
+    tell_text(shapes_report(alloc, heap), sink)
 }
 
 /// Writes a report of the heap of a player.

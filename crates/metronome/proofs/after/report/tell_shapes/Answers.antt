@@ -1,34 +1,6 @@
-use Rattle.std.proofs.Common.{◌++◌, inl, inr, ap, ◌∙◌, refl, subst, arith}
-use Rattle.std.specs.Prelude.{string_bytes}
-use Rattle.streams.specs.Streams.{GrowsByPart}
-use Rattle.trace.specs.declared.fault.PlayFault.TheVariants as texts
-use Rattle.metronome.specs.declared.fault.RunFault.TheVariants as faults
-use Rattle.metronome.proofs.Finishing.{failed_so}
-use Rattle.metronome.proofs.Failing.{memory_unread, memory_unwritten, none_read, one_written}
+use Rattle.inspector.specs.Shapes.{ShapesTold}
+use Rattle.metronome.proofs.MadeText.{report_told}
 use Rattle.metronome.proofs.after.report.tell_shapes.Goals as goal
 
-pub returns-in_err-text-clause-told : goal.returns-in_err-text-clause-told
-returns-in_err-text-clause-told g c = rw (failed_so c.from_residual.result (faults.Text texts.NoMemory) c.from_residual.ensures.1) (inr (refl, refl))
-
-pub returns-in_err-write_all-clause-told : goal.returns-in_err-write_all-clause-told
-returns-in_err-write_all-clause-told g c =
-    let part = subst (GrowsByPart (g.K.Sink.taken c.args.sink.now) (g.K.Sink.taken c.write_all.new.sink)) c.as_bytes.ensures.value c.in_err-write_all.ensures.err in
-    rw (failed_so c.from_residual-in_err-write_all.result (faults.Text texts.Write) c.from_residual-in_err-write_all.ensures.1)
-    (inl (string_bytes c.in_ok-text.text, c.in_ok-text.ensures, refl, part))
-
 pub returns-clause-told : goal.returns-clause-told
-returns-clause-told g c =
-    let all = c.in_ok-write_all.ensures.ok ∙ ap (λ t. g.K.Sink.taken c.args.sink.now ++ t) c.as_bytes.ensures.value in
-    (string_bytes c.in_ok-text.text, c.in_ok-text.ensures, refl, all)
-
-pub returns-in_err-text-clause-reads : goal.returns-in_err-text-clause-reads
-returns-in_err-text-clause-reads g c = memory_unread c.from_residual.result c.from_residual.ensures.1
-
-pub returns-in_err-text-clause-writes : goal.returns-in_err-text-clause-writes
-returns-in_err-text-clause-writes g c = omega (arith, memory_unwritten c.from_residual.result c.from_residual.ensures.1)
-
-pub returns-in_err-write_all-clause-reads : goal.returns-in_err-write_all-clause-reads
-returns-in_err-write_all-clause-reads g c = none_read c.from_residual-in_err-write_all.result c.from_residual-in_err-write_all.ensures.1
-
-pub returns-in_err-write_all-clause-writes : goal.returns-in_err-write_all-clause-writes
-returns-in_err-write_all-clause-writes g c = omega (arith, one_written c.from_residual-in_err-write_all.result c.from_residual-in_err-write_all.ensures.1, c.in_err-write_all.ensures.cause)
+returns-clause-told g c = report_told (ShapesTold c.args.heap.now) c.shapes_report.result _ c.tell_text.result c.shapes_report.ensures c.tell_text.ensures.told

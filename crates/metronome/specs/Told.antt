@@ -14,7 +14,8 @@ abbrev pub TextWritten : Ending → List ℕ → Taken → Result Ending RunFaul
 TextWritten last text taken (Ok ending) = (ending ≡ last) × (taken.after ≡ taken.before ++ text)
 TextWritten last text taken (Err fault) = (fault ≡ Text Write) × GrowsByPart taken.before taken.after text
 
--- a text is written, and the run is done; or no memory was there for it, and nothing is written
+-- a text that was made is written, all of it or a part where a write failed; or memory was refused for it, and nothing is
+-- written
 abbrev pub MadeTextTold : {E : Type 0} → Result (String Global) E → Taken → Result Ending RunFault → Type 0
 MadeTextTold (Ok text) taken result = TextWritten Done (string_bytes text) taken result
 MadeTextTold (Err refused) taken (Ok ending) = ⊥

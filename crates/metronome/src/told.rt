@@ -8,7 +8,7 @@ use crate::fault::{Ending, RunFault};
 use graph_heap::NoMemory;
 use streams::{Sink, write_all};
 
-/// Writes the text of a report, if there was memory for it.
+/// Writes the text of a report; nothing where memory was refused for it.
 pub fn tell_text<K: Sink>(text: Result<String, NoMemory>, sink: &mut K) -> Result<Ending, RunFault>
     ensures told { MadeTextTold text (taken_by K.taken sink.old sink.new) result }
     ensures reads { failed_reads result ≡ 0 }

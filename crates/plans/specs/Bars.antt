@@ -2,12 +2,11 @@
 use Rattle.std.specs.Prelude.{◌≡◌, ℕ, ◌*◌, List, Bool, Option, Some, None}
 use Rattle.settings.specs.declared.config.Config.{Config}
 use Rattle.paced.specs.declared.plan.Plan.{Plan}
-use Rattle.paced.specs.Planning.{IsFastestFor, IsLeastPagesFor}
+use Rattle.paced.specs.Planning.{IsLeastPagesFor}
 use Rattle.pictures.specs.declared.plan_bars.PlanBar.{PlanBar}
 use Rattle.pictures.specs.declared.plan_bars.PlanFigures.{PlanFigures}
-use Rattle.plans.specs.OnPages.{IsOnPages}
 use Rattle.plans.specs.Order.{OneForEach}
-use Rattle.plans.specs.Report.{made_of, tenths_of, numbers_told}
+use Rattle.plans.specs.Report.{made_of, tenths_of, numbers_told, FastestOn}
 
 -- the words for a quantum of a configuration's plan, and the tenths of a unit that the collector spends for each
 abbrev pub figures_of : Config → Option Plan → Option PlanFigures
@@ -17,15 +16,10 @@ figures_of c (Some plan) = Some (record {
   tenths = tenths_of (c.collector_ticks * c.rate) plan.quantum_words;
 })
 
--- the bar of a number of pages: of the fastest plan on as many, where every cycle moves and may empty all of them, and
--- blocks are made of these classes alone
-pub record IsBar (makes : ℕ → Bool) (c : Config) (live pages : ℕ) (bar : PlanBar) : Type 0 where
-  pub on : Config
-  pub is_on : IsOnPages c pages on
-  pub plan : Option Plan
-  pub fastest : IsFastestFor makes on live plan
-  pub pages_are : bar.pages ≡ pages
-  pub figures : bar.plan ≡ figures_of on plan
+-- the bar of a number of pages, of the fastest plan on as many
+abbrev pub IsBar : (ℕ → Bool) → Config → ℕ → ℕ → PlanBar → Type 0
+IsBar makes c live pages bar =
+    (of : FastestOn makes c live pages) × (bar ≡ record { pages = pages; plan = figures_of of.on of.plan })
 
 -- a bar for each of some numbers of pages that a heap may have, in rising order, each once
 abbrev pub AreBars : (ℕ → Bool) → Config → ℕ → List ℕ → List PlanBar → Type 0

@@ -47,14 +47,17 @@ plan_line c (Some plan) = codes "pages " ++ (decimal c.pages
     ++ (codes " tenths " ++ (decimal (tenths_of (c.collector_ticks * c.rate) plan.quantum_words)
     ++ codes "\n")))))))))
 
--- the line of a number of pages: of the fastest plan on as many, where every cycle moves and may empty all of them, and
--- blocks are made of these classes alone
-pub record IsRow (makes : ℕ → Bool) (c : Config) (live pages : ℕ) (line : List ℕ) : Type 0 where
+-- the fastest plan on a number of pages, with a configuration that has as many, where every cycle moves and may empty all of
+-- them, and blocks are made of these classes alone
+pub record FastestOn (makes : ℕ → Bool) (c : Config) (live pages : ℕ) : Type 0 where
   pub on : Config
   pub is_on : IsOnPages c pages on
   pub plan : Option Plan
   pub fastest : IsFastestFor makes on live plan
-  pub told : line ≡ plan_line on plan
+
+-- the line of a number of pages, of the fastest plan on as many
+abbrev pub IsRow : (ℕ → Bool) → Config → ℕ → ℕ → List ℕ → Type 0
+IsRow makes c live pages line = (of : FastestOn makes c live pages) × (line ≡ plan_line of.on of.plan)
 
 -- a line for each of some numbers of pages that a heap may have, in rising order, each once
 pub record IsTable (makes : ℕ → Bool) (c : Config) (live : ℕ) (numbers text : List ℕ) : Type 0 where

@@ -73,8 +73,8 @@ pub(crate) fn classes_line(
     format!(in alloc; "classes {count}: {fewest}")
 }
 
-/// Of how many pages plans are told, where there is one on so few: the configuration's own, the fewest, and some more, as
-/// many numbers as stand behind them. A number may stand there more than once.
+/// Of how many pages plans are told: the configuration's own; and the fewest on which there is one, and some more, if there is
+/// one. Behind the numbers stands how many of them count. One may count more than once.
 pub(crate) fn numbers_told(config: &Config, least: Option<u32>) -> ([u32; 6], usize)
     requires { IfSome least (λ pages. pages ≤ MOST_HEAP_PAGES) }
     ensures told { take result.1 result.0 ≡ numbers_told config.now least }

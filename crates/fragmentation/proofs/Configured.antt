@@ -9,15 +9,14 @@ use Rattle.heap_model.specs.Opening.{IsOpening}
 use Rattle.heap_model.specs.Event.{Course, Event, Runs}
 use Rattle.heap_model.specs.ReachedFrom.{opened}
 use Rattle.space.specs.Space.{pages_for, spare_of, below_of}
-use Rattle.space.specs.Fitting.{spare_in, below_in, unmoved_quanta_at}
-use Rattle.space.specs.Pace.{unmoved_quanta}
+use Rattle.space.specs.Fitting.{spare_in, below_in}
 use Rattle.space.specs.Tally.{EveryNewFindsRoom}
 use Rattle.space.specs.Room.{AllHaveRoom}
 use Rattle.space.proofs.Rooms.{all_have_room}
-use Rattle.space.proofs.Fittings.Configured.{pages as same_pages, below as same_limit, defrag as same_defrag, some as has_some, same_spare, same_below, same_unmoved}
+use Rattle.space.proofs.Fittings.Configured.{pages as same_pages, below as same_limit, defrag as same_defrag, some as has_some, roots as same_roots, same_spare, same_below}
 use Rattle.fragmentation.specs.Season.{Lives, opening_season, AllKeep}
 use Rattle.fragmentation.specs.Suffice.{GathersAll, WithinPages, WithinBlocks, pages_of, PageDemand, demand_pages, WithinPageDemand}
-use Rattle.fragmentation.specs.Flow.{Flow, opening_meter, KeepsFlow, AllMetered, traced_words, flow_pages, FlowFits}
+use Rattle.fragmentation.specs.Flow.{Flow, opening_meter, KeepsFlow, AllMetered, FlowFitsOn, FlowFits}
 use Rattle.fragmentation.specs.Configured.{MovesAll, FitsTogether, FlowFitsIn}
 use Rattle.fragmentation.proofs.Suffice.Joints.{joint_suffices, joint_suffices_unmoved}
 use Rattle.fragmentation.proofs.Suffice.Sparses.{sparse_suffices}
@@ -59,14 +58,11 @@ module _ (config : Config) (h : HeapState) (o : IsOpening h) (same : settings_of
   pub page_demand_configured : (b : PageDemand) → MovesAll config → ((n : ℕ) → pages_of (live n) ≤ b.live) → AllKeep (WithinPageDemand b) live (opening_season h.limits) es → demand_pages b ≤ config.pages → AllHaveRoom es
   page_demand_configured b moves lives keeps fits = all_have_room es (opened h) new runs (page_demand_suffices h es new b live o some (gathers moves) runs lives keeps (omega (arith, fits, pages)))
 
-  quanta : unmoved_quanta h (config.collector_ticks * config.rate) ≡ unmoved_quanta_at config config.pages
-  quanta = same_unmoved config h o same
+  roots : length h.roots ≡ config.mutators * config.slots + config.statics
+  roots = same_roots config h o same
 
-  pub flow_configured : (f : Flow) → MovesAll config → LEAST_BUDGET ≤ config.collector_ticks * config.rate → AllMetered (KeepsFlow f (config.collector_ticks * config.rate)) (opening_meter h.limits) es → FlowFitsIn config f → AllHaveRoom es
+  pub flow_configured : (f : Flow) → MovesAll config → LEAST_BUDGET ≤ config.collector_ticks * config.rate → AllMetered (config.collector_ticks * config.rate) (KeepsFlow f) (opening_meter h.limits) es → FlowFitsIn config f → AllHaveRoom es
   flow_configured f moves great keeps fits = all_have_room es (opened h) new runs (flow_suffices h es new f (config.collector_ticks * config.rate) (omega (arith, great)) o some (gathers moves) runs keeps fit)
     where
       fit : FlowFits f (config.collector_ticks * config.rate) h
-      fit = record {
-        traced = subst (λ z. traced_words f z ≤ f.cycle_words) (sym quanta) fits.traced;
-        enough = subst (λ z. flow_pages f z ≤ length h.store.pages) (sym quanta) (let a = fits.enough in omega (arith, a, pages));
-      }
+      fit = subst (λ z. FlowFitsOn f z (length h.store.pages) (config.collector_ticks * config.rate)) (sym roots) (subst (λ z. FlowFitsOn f (config.mutators * config.slots + config.statics) z (config.collector_ticks * config.rate)) (sym pages) fits)

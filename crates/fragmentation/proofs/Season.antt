@@ -35,7 +35,8 @@ use Rattle.space.specs.Tally.{FindsRoom, NewFindsRoom, EveryNewFindsRoom}
 use Rattle.space.specs.Counts.{stays, main_blocks}
 use Rattle.space.specs.Placement.{IsTidy, KeepsOnly, KeepsShapes}
 use Rattle.space.proofs.Counts.{one_if}
-use Rattle.space.proofs.Placement.Tidying.{shrinks_keeps, tidy_same, tidy_action}
+use Rattle.space.proofs.Placement.Tidying.{shrinks_keeps, tidy_same}
+use Rattle.space.proofs.Placement.Acting.{tidy_action}
 use Rattle.space.proofs.Placement.Changing.{tidy_change, only_change, shapes_kept, shapes_then}
 use Rattle.space.proofs.Placement.Census.{census}
 use Rattle.space.proofs.Paces.Pacing.{more_since}
@@ -224,21 +225,33 @@ counted_quantum r new budget units phase s live w k q = by_phase (awaits_sweep_e
     by_phase true e = on e (traced e)
     by_phase false e = by_tracing s.awaiting_sweep_end refl e
 
+-- where the event begins a cycle, what is live needs no more than was said
+abbrev pub BeginsWithin : Lives → Season → Event → Type 0
+BeginsWithin live s Cycle_begun = LiveWithin s.graph (live (s.cycles + 1))
+BeginsWithin live s _ = Unit {0}
+
+pub counted_does : (live : Lives) (r : Course) (e : Event) (new : Course) (s : Season) → IsCourse r → IsCounted r s live → BeginsWithin live s e → Does r e new → IsCounted new (season_after live s e) live
+counted_does live r (Command_done m c reply) new s w k lives does = counted_command r new m c reply s live w k does
+counted_does live r Cycle_begun new s w k lives does = counted_begins r new s live w k lives does
+counted_does live r Begin_refused new s w k lives does = subst (λ z. IsCounted z s live) (sym does.1) k
+counted_does live r (Quantum_done budget units phase) new s w k lives does = counted_quantum r new budget units phase s live w k does
+counted_does live r (Quantum_refused budget) new s w k lives does = subst (λ z. IsCounted z s live) (sym does.1) k
+
 -- a run that keeps to a bound, where what else is kept lets each new object find room
 module _ (Bound : Season → (ℕ → ℕ) → Type 0) (live : Lives) (Kept : Course → Season → Type 0)
     (step : (r : Course) (e : Event) (new : Course) (s : Season) → IsCourse r → IsCounted r s live → Kept r s → Keeps Bound live s e → Does r e new → Kept new (season_after live s e) × NewFindsRoom e) where
-  counted_does : (r : Course) (e : Event) (new : Course) (s : Season) → IsCourse r → IsCounted r s live → Keeps Bound live s e → Does r e new → IsCounted new (season_after live s e) live
-  counted_does r (Command_done m c reply) new s w k keeps does = counted_command r new m c reply s live w k does
-  counted_does r Cycle_begun new s w k keeps does = counted_begins r new s live w k keeps does
-  counted_does r Begin_refused new s w k keeps does = subst (λ z. IsCounted z s live) (sym does.1) k
-  counted_does r (Quantum_done budget units phase) new s w k keeps does = counted_quantum r new budget units phase s live w k does
-  counted_does r (Quantum_refused budget) new s w k keeps does = subst (λ z. IsCounted z s live) (sym does.1) k
+  begins_within : (s : Season) (e : Event) → Keeps Bound live s e → BeginsWithin live s e
+  begins_within s (Command_done m c reply) keeps = tt
+  begins_within s Cycle_begun keeps = keeps
+  begins_within s Begin_refused keeps = tt
+  begins_within s (Quantum_done budget units phase) keeps = tt
+  begins_within s (Quantum_refused budget) keeps = tt
 
   pub all_find_room : (es : List Event) (r new : Course) (s : Season) → IsCourse r → IsCounted r s live → Kept r s → Runs r es new → AllKeep Bound live s es → EveryNewFindsRoom es
   all_find_room [] r new s w k kept runs keeps = tt
   all_find_room (e ∷ es) r new s w k kept runs keeps =
       let x = step r e runs.0 s w k kept keeps.0 runs.1 in
-      (x.1, all_find_room es runs.0 new (season_after live s e) (does_course r e runs.0 w runs.1) (counted_does r e runs.0 s w k keeps.0 runs.1) x.0 runs.2 keeps.1)
+      (x.1, all_find_room es runs.0 new (season_after live s e) (does_course r e runs.0 w runs.1) (counted_does live r e runs.0 s w k (begins_within s e keeps.0) runs.1) x.0 runs.2 keeps.1)
 
 -- with room for what it asks for, a command makes all that it would
 pub command_room : (h : HeapState) (g : Graph) (m : ℕ) (c : Command) → ((need : ℕ → ℕ) → ((k : ℕ) → asked_for g m c k ≡ need k) → has_room h.store.pages need ≡ true) → FindsRoom c (reply_of (room_for h c) g m c) × (change_by (room_for h c) g m c ≡ change_by true g m c)

@@ -1,11 +1,11 @@
 -- What suffices, in a configuration's numbers.
-use Rattle.std.specs.Prelude.{ℕ, ◌+◌, ◌<◌, ◌≤◌, ◌⊎◌}
+use Rattle.std.specs.Prelude.{ℕ, ◌+◌, ◌*◌, ◌<◌, ◌≤◌, ◌⊎◌}
 use Rattle.size_classes.specs.declared.class.TheConstants.{CLASSES}
 use Rattle.settings.specs.declared.config.Config.{Config}
 use Rattle.space.specs.Space.{pages_for}
-use Rattle.space.specs.Fitting.{spare_in, below_in, unmoved_quanta_at}
+use Rattle.space.specs.Fitting.{spare_in, below_in}
 use Rattle.fragmentation.specs.Suffice.{sparse_pages}
-use Rattle.fragmentation.specs.Flow.{Flow, traced_words, flow_pages}
+use Rattle.fragmentation.specs.Flow.{Flow, FlowFitsOn}
 
 -- moving follows each sweep, and as many pages as there are may be emptied
 pub record MovesAll (c : Config) : Type 0 where
@@ -21,8 +21,10 @@ FitsTogether c blocks =
     ⊎ ((pages_for blocks 0 CLASSES + below_in c ≤ c.pages)
     ⊎ (sparse_pages blocks + spare_in c ≤ c.pages))
 
--- A flow fits in a configuration: up to its sweep's end a cycle makes no more than may be made until the next one, and
--- there are as many pages as it takes.
-pub record FlowFitsIn (c : Config) (f : Flow) : Type 0 where
-  pub traced : traced_words f (unmoved_quanta_at c c.pages) ≤ f.cycle_words
-  pub enough : flow_pages f (unmoved_quanta_at c c.pages) ≤ c.pages
+-- the root cells of a heap of a configuration
+abbrev pub roots_in : Config → ℕ
+roots_in c = c.mutators * c.slots + c.statics
+
+-- a flow fits in a configuration, where quanta of the schedule's budget count
+abbrev pub FlowFitsIn : Config → Flow → Type 0
+FlowFitsIn c f = FlowFitsOn f (roots_in c) c.pages (c.collector_ticks * c.rate)

@@ -19,18 +19,21 @@ ghost use Rattle.heap_model.specs.Change.{DoesChange};
 ghost use Rattle.heap_model.specs.Represents.{is_sweeping};
 ghost use Rattle.heap_model.specs.Settings.{settings_of, settings_by};
 ghost use Rattle.heap_model.specs.Opening.{IsOpening};
-ghost use Rattle.heap_model.specs.Event.{Course, Event, Runs};
+ghost use Rattle.heap_model.specs.Event.{Course, Event, Runs, HaveBudgets};
+ghost use Rattle.heap_model.specs.Phases.{awaits_sweep_end};
 ghost use Rattle.heap_model.specs.ReachedFrom.{opened};
 ghost use Rattle.space.specs.Counts.{main_blocks};
 ghost use Rattle.space.specs.Tally.{EveryNewFindsRoom};
 ghost use Rattle.space.specs.Room.{AllHaveRoom};
+ghost use Rattle.space.specs.Lasting.{LastsAtMost};
+ghost use Rattle.space.specs.Pace.{in_cycle};
 ghost use Rattle.space.specs.Space.{pages_for, spare_of, below_of};
 ghost use Rattle.fragmentation.specs.Tight.{IsTight, staying_pages};
 ghost use Rattle.fragmentation.specs.Gathering.{IsGathering, AreTight};
 ghost use Rattle.fragmentation.specs.Configured.{MovesAll, FitsTogether, FlowFitsIn};
 ghost use Rattle.fragmentation.specs.Season.{Lives, opening_season, AllKeep};
 ghost use Rattle.fragmentation.specs.declared.flow.TheConstants.{LEAST_PAGE_FILL};
-ghost use Rattle.fragmentation.specs.Flow.{Flow, opening_meter, KeepsFlow, AllMetered, FlowFits};
+ghost use Rattle.fragmentation.specs.Flow.{Flow, opening_meter, KeepsFlow, AllMetered, FlowFits, traced_words, sweep_quanta, flow_quanta};
 ghost use Rattle.fragmentation.specs.Suffice.{GathersAll, WithinPages, WithinBlocks, sparse_pages, pages_of, PageDemand, demand_pages, WithinPageDemand};
 
 mod flow;
@@ -107,12 +110,29 @@ pub fn pages_have_words()
 
 /// No new object is refused for lack of space in a run that keeps to a flow which fits: where what is live takes at
 /// most so many words whenever a cycle begins, and the program asks, over all size classes together, for at most so
-/// many words for each quantum until a cycle's sweep ends, and for so many from one cycle's beginning to the next.
-/// Whatever the sizes of the objects are, and however these shift.
+/// many words for each quantum of at least k units until a cycle's sweep ends, and for so many from one cycle's
+/// beginning to the next. Whatever the sizes of the objects are, and however these shift.
 pub fn flow_suffices()
     ensures { (h : HeapState) (es : List Event) (new : Course) (f : Flow) (k : ℕ) → 0 < k → IsOpening h
         → 0 < length h.store.pages → GathersAll h → Runs (opened h) es new
-        → AllMetered (KeepsFlow f k) (opening_meter h.limits) es → FlowFits f k h → EveryNewFindsRoom es }
+        → AllMetered k (KeepsFlow f) (opening_meter h.limits) es → FlowFits f k h → EveryNewFindsRoom es }
+{}
+
+/// How long a cycle lasts in a run that keeps to a flow, with quanta of at least k units: `sweep_quanta` up to its
+/// sweep's end, and `flow_quanta` as a whole, where up to its sweep's end a cycle makes no more than may be made until
+/// the next one. Marking and moving take no more words than what is live and what is made have, however many pages
+/// there are; and moving looks at all pages for none to which it moves words.
+pub fn flow_cycles_end()
+    ensures sweep { (h : HeapState) (es : List Event) (new : Course) (f : Flow) (k : ℕ) → LEAST_BUDGET ≤ k → IsOpening h
+        → 0 < length h.store.pages → Runs (opened h) es new
+        → AllMetered k (KeepsFlow f) (opening_meter h.limits) es → HaveBudgets k es
+        → traced_words f (sweep_quanta f (length h.roots) (length h.store.pages) k) ≤ f.cycle_words
+        → LastsAtMost awaits_sweep_end (sweep_quanta f (length h.roots) (length h.store.pages) k) 0 es }
+    ensures cycle { (h : HeapState) (es : List Event) (new : Course) (f : Flow) (k : ℕ) → LEAST_BUDGET ≤ k → IsOpening h
+        → 0 < length h.store.pages → Runs (opened h) es new
+        → AllMetered k (KeepsFlow f) (opening_meter h.limits) es → HaveBudgets k es
+        → traced_words f (sweep_quanta f (length h.roots) (length h.store.pages) k) ≤ f.cycle_words
+        → LastsAtMost in_cycle (flow_quanta f (length h.roots) (length h.store.pages) k) 0 es }
 {}
 
 /// The space bound for a demand that is taken together, whatever moves: in every run that keeps, at each command, what
@@ -163,6 +183,6 @@ pub fn configured_pages_suffice()
     ensures flow { (config : Config) (h : HeapState) (es : List Event) (new : Course) (f : Flow) → 1 ≤ config.pages
         → LEAST_BUDGET ≤ config.collector_ticks * config.rate → IsOpening h → settings_of h ≡ settings_by config
         → MovesAll config → Runs (opened h) es new
-        → AllMetered (KeepsFlow f (config.collector_ticks * config.rate)) (opening_meter h.limits) es
+        → AllMetered (config.collector_ticks * config.rate) (KeepsFlow f) (opening_meter h.limits) es
         → FlowFitsIn config f → AllHaveRoom es }
 {}

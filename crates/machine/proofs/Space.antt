@@ -29,7 +29,7 @@ space_suffices config h es new o same runs =
       joint = λ blocks live keeps fits. joint_configured config h o same one es new live runs blocks (subst (λ (l : Limits). AllKeep (WithinBlocks blocks live) live (opening_season l) es) limits keeps) fits;
       moving = λ live moves keeps. moving_configured config h o same one es new live runs moves (subst (λ (l : Limits). AllKeep (WithinPages config.pages) live (opening_season l) es) limits keeps);
       page_demand = λ b live moves lives keeps fits. page_demand_configured config h o same one es new live runs b moves lives (subst (λ (l : Limits). AllKeep (WithinPageDemand b) live (opening_season l) es) limits keeps) fits;
-      flow = λ f moves keeps fits. flow_configured config h o same one es new (λ n class. 0) runs f moves config.budget_in_range.0 (subst (λ (l : Limits). AllMetered (KeepsFlow f (config.collector_ticks * config.rate)) (opening_meter l) es) limits keeps) fits;
+      flow = λ f moves keeps fits. flow_configured config h o same one es new (λ n class. 0) runs f moves config.budget_in_range.0 (subst (λ (l : Limits). AllMetered (config.collector_ticks * config.rate) (KeepsFlow f) (opening_meter l) es) limits keeps) fits;
     }
 
 pub finds_space : (r : Course) → FindsSpace r

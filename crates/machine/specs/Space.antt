@@ -34,7 +34,7 @@ pub record SpaceSuffices (config : Config) (es : List Event) : Type 0 where
       → AllKeep (WithinPageDemand b) live (opening_season (limits_of config)) es → demand_pages b ≤ config.pages
       → AllHaveRoom es
   pub flow : (f : Flow) → MovesAll config
-      → AllMetered (KeepsFlow f (config.collector_ticks * config.rate)) (opening_meter (limits_of config)) es
+      → AllMetered (config.collector_ticks * config.rate) (KeepsFlow f) (opening_meter (limits_of config)) es
       → FlowFitsIn config f → AllHaveRoom es
 
 -- a heap of a configuration that was just made, without a history

@@ -3,8 +3,6 @@ use Rattle.std.proofs.Common.{Bool, cond, ◌≡◌, ◌∙◌, ℕ, ◌+◌, �
 use Rattle.std.specs.Prelude.{Option, Some, None, length, pos, nat_abs}
 use Rattle.std.proofs.lemmas.List.Folds.{sum_by-replicate}
 use Rattle.std.proofs.Math.Nat.{mul-one}
-use Rattle.size_classes.specs.declared.class.TheConstants.{PAGE_WORDS}
-use Rattle.size_classes.specs.Sizes.{blocks_in}
 use Rattle.settings.specs.declared.settings.Settings.{Settings}
 use Rattle.settings.specs.declared.config.Config.{Config}
 use Rattle.settings.specs.declared.fault.ConfigFault.{ConfigFault}
@@ -14,9 +12,8 @@ use Rattle.settings.specs.Config.{fault_of, IsOf}
 use Rattle.heap_model.specs.Opening.{IsOpening}
 use Rattle.heap_model.specs.Pages.{Page, is_free, free_pages}
 use Rattle.heap_model.specs.State.{HeapState}
-use Rattle.space.specs.Fitting.{swept_at, unmoved_quanta_at}
-use Rattle.fragmentation.specs.Configured.{MovesAll, FlowFitsIn}
-use Rattle.fragmentation.specs.Flow.{Flow, flow_pages, traced_words}
+use Rattle.fragmentation.specs.Configured.{roots_in, MovesAll, FlowFitsIn}
+use Rattle.fragmentation.specs.Flow.{Flow, FlowFitsOn}
 use Rattle.paced.specs.declared.plan.Plan.{Plan}
 use Rattle.paced.specs.Planning.{IsFastest, IsLeastPages}
 use Rattle.paced.specs.Rooms.{planned_flow}
@@ -47,10 +44,6 @@ no_fault : (fault : ConfigFault) → status_number (fault_status fault) ≡ stat
 no_fault (faults.OutOfRange key) e = omega (arith, e)
 no_fault fault e = omega (arith, e)
 
--- the fastest plan fits
-even_fits : (c : Config) (live : ℕ) (plan : Plan) → IsFastest c live (Some plan) → FlowFitsIn c (planned_flow live plan)
-even_fits c live plan f = subst (λ (w : ℕ). FlowFitsIn c (planned_flow live (record { quantum_words = plan.quantum_words; cycle_words = w }))) (sym f.1) f.2
-
 module _ (s : Settings) (c d : Config) (of : IsOf s c) (is : IsOf s d) where
   -- two configurations of the same settings have the same numbers
   pages : c.pages ≡ d.pages
@@ -59,17 +52,10 @@ module _ (s : Settings) (c d : Config) (of : IsOf s c) (is : IsOf s d) where
   budget : c.collector_ticks * c.rate ≡ d.collector_ticks * d.rate
   budget = ap (λ z. z * c.rate) (same (of.collector_ticks ∙ sym is.collector_ticks)) ∙ ap (λ z. d.collector_ticks * z) (same (of.rate ∙ sym is.rate))
 
-  roots : c.mutators * c.slots + c.statics ≡ d.mutators * d.slots + d.statics
+  roots : roots_in c ≡ roots_in d
   roots = ap (λ z. z * c.slots + c.statics) (same (of.mutators ∙ sym is.mutators))
       ∙ ap (λ z. d.mutators * z + c.statics) (same (of.slots ∙ sym is.slots))
       ∙ ap (λ z. d.mutators * d.slots + z) (same (of.statics ∙ sym is.statics))
-
-  swept : swept_at c c.pages ≡ swept_at d d.pages
-  swept = ap (λ z. z + PAGE_WORDS * c.pages + (blocks_in 0 + 1) * c.pages + (blocks_in 0 + 4)) roots
-      ∙ ap (λ z. d.mutators * d.slots + d.statics + PAGE_WORDS * z + (blocks_in 0 + 1) * z + (blocks_in 0 + 4)) pages
-
-  quanta : unmoved_quanta_at c c.pages ≡ unmoved_quanta_at d d.pages
-  quanta = ap (λ z. z / (c.collector_ticks * c.rate) + 1) swept ∙ ap (λ z. swept_at d d.pages / z + 1) budget
 
   moves : MovesAll c → MovesAll d
   moves m = record {
@@ -78,10 +64,10 @@ module _ (s : Settings) (c d : Config) (of : IsOf s c) (is : IsOf s d) where
   }
 
   fits : (f : Flow) → FlowFitsIn c f → FlowFitsIn d f
-  fits f w = record {
-    traced = subst (λ q. traced_words f q ≤ f.cycle_words) quanta w.traced;
-    enough = subst (λ q. flow_pages f q ≤ d.pages) quanta (subst (λ p. flow_pages f (unmoved_quanta_at c c.pages) ≤ p) pages w.enough);
-  }
+  fits f w =
+      subst (λ r. FlowFitsOn f r d.pages (d.collector_ticks * d.rate)) roots
+      (subst (λ p. FlowFitsOn f (roots_in c) p (d.collector_ticks * d.rate)) pages
+      (subst (FlowFitsOn f (roots_in c) c.pages) budget w))
 
 module _ (s : Settings) (h : Held) (made : IsMadeOf s h) (told live : ℕ) (before flow : MetronomeFlow) where
   -- where a plan was told
@@ -92,7 +78,7 @@ module _ (s : Settings) (h : Held) (made : IsMadeOf s h) (told live : ℕ) (befo
         unused = unused h.heap made.0;
         budget = budget s c h.config of made.1;
         moves = moves s c h.config of made.1 planned.0;
-        fits = fits s c h.config of made.1 (planned_flow live plan) (even_fits c live plan planned.1);
+        fits = fits s c h.config of made.1 (planned_flow live plan) planned.1.0.lasts.fits;
       })
 
   by_fault : (fault : Option ConfigFault) → PlansUnless fault s live before flow told → told ≡ status_number Done → CanKeep h flow

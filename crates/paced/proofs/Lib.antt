@@ -2,7 +2,6 @@ pub mod OneBlock
 pub mod Paths
 pub mod Pieces
 pub mod Running
-pub mod Keeping
 pub mod Opened
 pub mod Planning
 pub mod Classes

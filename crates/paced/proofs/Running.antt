@@ -1,34 +1,29 @@
 -- What is done on a paced heap are events of a heap with its history, which keep to a flow.
 use Prim.Native.Nat.{zero}
-use Rattle.std.proofs.Common.{◌≡◌, ◌≢◌, ℕ, suc, ◌+◌, ◌*◌, ◌<◌, ◌≤◌, Bool, true, false, if◌then◌else◌, nat_le, Ok, List, [], ◌∷◌, ap, ◌∙◌, sym, subst, arith, refl}
+use Rattle.std.proofs.Common.{◌≡◌, ◌≢◌, ℕ, suc, ◌+◌, ◌*◌, ◌≤◌, Bool, true, false, if◌then◌else◌, nat_le, Ok, List, [], ◌∷◌, ap, ◌∙◌, sym, subst, arith, refl}
 use Rattle.std.proofs.Math.Nat.{mul-le-mul_right}
-use Rattle.std.proofs.lemmas.Bool.Decides.{nat_tests}
 use Rattle.graph_heap.specs.declared.command.Command.{Command}
 use Rattle.graph_heap.specs.declared.command.Reply.{Reply}
 use Rattle.heap_model.specs.declared.phase.Phase.{Phase}
 use Rattle.heap_model.specs.declared.phase.Phase.TheVariants as phases
 use Rattle.heap_model.specs.State.{HeapState}
-use Rattle.heap_model.specs.Settings.{settings_of}
-use Rattle.heap_model.specs.Spent.{cycle_limit, swept_units}
 use Rattle.heap_model.specs.Phases.{awaits_sweep_end}
 use Rattle.heap_model.specs.Left.{LeavesCycle}
-use Rattle.heap_model.specs.Event.{Course, Event, Command_done, Cycle_begun, Begin_refused, Quantum_done, Quantum_refused, Does, Runs, IsCourse, present_of, snapshot_of}
+use Rattle.heap_model.specs.Event.{Course, Event, Command_done, Cycle_begun, Begin_refused, Quantum_done, Quantum_refused, Does, Runs, IsCourse, present_of}
 use Rattle.heap_model.proofs.Event.Kept.{enters_graph, begins_present, collects_present, does_course}
-use Rattle.heap_model.proofs.QuantumSpending.Quanta.{chain_units}
-use Rattle.heap_model.proofs.Settings.{does_settings}
 use Rattle.space.specs.Demand.{asked_for}
-use Rattle.space.specs.Pace.{in_cycle, unmoved_quanta}
+use Rattle.space.specs.Pace.{in_cycle}
 use Rattle.space.specs.Room.{asks}
 use Rattle.space.proofs.Rooms.{asks_less}
 use Rattle.space.proofs.Paces.Pacing.{command_left}
-use Rattle.space.proofs.Paces.Spending.{limit_stays, same_swept, swept_kept, all_spent, few_quanta}
 use Rattle.space.proofs.Paces.Moved.{chain_tracing}
-use Rattle.fragmentation.specs.Flow.{words_of, Flow, FlowMeter, next_meter, Paces, AllMetered}
+use Rattle.fragmentation.specs.Flow.{words_of, FlowMeter, next_meter, Paces, AllMetered}
 use Rattle.fragmentation.proofs.Flows.Words.{words_more}
 use Rattle.machine.specs.Plan.{Steps}
 use Rattle.machine.proofs.Events.{command_event, begin_event, quantum_event}
 use Rattle.paced.specs.declared.plan.Plan.{Plan}
 use Rattle.paced.specs.Pacing.{Counts, PacedState, saturated, counted, DoesOn, Path, MayAsk, KeepsPlan}
+use Rattle.paced.specs.Rooms.{planned_flow}
 
 -- an event on a heap is one of each history that leads to the heap
 pub event_does : (r : Course) (h after : HeapState) (e : Event) → IsCourse r → r.heap ≡ h → DoesOn h e after → (new : Course) × (new.heap ≡ after) × Does r e new
@@ -45,41 +40,15 @@ path_runs Passes (e ∷ es) r old new w at p =
     let y = path_runs Passes es x.0 p.0 new (does_course r e x.0 w x.2) x.1 p.4 in
     (y.0, y.1, (x.0, x.2, y.2))
 
-times_next : (n b : ℕ) → (n + 1) * b ≡ n * b + b
-times_next n b = grind arith
-
-is_less : (a b : ℕ) → nat_le a b ≡ true → a ≤ b
-is_less a b e = grind (arith, nat_tests)
-
-not_true : (b : Bool) → b ≡ true → b ≡ false → ⊥
-not_true b p q = cc
-
-pub awaits_runs : (p : Phase) → awaits_sweep_end p ≡ true → in_cycle p ≡ true
+awaits_runs : (p : Phase) → awaits_sweep_end p ≡ true → in_cycle p ≡ true
 awaits_runs phases.Idle a = absurd (cc)
 awaits_runs (phases.Roots next) a = refl
 awaits_runs (phases.Marking part cell) a = refl
 awaits_runs (phases.Sweeping page block) a = refl
 awaits_runs (phases.Moving m) a = absurd (cc)
 
--- The flow in which all that the quanta of a cycle allow may be asked for at once: any quantum will do for it.
-abbrev pub burst_flow : ℕ → Plan → ℕ → Flow
-burst_flow live plan quanta = record {
-  makes = λ class. true;
-  live_words = live;
-  quantum_words = 0;
-  burst = quanta * plan.quantum_words;
-  cycle_words = plan.cycle_words;
-}
-
-module _ (h : HeapState) (plan : Plan) (live k : ℕ) (great : 0 < k) where
-  abbrev most : ℕ
-  most = unmoved_quanta h k
-
-  abbrev flow : Flow
-  flow = burst_flow live plan most
-
-  -- What is kept: what the pacer goes by is as strict as the meter, and the units of the cycle that runs are no fewer than
-  -- those of the quanta that it counts.
+module _ (plan : Plan) (live k : ℕ) where
+  -- What is kept: what the pacer goes by is as strict as the meter, whose quanta allow the words that it counts.
   pub record IsKept (r : Course) (v : PacedState) (t : FlowMeter) : Type 0 where
     pub course : IsCourse r
     pub heap : r.heap ≡ v.heap
@@ -88,25 +57,16 @@ module _ (h : HeapState) (plan : Plan) (live k : ℕ) (great : 0 < k) where
     pub fewer : t.words ≤ v.counts.words
     pub plan_is : v.counts.plan ≡ plan
     pub budget_is : v.counts.budget ≡ k
-    pub limit : cycle_limit r.heap ≡ cycle_limit h
-    pub settings : settings_of r.heap ≡ settings_of h
-    pub spent : awaits_sweep_end r.heap.phase ≡ true → v.counts.quanta * k ≤ r.heap.units
+    pub quanta : v.counts.quanta ≤ t.quanta
     pub cycle : v.counts.words ≤ plan.cycle_words
-    pub traced : awaits_sweep_end r.heap.phase ≡ true → v.counts.words ≤ most * plan.quantum_words
+    pub allowed : t.awaiting_sweep_end ≡ true → v.counts.words ≤ (t.quanta + 1) * plan.quantum_words
 
   -- one event more
   pub record Goes (r : Course) (v new : PacedState) (t : FlowMeter) (e : Event) : Type 0 where
     pub course : Course
     pub does : Does r e course
-    pub kept : IsKept course new (next_meter t e)
-    pub paces : Paces flow 1 t e
-
-  -- no more than `most` quanta are done before a sweep ends
-  few : (r : Course) (v : PacedState) (t : FlowMeter) → IsKept r v t → awaits_sweep_end r.heap.phase ≡ true → v.counts.quanta + 1 ≤ most
-  few r v t i on =
-      let l = swept_kept r.heap (present_of r) (snapshot_of r) i.course.represents on in
-      let same = same_swept h r.heap i.limit i.settings in
-      few_quanta k (swept_units h) v.counts.quanta r.heap.units great (i.spent on) (omega (arith, l, same))
+    pub kept : IsKept course new (next_meter k t e)
+    pub paces : Paces (planned_flow live plan) t e
 
   module _ (r : Course) (v new : PacedState) (t : FlowMeter) (i : IsKept r v t) where
     command_goes : (m : ℕ) (c : Command) (reply : Reply) → MayAsk v (words_of (asks c)) → Steps v.heap m c reply new.heap → new.counts ≡ counted v.counts (Command_done m c reply) → Goes r v new t (Command_done m c reply)
@@ -121,11 +81,9 @@ module _ (h : HeapState) (plan : Plan) (live k : ℕ) (great : 0 < k) where
         fewer = (let l = i.fewer in let a = asked in let n = now in omega (arith, l, a, n));
         plan_is = ap (λ (z : Counts). z.plan) counts ∙ i.plan_is;
         budget_is = ap (λ (z : Counts). z.budget) counts ∙ i.budget_is;
-        limit = limit_stays r e x.0 x.2 ∙ i.limit;
-        settings = does_settings r e x.0 x.2 ∙ i.settings;
-        spent = λ on. (let s = i.spent (was on) in let u = left.units in let q = ap (λ (z : Counts). z.quanta * k) counts in omega (arith, s, u, q));
+        quanta = (let l = i.quanta in let q = ap (λ (z : Counts). z.quanta) counts in omega (arith, l, q));
         cycle = (let l = cycle words refl in let n = now in omega (arith, l, n));
-        traced = λ on. (let l = traced (was on) words refl in let n = now in omega (arith, l, n));
+        allowed = λ on. (let l = allowed on words refl in let n = now in omega (arith, l, n));
       };
       paces = (paced t.awaiting_sweep_end refl, λ class l none. absurd (cc));
     }
@@ -142,9 +100,6 @@ module _ (h : HeapState) (plan : Plan) (live k : ℕ) (great : 0 < k) where
         left : LeavesCycle r.heap x.0.heap
         left = command_left r x.0 m c reply x.2
 
-        was : awaits_sweep_end x.0.heap.phase ≡ true → awaits_sweep_end r.heap.phase ≡ true
-        was on = sym (ap awaits_sweep_end left.phase) ∙ on
-
         now : new.counts.words ≡ v.counts.words + words
         now = ap (λ (z : Counts). z.words) counts
 
@@ -155,16 +110,18 @@ module _ (h : HeapState) (plan : Plan) (live k : ℕ) (great : 0 < k) where
         cycle zero at = let l = i.cycle in omega (arith, l)
         cycle (suc n) at = let l = may.cycle (omega (arith, at)) in let p = ap (λ (z : Plan). z.cycle_words) i.plan_is in omega (arith, l, p, at)
 
-        traced : awaits_sweep_end r.heap.phase ≡ true → (n : ℕ) → n ≡ words → v.counts.words + n ≤ most * plan.quantum_words
-        traced on zero at = let l = i.traced on in omega (arith, l)
-        traced on (suc n) at =
-            let l = may.quanta (omega (arith, at)) (subst (λ (z : HeapState). in_cycle z.phase ≡ true) i.heap (awaits_runs r.heap.phase on)) in
+        allowed : t.awaiting_sweep_end ≡ true → (n : ℕ) → n ≡ words → v.counts.words + n ≤ (t.quanta + 1) * plan.quantum_words
+        allowed on zero at = let l = i.allowed on in omega (arith, l)
+        allowed on (suc n) at =
+            let l = may.quanta (omega (arith, at)) (subst (λ (z : HeapState). in_cycle z.phase ≡ true) i.heap (awaits_runs r.heap.phase (sym i.awaiting ∙ on))) in
             let p = ap (λ (z : Plan). (v.counts.quanta + 1) * z.quantum_words) i.plan_is in
-            let q = mul-le-mul_right plan.quantum_words (few r v t i on) in
-            omega (arith, l, p, q, at)
+            let f = i.quanta in
+            let q : v.counts.quanta + 1 ≤ t.quanta + 1 = omega (arith, f) in
+            let m = mul-le-mul_right plan.quantum_words q in
+            omega (arith, l, p, m, at)
 
-        paced : (b : Bool) → t.awaiting_sweep_end ≡ b → t.words + words_of (asked_for t.graph m c) ≤ (if b then (t.quanta + 1) * 0 + most * plan.quantum_words else plan.cycle_words)
-        paced true at = let l = traced (sym i.awaiting ∙ at) words refl in let f = i.fewer in let a = asked in omega (arith, l, f, a)
+        paced : (b : Bool) → t.awaiting_sweep_end ≡ b → t.words + words_of (asked_for t.graph m c) ≤ (if b then (t.quanta + 1) * plan.quantum_words + 0 else plan.cycle_words)
+        paced true at = let l = allowed at words refl in let f = i.fewer in let a = asked in omega (arith, l, f, a)
         paced false at = let l = cycle words refl in let f = i.fewer in let a = asked in omega (arith, l, f, a)
 
     begin_goes : DoesOn v.heap Cycle_begun new.heap → new.counts ≡ counted v.counts Cycle_begun → Goes r v new t Cycle_begun
@@ -179,11 +136,9 @@ module _ (h : HeapState) (plan : Plan) (live k : ℕ) (great : 0 < k) where
         fewer = omega arith;
         plan_is = ap (λ (z : Counts). z.plan) counts ∙ i.plan_is;
         budget_is = ap (λ (z : Counts). z.budget) counts ∙ i.budget_is;
-        limit = limit_stays r Cycle_begun x.0 x.2 ∙ i.limit;
-        settings = does_settings r Cycle_begun x.0 x.2 ∙ i.settings;
-        spent = λ on. (let q : new.counts.quanta * k ≡ 0 * k = ap (λ (z : Counts). z.quanta * k) counts in omega (arith, q));
+        quanta = (let q = ap (λ (z : Counts). z.quanta) counts in omega (arith, q));
         cycle = (let n = none in omega (arith, n));
-        traced = λ on. (let n = none in omega (arith, n));
+        allowed = λ on. (let n = none in omega (arith, n));
       };
       paces = tt;
     }
@@ -206,13 +161,11 @@ module _ (h : HeapState) (plan : Plan) (live k : ℕ) (great : 0 < k) where
         fewer = (let l = i.fewer in let n = now in omega (arith, l, n));
         plan_is = ap (λ (z : Counts). z.plan) counts ∙ i.plan_is;
         budget_is = ap (λ (z : Counts). z.budget) counts ∙ i.budget_is;
-        limit = limit_stays r e x.0 x.2 ∙ i.limit;
-        settings = does_settings r e x.0 x.2 ∙ i.settings;
-        spent = λ on. spent on (nat_le v.counts.budget budget) refl;
+        quanta = (let l = counted_less (nat_le k budget) in let q = is in omega (arith, l, q));
         cycle = (let l = i.cycle in let n = now in omega (arith, l, n));
-        traced = λ on. (let l = i.traced (was on) in let n = now in omega (arith, l, n));
+        allowed = λ on. (let l = allowed_more (nat_le k budget) (i.awaiting ∙ was (ap awaits_sweep_end x.2.ends ∙ on)) in let n = now in omega (arith, l, n));
       };
-      paces = (let b = d.0.0 in omega (arith, b));
+      paces = tt;
     }
       where
         e : Event
@@ -224,32 +177,25 @@ module _ (h : HeapState) (plan : Plan) (live k : ℕ) (great : 0 < k) where
         now : new.counts.words ≡ v.counts.words
         now = ap (λ (z : Counts). z.words) counts
 
+        is : new.counts.quanta ≡ (if nat_le k budget then saturated (v.counts.quanta + 1) else v.counts.quanta)
+        is = ap (λ (z : Counts). z.quanta) counts ∙ ap (λ b. if nat_le b budget then saturated (v.counts.quanta + 1) else v.counts.quanta) i.budget_is
+
         -- a sweep that hasn't ended hadn't before
         was : awaits_sweep_end x.0.heap.phase ≡ true → awaits_sweep_end r.heap.phase ≡ true
         was on = chain_tracing r.heap x.0.heap units x.2.turn.chain on
 
-        -- up to the sweep's end each quantum spends its units
-        all : awaits_sweep_end x.0.heap.phase ≡ true → budget ≤ units
-        all on = all_spent r.heap x.0.heap budget units x.2.turn (λ m y. not_true _ on (ap awaits_sweep_end y)) (λ y. not_true _ on (ap awaits_sweep_end y))
+        -- a quantum that the pacer counts is one of the meter's
+        counted_less : (b : Bool) → (if b then saturated (v.counts.quanta + 1) else v.counts.quanta) ≤ (if b then t.quanta + 1 else t.quanta)
+        counted_less true = let f = i.quanta in omega (arith, f)
+        counted_less false = i.quanta
 
-        spent : awaits_sweep_end x.0.heap.phase ≡ true → (b : Bool) → nat_le v.counts.budget budget ≡ b → new.counts.quanta * k ≤ x.0.heap.units
-        spent on true at =
-            let s = i.spent (was on) in
-            let u = chain_units r.heap x.0.heap units x.2.turn.chain in
-            let a = all on in
-            let g = is_less v.counts.budget budget at in
-            let b = i.budget_is in
-            let q : new.counts.quanta ≡ saturated (v.counts.quanta + 1) = ap (λ (z : Counts). z.quanta) counts ∙ ap (λ c. if c then saturated (v.counts.quanta + 1) else v.counts.quanta) at in
-            let l : new.counts.quanta ≤ v.counts.quanta + 1 = omega (arith, q) in
-            let m = mul-le-mul_right k l in
-            let z = times_next v.counts.quanta k in
-            omega (arith, s, u, a, g, b, m, z)
-        spent on false at =
-            let s = i.spent (was on) in
-            let u = chain_units r.heap x.0.heap units x.2.turn.chain in
-            let q : new.counts.quanta ≡ v.counts.quanta = ap (λ (z : Counts). z.quanta) counts ∙ ap (λ c. if c then saturated (v.counts.quanta + 1) else v.counts.quanta) at in
-            let m = ap (λ z. z * k) q in
-            omega (arith, s, u, m)
+        allowed_more : (b : Bool) → t.awaiting_sweep_end ≡ true → v.counts.words ≤ ((if b then t.quanta + 1 else t.quanta) + 1) * plan.quantum_words
+        allowed_more true on =
+            let l = i.allowed on in
+            let q : t.quanta + 1 ≤ t.quanta + 1 + 1 = omega arith in
+            let m = mul-le-mul_right plan.quantum_words q in
+            omega (arith, l, m)
+        allowed_more false on = i.allowed on
 
     -- what is refused changes nothing
     refused_kept : new.heap ≡ v.heap → new.counts ≡ v.counts → IsKept r new t
@@ -270,16 +216,16 @@ module _ (h : HeapState) (plan : Plan) (live k : ℕ) (great : 0 < k) where
   goes (Quantum_done budget units phase) r v new t i may d counts = quantum_goes r v new t i budget units phase d counts
   goes (Quantum_refused budget) r v new t i may d counts = record { course = r; does = (d.0, refl); kept = refused_kept r v new t i d.1 counts; paces = tt }
 
-  -- events that keep the plan keep to the flow
+  -- events that keep the plan keep to its flow
   pub record Follows (r : Course) (t : FlowMeter) (es : List Event) (now : HeapState) : Type 0 where
     pub course : Course
     pub heap : course.heap ≡ now
     pub runs : Runs r es course
-    pub paces : AllMetered (Paces flow 1) t es
+    pub paces : AllMetered k (Paces (planned_flow live plan)) t es
 
   pub follows : (es : List Event) (r : Course) (v new : PacedState) (t : FlowMeter) → IsKept r v t → Path KeepsPlan v es new → Follows r t es new.heap
   follows [] r v new t i p = record { course = r; heap = i.heap ∙ ap (λ (z : PacedState). z.heap) (sym p); runs = refl; paces = tt }
   follows (e ∷ es) r v new t i p =
       let x = goes e r v p.0 t i p.1 p.2 p.3 in
-      let y = follows es x.course p.0 new (next_meter t e) x.kept p.4 in
+      let y = follows es x.course p.0 new (next_meter k t e) x.kept p.4 in
       record { course = y.course; heap = y.heap; runs = (x.course, x.does, y.runs); paces = (x.paces, y.paces) }

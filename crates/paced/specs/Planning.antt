@@ -1,42 +1,60 @@
 -- Which plan is chosen.
-use Rattle.std.specs.Prelude.{◌≡◌, ℕ, ◌+◌, ◌-◌, ◌*◌, ◌/◌, ◌<◌, ◌≤◌, Bool, true, Option, Some, None}
+use Rattle.std.specs.Prelude.{◌≡◌, ℕ, ◌*◌, ◌<◌, ◌≤◌, Bool, true, Option, Some, None}
 use Rattle.settings.specs.declared.config.Config.{Config}
 use Rattle.settings.specs.declared.config.TheConstants.{MOST_HEAP_PAGES}
-use Rattle.space.specs.Fitting.{moved_quanta_at, unmoved_quanta_at}
-use Rattle.fragmentation.specs.Flow.{flow_pages}
-use Rattle.fragmentation.specs.Configured.{FlowFitsIn}
+use Rattle.fragmentation.specs.Flow.{Flow, flow_quanta, FlowFitsOn}
+use Rattle.fragmentation.specs.Configured.{roots_in}
 use Rattle.paced.specs.declared.plan.Plan.{Plan}
 use Rattle.paced.specs.Rooms.{flow_for}
 
--- the quanta of its schedule that a whole cycle takes at most: those that end in moving may leave 255 units of their
--- budgets
-abbrev pub cycle_quanta : Config → ℕ
-cycle_quanta c = moved_quanta_at c c.pages c.defrag_pages
+-- the quanta of its schedule's budget that a cycle takes at most in a heap of a configuration with so many pages, where a
+-- flow is kept
+abbrev pub quanta_on : Config → Flow → ℕ → ℕ
+quanta_on c f pages = flow_quanta f (roots_in c) pages (c.collector_ticks * c.rate)
 
--- So many words for each quantum, and as many for each that a whole cycle takes at most, fit in a configuration, where
--- blocks are made of these classes alone.
-abbrev pub FitsEvenlyFor : (ℕ → Bool) → Config → ℕ → ℕ → Type 0
-FitsEvenlyFor makes c live words =
-    FlowFitsIn c (flow_for makes live (record { quantum_words = words; cycle_words = words * cycle_quanta c }))
+-- A flow fits in a heap of a configuration with so many pages; and a cycle has words for each quantum that it takes at
+-- most, so that they aren't spent before it has ended.
+pub record LastsOn (c : Config) (f : Flow) (pages : ℕ) : Type 0 where
+  pub fits : FlowFitsOn f (roots_in c) pages (c.collector_ticks * c.rate)
+  pub lasts : f.quantum_words * quanta_on c f pages ≤ f.cycle_words
 
--- the plan of the most words for each quantum that fit so, or that no words do
+-- no more words for a cycle fit on so many pages with those that a plan has for each quantum
+abbrev pub IsFullestOn : (ℕ → Bool) → Config → ℕ → ℕ → Plan → Type 0
+IsFullestOn makes c live pages plan = (words : ℕ)
+    → FlowFitsOn (flow_for makes live (record plan { cycle_words = words })) (roots_in c) pages (c.collector_ticks * c.rate)
+    → words ≤ plan.cycle_words
+
+-- the plan of so many words for each quantum with the most for a cycle that fit on so many pages; or that none fit
+abbrev pub FillsPages : (ℕ → Bool) → Config → ℕ → ℕ → ℕ → Option Plan → Type 0
+FillsPages makes c live pages words None = (plan : Plan) → plan.quantum_words ≡ words
+    → FlowFitsOn (flow_for makes live plan) (roots_in c) pages (c.collector_ticks * c.rate) → ⊥
+FillsPages makes c live pages words (Some plan) = (plan.quantum_words ≡ words)
+    × FlowFitsOn (flow_for makes live plan) (roots_in c) pages (c.collector_ticks * c.rate)
+    × IsFullestOn makes c live pages plan
+
+-- there is a plan on this many pages, with some word for each quantum, where blocks are made of these classes alone
+abbrev pub HasPlanOn : (ℕ → Bool) → Config → ℕ → ℕ → Type 0
+HasPlanOn makes c live pages = (plan : Plan) × (1 ≤ plan.quantum_words) × LastsOn c (flow_for makes live plan) pages
+
+-- there is one for a configuration, on its own pages
+abbrev pub HasPlan : (ℕ → Bool) → Config → ℕ → Type 0
+HasPlan makes c live = HasPlanOn makes c live c.pages
+
+-- a plan may be chosen: it has some word for each quantum, it lasts, and has as many words for a cycle as fit
+pub record MayChoose (makes : ℕ → Bool) (c : Config) (live : ℕ) (plan : Plan) : Type 0 where
+  pub some : 1 ≤ plan.quantum_words
+  pub lasts : LastsOn c (flow_for makes live plan) c.pages
+  pub fullest : IsFullestOn makes c live c.pages plan
+
+-- the plan of the most words for each quantum, of those that may be chosen; or there is no plan
 abbrev pub IsFastestFor : (ℕ → Bool) → Config → ℕ → Option Plan → Type 0
-IsFastestFor makes c live None = (words : ℕ) → FitsEvenlyFor makes c live words → words ≡ 0
-IsFastestFor makes c live (Some plan) = (1 ≤ plan.quantum_words)
-    × (plan.cycle_words ≡ plan.quantum_words * cycle_quanta c) × FitsEvenlyFor makes c live plan.quantum_words
-    × ((words : ℕ) → FitsEvenlyFor makes c live words → words ≤ plan.quantum_words)
+IsFastestFor makes c live None = HasPlan makes c live → ⊥
+IsFastestFor makes c live (Some plan) = MayChoose makes c live plan
+    × ((other : Plan) → MayChoose makes c live other → other.quantum_words ≤ plan.quantum_words)
 
 -- that plan, where blocks are made of every class
 abbrev pub IsFastest : Config → ℕ → Option Plan → Type 0
 IsFastest = IsFastestFor (λ class. true)
-
--- There is a plan on this many pages, all of which a cycle may empty, where blocks are made of these classes alone: that
--- with one word for each quantum.
-abbrev pub HasPlanOn : (ℕ → Bool) → Config → ℕ → ℕ → Type 0
-HasPlanOn makes c live pages =
-    flow_pages (flow_for makes live (record { quantum_words = 1; cycle_words = moved_quanta_at c pages pages }))
-    (unmoved_quanta_at c pages)
-    ≤ pages
 
 -- the least number of pages, of those that a heap may have, on which there is such a plan; or there is none on any
 abbrev pub IsLeastPagesFor : (ℕ → Bool) → Config → ℕ → Option ℕ → Type 0
@@ -49,12 +67,7 @@ IsLeastPagesFor makes c live (Some least) = (1 ≤ least) × (least ≤ MOST_HEA
 abbrev pub IsLeastPages : Config → ℕ → Option ℕ → Type 0
 IsLeastPages = IsLeastPagesFor (λ class. true)
 
--- a configuration that has the root cells and the budget of another, and may empty all of its pages, however many
+-- a configuration that has the root cells and the budget of another, however many its pages are
 pub record IsResized (c resized : Config) : Type 0 where
-  pub roots : resized.mutators * resized.slots + resized.statics ≡ c.mutators * c.slots + c.statics
+  pub roots : roots_in resized ≡ roots_in c
   pub budget : resized.collector_ticks * resized.rate ≡ c.collector_ticks * c.rate
-  pub empties_all : resized.defrag_pages ≡ resized.pages
-
--- a plan with some word for each quantum fits in a configuration, where blocks are made of these classes alone
-abbrev pub HasPlan : (ℕ → Bool) → Config → ℕ → Type 0
-HasPlan makes c live = (words : ℕ) × (1 ≤ words) × FitsEvenlyFor makes c live words

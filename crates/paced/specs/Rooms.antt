@@ -4,7 +4,7 @@ use Rattle.std.specs.List.{list_any}
 use Rattle.settings.specs.declared.config.Config.{Config}
 use Rattle.settings.specs.Config.{limits_of}
 use Rattle.heap_model.specs.State.{HeapState}
-use Rattle.heap_model.specs.Event.{Course, Event, Command_done, Runs, HaveBudgets}
+use Rattle.heap_model.specs.Event.{Course, Event, Command_done, Runs}
 use Rattle.heap_model.specs.Opening.{IsOpening}
 use Rattle.heap_model.specs.ReachedFrom.{opened}
 use Rattle.heap_model.specs.Settings.{settings_of, settings_by}
@@ -55,13 +55,13 @@ pub record IsJustPaced (config : Config) (plan : Plan) (v : PacedState) : Type 0
   pub settings : settings_of v.heap ≡ settings_by config
   pub counts : v.counts ≡ first_counts (config.collector_ticks * config.rate) plan
 
--- Events lead from one heap to another with a history, which is empty at first; they keep to the flow, where each quantum
--- among them has the configuration's budget; and whatever budgets the quanta have: if what is live is within the flow
--- wherever one of the events begins a cycle, no reply among them is the refusal for lack of space.
+-- Events lead from one heap to another with a history, which is empty at first; they keep to the flow, where quanta of the
+-- configuration's budget or a greater one count; and if what is live is within the flow wherever one of the events begins a
+-- cycle, no reply among them is the refusal for lack of space.
 pub record FindsRoom (config : Config) (flow : Flow) (first now : HeapState) (es : List Event) : Type 0 where
   pub course : Course
   pub heap : course.heap ≡ now
   pub runs : Runs (opened first) es course
-  pub paces : HaveBudgets (config.collector_ticks * config.rate) es
-      → AllMetered (Paces flow (config.collector_ticks * config.rate)) (opening_meter (limits_of config)) es
-  pub room : AllMetered (LivesIn flow) (opening_meter (limits_of config)) es → AllHaveRoom es
+  pub paces : AllMetered (config.collector_ticks * config.rate) (Paces flow) (opening_meter (limits_of config)) es
+  pub room : AllMetered (config.collector_ticks * config.rate) (LivesIn flow) (opening_meter (limits_of config)) es
+      → AllHaveRoom es

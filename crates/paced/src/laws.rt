@@ -47,8 +47,8 @@ pub fn paced_events_run()
         → Path KeepsPlan old es new → (k : Course) × (k.heap ≡ new.heap) × Runs r es k }
 {}
 
-/// There is a plan on a number of pages exactly where one fits in a configuration that has that many, and may empty
-/// them all, of whichever classes blocks are made.
+/// There is a plan on a number of pages exactly where there is one for a configuration that has that many, of whichever
+/// classes blocks are made.
 pub fn plans_need_pages()
     ensures { (makes : ℕ → Bool) (c resized : Config) (live : ℕ) → IsResized c resized
         → HasPlanOn makes c live resized.pages ↔ HasPlan makes resized live }

@@ -8,6 +8,7 @@ mod laws;
 pub mod paced;
 pub mod pacer;
 pub mod plan;
+mod quanta;
 
 pub use asking::words_of_shape;
 pub use figures::Figures;

@@ -1,16 +1,16 @@
 //! Plans, and whether the flow of one fits in a configuration.
-ghost use Rattle.std.specs.Prelude.{◌≡◌, ℕ, ◌+◌, ◌-◌, ◌*◌, ◌/◌, ◌^◌, ◌<◌, ◌≤◌, ◌↔◌, Bool, IsTrue};
+ghost use Rattle.std.specs.Prelude.{◌≡◌, ℕ, ◌+◌, ◌-◌, ◌*◌, ◌/◌, ◌^◌, ◌<◌, ◌≤◌, ◌↔◌, Bool, IsTrue, IfSome, Option, None};
 ghost use Rattle.settings.specs.declared.config.TheConstants.{MOST_HEAP_PAGES};
-ghost use Rattle.space.specs.declared.pace.TheConstants.{MOST_QUANTA};
-ghost use Rattle.fragmentation.specs.Configured.{MovesAll, FlowFitsIn};
-ghost use Rattle.fragmentation.specs.Flow.{classes_made};
+ghost use Rattle.fragmentation.specs.Configured.{roots_in, MovesAll, FlowFitsIn};
+ghost use Rattle.fragmentation.specs.Flow.{classes_made, FlowFitsOn};
 ghost use Rattle.paced.specs.Rooms.{planned_flow, flow_for, among};
-ghost use Rattle.paced.specs.Planning.{cycle_quanta, IsFastest, IsFastestFor, HasPlanOn, IsLeastPages, IsLeastPagesFor};
+ghost use Rattle.paced.specs.Planning.{quanta_on, LastsOn, IsFullestOn, FillsPages, IsFastest, IsFastestFor, HasPlanOn, IsLeastPages, IsLeastPagesFor};
+ghost use Rattle.paced.specs.declared.plan.Plan.{Plan as PlanView};
 
+use crate::quanta::{quanta_on, sweep_quanta};
 use fragmentation::{LEAST_PAGE_FILL, PARTLY_FILLED_PAGES};
 use settings::{Config, MOST_HEAP_PAGES};
 use size_classes::{CLASSES, Class};
-use space::{moved_quanta, unmoved_quanta};
 
 /// How many words of blocks a heap lets be asked for while its collector works.
 #[derive(Clone, Copy, Debug, PartialEq, Eq)]
@@ -53,16 +53,18 @@ pub fn moves_all(config: &Config) -> bool
     config.pages < config.defrag_below && config.pages <= config.defrag_pages
 }
 
-/// Whether the flow of a plan fits in a configuration, where blocks are made of so many classes.
-fn fits(config: &Config, live_words: u64, plan: &Plan, classes: u64) -> bool
-    requires { classes ≤ CLASSES }
+/// Whether the flow of a plan fits on so many pages, where blocks are made of so many classes.
+fn fits_on(config: &Config, pages: u32, live_words: u64, plan: &Plan, classes: u64) -> bool
+    requires pages { pages ≤ MOST_HEAP_PAGES }
+    requires classes { classes ≤ CLASSES }
     ensures { (makes : ℕ → Bool) → classes_made makes ≡ classes
-        → IsTrue result ↔ FlowFitsIn config.now (flow_for makes live_words plan.now) }
+        → IsTrue result ↔ FlowFitsOn (flow_for makes live_words plan.now) (roots_in config.now) pages
+        (config.now.collector_ticks * config.now.rate) }
 {
-    let traced = u128::from(unmoved_quanta(config, config.pages)) * u128::from(plan.quantum_words);
+    let quanta = sweep_quanta(config, pages, live_words, plan.quantum_words);
+    let traced = u128::from(quanta) * u128::from(plan.quantum_words);
     let words = u128::from(live_words) + (2 * u128::from(plan.cycle_words) + traced);
-    traced <= u128::from(plan.cycle_words)
-        && pages_for_words(words, classes) <= u128::from(config.pages)
+    traced <= u128::from(plan.cycle_words) && pages_for_words(words, classes) <= u128::from(pages)
 }
 
 /// Whether the flow of a plan fits in a configuration, where the blocks of live objects have at most so many words
@@ -70,47 +72,129 @@ fn fits(config: &Config, live_words: u64, plan: &Plan, classes: u64) -> bool
 pub fn flow_fits(config: &Config, live_words: u64, plan: &Plan) -> bool
     ensures { IsTrue result ↔ FlowFitsIn config.now (planned_flow live_words plan.now) }
 {
-    fits(config, live_words, plan, CLASSES as u64)
+    fits_on(config, config.pages, live_words, plan, CLASSES as u64)
 }
 
 /// Whether it fits (`flow_fits`) where blocks are made of these classes alone.
 pub fn flow_fits_for(config: &Config, live_words: u64, plan: &Plan, used: &[Class]) -> bool
     ensures { IsTrue result ↔ FlowFitsIn config.now (flow_for (among used.now) live_words plan.now) }
 {
-    fits(config, live_words, plan, classes_in(used))
+    fits_on(config, config.pages, live_words, plan, classes_in(used))
 }
 
-/// The quanta of the configuration's budget that a whole cycle takes at most.
-pub fn cycle_quanta(config: &Config) -> u64
-    ensures quanta { result ≡ cycle_quanta config.now }
-    ensures within { (1 ≤ result) × (result ≤ MOST_QUANTA) }
+/// The quanta of the configuration's budget that a whole cycle takes at most, where so many words are live when it begins
+/// and a plan is kept.
+pub fn cycle_quanta(config: &Config, live_words: u64, plan: &Plan) -> u64
+    ensures quanta { (makes : ℕ → Bool) → result
+        ≡ quanta_on config.now (flow_for makes live_words plan.now) config.now.pages }
+    ensures within { (2 ≤ result) × (result ≤ 1110000000000) }
 {
-    moved_quanta(config, config.pages, config.defrag_pages)
+    quanta_on(config, config.pages, live_words, plan)
 }
 
-/// The fastest plan whose flow fits in a configuration, where blocks are made of so many classes.
-fn fastest(config: &Config, live_words: u64, classes: u64) -> Option<Plan>
-    requires { classes ≤ CLASSES }
-    ensures { (makes : ℕ → Bool) → classes_made makes ≡ classes → IsFastestFor makes config.now live_words result }
+/// The words of blocks for which so many pages have room besides what is live, where blocks are made of so many classes.
+fn room_for(live_words: u64, pages: u32, classes: u64) -> u64
+    requires pages { pages ≤ MOST_HEAP_PAGES }
+    requires classes { classes ≤ CLASSES }
+    ensures { result ≡ (pages + 1 - PARTLY_FILLED_PAGES * classes) * LEAST_PAGE_FILL - live_words - 1 }
 {
-    let whole = cycle_quanta(config);
-    let pages = u64::from(config.pages) + 1;
-    let room = (pages.saturating_sub(PARTLY_FILLED_PAGES * classes) * LEAST_PAGE_FILL)
+    let some = (u64::from(pages) + 1).saturating_sub(PARTLY_FILLED_PAGES * classes);
+    (some * LEAST_PAGE_FILL)
         .saturating_sub(live_words)
-        .saturating_sub(1);
-    let quantum_words = room / (2 * whole + unmoved_quanta(config, config.pages));
-    if quantum_words == 0 {
+        .saturating_sub(1)
+}
+
+/// The plan of so many words for each quantum with the most words for a cycle that fit on so many pages, where blocks are made
+/// of so many classes; None where none fit.
+fn fullest(
+    config: &Config,
+    pages: u32,
+    live_words: u64,
+    classes: u64,
+    quantum_words: u64,
+) -> Option<Plan>
+    requires pages { pages ≤ MOST_HEAP_PAGES }
+    requires classes { classes ≤ CLASSES }
+    requires words { 1 ≤ quantum_words }
+    ensures { (makes : ℕ → Bool) → classes_made makes ≡ classes
+        → FillsPages makes config.now live_words pages quantum_words result }
+{
+    let room = u128::from(room_for(live_words, pages, classes));
+    let quanta = sweep_quanta(config, pages, live_words, quantum_words);
+    let traced = u128::from(quanta) * u128::from(quantum_words);
+    if room < 3 * traced {
         return None;
     }
     Some(Plan {
         quantum_words,
-        cycle_words: quantum_words * whole,
+        cycle_words: ((room - traced) / 2) as u64,
     })
 }
 
-/// The plan with the most words for each quantum whose flow fits in a configuration, of those which have so many for
-/// each quantum that a whole cycle takes at most: so the words of a cycle aren't spent before it has ended. None where
-/// there is none with a word for each quantum. `live_words` is as of `flow_fits`.
+/// That plan, if its words last: if it has words for each quantum that a cycle takes at most.
+fn lasting(
+    config: &Config,
+    pages: u32,
+    live_words: u64,
+    classes: u64,
+    quantum_words: u64,
+) -> Option<Plan>
+    requires pages { pages ≤ MOST_HEAP_PAGES }
+    requires classes { classes ≤ CLASSES }
+    requires words { 1 ≤ quantum_words }
+    ensures some { (makes : ℕ → Bool) → classes_made makes ≡ classes
+        → IfSome result (λ plan. (plan.quantum_words ≡ quantum_words)
+        × LastsOn config.now (flow_for makes live_words plan) pages
+        × IsFullestOn makes config.now live_words pages plan) }
+    ensures none { (makes : ℕ → Bool) → classes_made makes ≡ classes → result ≡ None → (plan : PlanView)
+        → plan.quantum_words ≡ quantum_words → LastsOn config.now (flow_for makes live_words plan) pages
+        → IsFullestOn makes config.now live_words pages plan → ⊥ }
+{
+    let plan = fullest(config, pages, live_words, classes, quantum_words)?;
+    let quanta = quanta_on(config, pages, live_words, &plan);
+    let words = u128::from(quanta) * u128::from(quantum_words);
+    if words <= u128::from(plan.cycle_words) {
+        Some(plan)
+    } else {
+        None
+    }
+}
+
+/// So many words for each quantum that no plan of a configuration has more, where blocks are made of so many classes.
+fn most_words(config: &Config, live_words: u64, classes: u64) -> u64
+    requires { classes ≤ CLASSES }
+    ensures { (makes : ℕ → Bool) → classes_made makes ≡ classes → (plan : PlanView)
+        → LastsOn config.now (flow_for makes live_words plan) config.now.pages
+        → plan.quantum_words ≤ result }
+{
+    let none = Plan {
+        quantum_words: 0,
+        cycle_words: 0,
+    };
+    let whole = cycle_quanta(config, live_words, &none);
+    let swept = sweep_quanta(config, config.pages, live_words, 0);
+    room_for(live_words, config.pages, classes) / (2 * whole + swept)
+}
+
+/// The fastest plan of a configuration, where blocks are made of so many classes.
+fn fastest(config: &Config, live_words: u64, classes: u64) -> Option<Plan>
+    requires { classes ≤ CLASSES }
+    ensures { (makes : ℕ → Bool) → classes_made makes ≡ classes → IsFastestFor makes config.now live_words result }
+{
+    let mut words = most_words(config, live_words, classes);
+    while words > 0 {
+        let plan = lasting(config, config.pages, live_words, classes, words);
+        if plan.is_some() {
+            return plan;
+        }
+        words -= 1;
+    }
+    None
+}
+
+/// The plan with the most words for each quantum whose flow fits in a configuration, of those that have as many words for a
+/// cycle as fit, and as many for each quantum that a whole cycle takes at most: so the words of a cycle aren't spent before
+/// it has ended. None where there is no plan with a word for each quantum. `live_words` is as of `flow_fits`.
 pub fn planned(config: &Config, live_words: u64) -> Option<Plan>
     ensures { IsFastest config.now live_words result }
 {
@@ -125,16 +209,15 @@ pub fn planned_for(config: &Config, live_words: u64, used: &[Class]) -> Option<P
     fastest(config, live_words, classes_in(used))
 }
 
-/// Whether there is a plan on this many pages, where blocks are made of so many classes.
+/// Whether there is a plan on this many pages, where blocks are made of so many classes: that with one word for each
+/// quantum.
 fn has_plan_on(config: &Config, live_words: u64, pages: u32, classes: u64) -> bool
     requires pages { pages ≤ MOST_HEAP_PAGES }
     requires classes { classes ≤ CLASSES }
     ensures { (makes : ℕ → Bool) → classes_made makes ≡ classes
         → IsTrue result ↔ HasPlanOn makes config.now live_words pages }
 {
-    let quanta = 2 * moved_quanta(config, pages, pages) + unmoved_quanta(config, pages);
-    let words = u128::from(live_words) + u128::from(quanta);
-    pages_for_words(words, classes) <= u128::from(pages)
+    lasting(config, pages, live_words, classes, 1).is_some()
 }
 
 /// The least number of pages on which there is a plan, where blocks are made of so many classes.

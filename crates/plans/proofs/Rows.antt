@@ -72,7 +72,7 @@ module _ (makes : ℕ → Bool) (c : Config) (live : ℕ) (numbers : List ℕ) w
 -- the fastest plan has a word for each quantum
 pub fastest_words : (makes : ℕ → Bool) (c : Config) (live : ℕ) (plan : Option Plan) → IsFastestFor makes c live plan → IfSome plan (λ p. 1 ≤ p.quantum_words)
 fastest_words makes c live None is = tt
-fastest_words makes c live (Some plan) is = is.0
+fastest_words makes c live (Some plan) is = is.0.some
 
 -- the least number of pages is one that a heap may have
 pub least_within : (makes : ℕ → Bool) (c : Config) (live : ℕ) (least : Option ℕ) → IsLeastPagesFor makes c live least → IfSome least (λ pages. pages ≤ MOST_HEAP_PAGES)

@@ -6,8 +6,8 @@ use Rattle.settings.specs.declared.config.Config.{Config}
 use Rattle.settings.specs.declared.config.TheConstants.{MOST_PAGES}
 use Rattle.paced.specs.declared.plan.Plan.{Plan}
 use Rattle.fragmentation.specs.Flow.{classes_made}
-use Rattle.paced.specs.Rooms.{among}
-use Rattle.paced.specs.Planning.{cycle_quanta, IsFastestFor, IsLeastPagesFor}
+use Rattle.paced.specs.Rooms.{among, planned_flow}
+use Rattle.paced.specs.Planning.{quanta_on, IsFastestFor, IsLeastPagesFor}
 use Rattle.plans.specs.OnPages.{IsOnPages}
 use Rattle.plans.specs.Order.{OneForEach}
 
@@ -36,12 +36,12 @@ fewest_line (Some pages) = codes "fewest " ++ (decimal pages ++ (
 abbrev pub tenths_of : ℕ → ℕ → ℕ
 tenths_of units words = div_ceil (10 * units) words
 
--- a plan on a configuration's pages: the quanta that a cycle takes at most, the words that may be asked for at each of
--- them and in a whole cycle, and the tenths of a unit that the collector spends for each word
-abbrev pub plan_line : Config → Option Plan → List ℕ
-plan_line c None = codes "pages " ++ (decimal c.pages ++ codes ": no plan\n")
-plan_line c (Some plan) = codes "pages " ++ (decimal c.pages
-    ++ (codes " quanta " ++ (decimal (cycle_quanta c)
+-- a plan on a configuration's pages, where so many words are live: the quanta that a cycle takes at most, the words that may
+-- be asked for at each of them and in a whole cycle, and the tenths of a unit that the collector spends for each word
+abbrev pub plan_line : Config → ℕ → Option Plan → List ℕ
+plan_line c live None = codes "pages " ++ (decimal c.pages ++ codes ": no plan\n")
+plan_line c live (Some plan) = codes "pages " ++ (decimal c.pages
+    ++ (codes " quanta " ++ (decimal (quanta_on c (planned_flow live plan) c.pages)
     ++ (codes " words " ++ (decimal plan.quantum_words
     ++ (codes " cycle " ++ (decimal plan.cycle_words
     ++ (codes " tenths " ++ (decimal (tenths_of (c.collector_ticks * c.rate) plan.quantum_words)
@@ -57,7 +57,7 @@ pub record FastestOn (makes : ℕ → Bool) (c : Config) (live pages : ℕ) : Ty
 
 -- the line of a number of pages, of the fastest plan on as many
 abbrev pub IsRow : (ℕ → Bool) → Config → ℕ → ℕ → List ℕ → Type 0
-IsRow makes c live pages line = (of : FastestOn makes c live pages) × (line ≡ plan_line of.on of.plan)
+IsRow makes c live pages line = (of : FastestOn makes c live pages) × (line ≡ plan_line of.on live of.plan)
 
 -- a line for each of some numbers of pages that a heap may have, in rising order, each once
 pub record IsTable (makes : ℕ → Bool) (c : Config) (live : ℕ) (numbers text : List ℕ) : Type 0 where

@@ -18,16 +18,21 @@ pub(crate) fn tenths(units: u32, words: u64) -> u64
     (10 * u64::from(units)).div_ceil(words)
 }
 
-/// The line of the plan on a configuration's pages, or of no plan.
-fn plan_line(alloc: Global, config: &Config, plan: Option<Plan>) -> Result<String, AllocError>
+/// The line of the plan on a configuration's pages, where so many words are live, or of no plan.
+fn plan_line(
+    alloc: Global,
+    config: &Config,
+    live_words: u64,
+    plan: Option<Plan>,
+) -> Result<String, AllocError>
     requires { IfSome plan (λ plan. 1 ≤ plan.quantum_words) }
-    ensures { IfOk result (λ line. string_bytes line ≡ plan_line config.now plan) }
+    ensures { IfOk result (λ line. string_bytes line ≡ plan_line config.now live_words plan) }
 {
     let pages = config.pages;
     let Some(plan) = plan else {
         return format!(in alloc; "pages {pages}: no plan\n");
     };
-    let quanta = cycle_quanta(config);
+    let quanta = cycle_quanta(config, live_words, &plan);
     let (words, cycle) = (plan.quantum_words, plan.cycle_words);
     let tenths = tenths(config.budget(), words);
     format!(in alloc; "pages {pages} quanta {quanta} words {words} cycle {cycle} tenths {tenths}\n")
@@ -58,5 +63,5 @@ pub(crate) fn row(
         (string_bytes line)) }
 {
     let on = on_pages(config, pages);
-    plan_line(alloc, &on, fastest(&on, live_words, classes))
+    plan_line(alloc, &on, live_words, fastest(&on, live_words, classes))
 }

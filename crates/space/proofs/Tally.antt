@@ -51,13 +51,14 @@ use Rattle.space.specs.Counts.{is_of, main_blocks, evacuating_pages, IsBounded}
 use Rattle.space.specs.Placement.{MayEvacuate, MaySpare, HasBoundedPages, IsTidy, KeepsOnly, KeepsShapes}
 use Rattle.space.proofs.Counts.{one_if, bounded_room}
 use Rattle.space.proofs.Space.{bounded_pages, bounded_action, bounded_same}
-use Rattle.space.proofs.Placement.Tidying.{shrinks_keeps, tidy_same, tidy_action, only_less, only_action}
+use Rattle.space.proofs.Placement.Tidying.{shrinks_keeps, tidy_same, only_less}
+use Rattle.space.proofs.Placement.Acting.{tidy_action, only_action}
 use Rattle.space.proofs.Placement.Changing.{tidy_change, only_change, bounded_change, shapes_kept, shapes_then}
 use Rattle.space.proofs.Placement.Census.{census}
 use Rattle.space.proofs.Rooms.{IsOther, new_effect, admitted_other, slot_other, fitting_other, next_other}
 
 -- in idle and moving, only what is kept has a main copy
-resting : (h : HeapState) (present snapshot : Graph) (c : Consistent h present snapshot) → awaits_sweep_end h.phase ≡ false → Resting (seen h) (view present) (view snapshot) c.parts.at
+pub resting : (h : HeapState) (present snapshot : Graph) (c : Consistent h present snapshot) → awaits_sweep_end h.phase ≡ false → Resting (seen h) (view present) (view snapshot) c.parts.at
 resting h present snapshot c off = by_phase h.phase refl off
   where
     by_phase : (p : Phase) → h.phase ≡ p → awaits_sweep_end p ≡ false → Resting (seen h) (view present) (view snapshot) c.parts.at
@@ -334,6 +335,7 @@ module _ (h : HeapState) (o : IsOpening h) (some : 0 < length h.store.pages) whe
       given = λ b l. absurd (none_allocated b l);
       shape = λ b l. absurd (none_allocated b l);
       one = λ a b l. absurd (none_allocated a l);
+      one_old = λ a b l. absurd (none_allocated a l);
       old = λ b l. absurd (none_allocated b l);
     };
     bounded = record {

@@ -1,5 +1,5 @@
 -- Where blocks stand, and on how many pages.
-use Rattle.std.specs.Prelude.{◌≡◌, ℕ, ◌+◌, ◌/◌, ◌<◌, ◌≤◌, ◌⊎◌, true, List, Option, Some, None, length}
+use Rattle.std.specs.Prelude.{◌≡◌, ◌≢◌, ℕ, ◌+◌, ◌/◌, ◌<◌, ◌≤◌, ◌⊎◌, true, List, Option, Some, None, length}
 use Rattle.graph_heap.specs.Graph.{Object, object_of}
 use Rattle.size_classes.specs.declared.class.TheConstants.{CLASSES, PAGE_WORDS}
 use Rattle.size_classes.specs.Sizes.{class_for}
@@ -43,7 +43,7 @@ class_in None = None
 class_in (Some p) = Some p.class
 
 -- Each allocated block is one of a part, on a page of the part's class; an old copy is on an evacuating page; and no
--- part has two main copies.
+-- part has two main copies, nor two old ones.
 pub record IsTidy (s : Store) (objects : List Object) : Type 0 where
   pub class : (b : ℕ) → is_allocated s b ≡ true
       → class_for (part_words (cells_of (record_of s b).shape) (record_of s b).part)
@@ -54,6 +54,9 @@ pub record IsTidy (s : Store) (objects : List Object) : Type 0 where
       ≡ (object_of objects (record_of s b).identity).shape
   pub one : (a b : ℕ) → is_allocated s a ≡ true → is_allocated s b ≡ true → (record_of s a).forward ≡ a
       → (record_of s b).forward ≡ b
+      → (record_of s a).identity ≡ (record_of s b).identity → (record_of s a).part ≡ (record_of s b).part → a ≡ b
+  pub one_old : (a b : ℕ) → is_allocated s a ≡ true → is_allocated s b ≡ true → (record_of s a).forward ≢ a
+      → (record_of s b).forward ≢ b
       → (record_of s a).identity ≡ (record_of s b).identity → (record_of s a).part ≡ (record_of s b).part → a ≡ b
   pub old : (b : ℕ) → is_allocated s b ≡ true
       → ((record_of s b).forward ≡ b) ⊎ (is_evacuating (page_at s.pages (b / PAGE_WORDS)) ≡ true)

@@ -38,7 +38,7 @@ fn a_paced_heap_is_made_and_asked(rt: HostRuntime) {
     let Some(plan) = planned(&config, 183200) else {
         panic!(rt; "a flow fits");
     };
-    assert!(rt; plan.quantum_words == 208 && plan.cycle_words == 63440);
+    assert!(rt; plan.quantum_words == 421 && plan.cycle_words == 63062);
     assert!(rt; moves_all(&config));
     // A word for each quantum adds less than a page to the 100 that are live and three of each class.
     assert!(rt; least_pages(&config, 183200) == Some(214));
@@ -67,7 +67,7 @@ fn a_plan_is_made_for_some_classes(rt: HostRuntime) {
     let Some(plan) = planned_for(&config, 183200, &used) else {
         panic!(rt; "a flow fits");
     };
-    assert!(rt; plan.quantum_words == 467 && plan.cycle_words == 142435);
+    assert!(rt; plan.quantum_words == 828 && plan.cycle_words == 142601);
     assert!(rt; flow_fits_for(&config, 183200, &plan, &used));
     assert!(rt; !flow_fits(&config, 183200, &plan));
     assert!(rt; !flow_fits_for(&config, 183200, &plan, &[Class::new(9), used[0], used[1]]));

@@ -1,41 +1,22 @@
 -- A run that keeps to a flow keeps within its pages.
-use Rattle.std.proofs.Common.{◌≡◌, ℕ, ◌+◌, ◌*◌, ◌<◌, ◌≤◌, Bool, true, false, ◌==◌, if◌then◌else◌, List, [], ◌∷◌, length, drop, ap, ◌∙◌, sym, subst, arith, refl}
-use Rattle.std.proofs.lemmas.List.{drop_all}
-use Rattle.std.proofs.Math.Nat.{mul-le-mul_right}
-use Rattle.graph_heap.specs.declared.command.Command.{Command}
-use Rattle.graph_heap.specs.declared.command.Reply.{Reply}
-use Rattle.graph_heap.specs.declared.command.Change.{Change}
-use Rattle.graph_heap.specs.Graph.{Graph, changed}
-use Rattle.size_classes.specs.declared.class.TheConstants.{CLASSES}
-use Rattle.heap_model.specs.declared.phase.Phase.{Phase}
+use Rattle.std.proofs.Common.{◌≡◌, ℕ, ◌+◌, ◌<◌, ◌≤◌, Bool, true, false, ◌==◌, if◌then◌else◌, List, [], ◌∷◌, length, ap, ◌∙◌, sym, subst, arith, refl}
+use Rattle.graph_heap.specs.History.{after_entry}
 use Rattle.heap_model.specs.State.{HeapState}
 use Rattle.heap_model.specs.Opening.{IsOpening}
-use Rattle.heap_model.specs.Settings.{settings_of}
-use Rattle.heap_model.specs.Spent.{cycle_limit, swept_units}
 use Rattle.heap_model.specs.ReachedFrom.{opened}
-use Rattle.heap_model.specs.Left.{LeavesCycle}
-use Rattle.heap_model.specs.Event.{Course, Event, Command_done, Cycle_begun, Begin_refused, Quantum_done, Quantum_refused, Enters, Begins, Collects, Runs, IsCourse, present_of, snapshot_of, room_for, change_by}
-use Rattle.heap_model.proofs.Event.Freed.{objects_stay}
-use Rattle.heap_model.proofs.QuantumSpending.Quanta.{chain_units}
-use Rattle.heap_model.proofs.Settings.{does_settings}
-use Rattle.heap_model.proofs.Event.Kept.{enters_graph, enters_present, begins_present, collects_present, does_course, opening_course}
-use Rattle.space.specs.Demand.{LiveWithin, blocks_of, asked_for}
+use Rattle.heap_model.specs.Event.{Course, Event, Command_done, Cycle_begun, Begin_refused, Quantum_done, Quantum_refused, Runs}
 use Rattle.heap_model.specs.Phases.{awaits_sweep_end}
+use Rattle.heap_model.proofs.Event.Kept.{opening_course}
+use Rattle.space.specs.Demand.{LiveWithin}
 use Rattle.space.specs.Tally.{EveryNewFindsRoom}
-use Rattle.space.specs.Pace.{unmoved_quanta}
-use Rattle.space.proofs.Paces.Pacing.{more_since, command_less, command_left}
-use Rattle.space.proofs.Paces.Spending.{limit_stays, same_swept, swept_kept, all_spent, few_quanta}
-use Rattle.space.proofs.Paces.Moved.{chain_tracing}
-use Rattle.fragmentation.specs.Season.{Season, Lives, opening_season, made_since, season_swept, season_after, AllKeep}
+use Rattle.fragmentation.specs.Season.{Season, Lives, opening_season, season_swept, season_after, Keeps, AllKeep}
 use Rattle.fragmentation.specs.Suffice.{WithinPages, GathersAll}
-use Rattle.fragmentation.specs.Flow.{words_of, Flow, FlowMeter, opening_meter, next_meter, allowed_words, OnlyMade, Paces, KeepsFlow, AllMetered, traced_words, flow_pages, FlowFits}
-use Rattle.fragmentation.proofs.Suffice.PageDemands.{drop_less}
+use Rattle.fragmentation.specs.Flow.{Flow, FlowMeter, opening_meter, next_meter, Paces, KeepsFlow, AllMetered, traced_words, flow_pages, sweep_quanta, FlowFits}
+use Rattle.fragmentation.proofs.Season.{BeginsWithin, opening_counted}
 use Rattle.fragmentation.proofs.Suffice.Moving.{moving_suffices}
-use Rattle.fragmentation.proofs.Flows.Kept.{lives_of, FitsFlow, lives_few, words_since, IsFlowing, opening_flowing}
-use Rattle.fragmentation.proofs.Flows.Words.{words_fit, words_more, words_both, words_none}
-
-times_next : (n b : ℕ) → (n + 1) * b ≡ n * b + b
-times_next n b = grind arith
+use Rattle.fragmentation.proofs.Flows.Kept.{lives_of, FitsFlow, lives_few, opening_flowing}
+use Rattle.fragmentation.proofs.Flows.Quanta.{Flows}
+use Rattle.fragmentation.proofs.Flows.Flowing.{flow_within, flows_next}
 
 same_number : (n : ℕ) → (n == n) ≡ true
 same_number n = grind arith
@@ -43,246 +24,12 @@ same_number n = grind arith
 other_number : (j n : ℕ) → n < j → (j == n) ≡ false
 other_number j n l = grind arith
 
-not_true : (b : Bool) → b ≡ true → b ≡ false → ⊥
-not_true b p q = cc
+-- each of the events keeps to the flow's pace, and where it begins a cycle, what is live needs no more than was said
+abbrev pub AllFlow : Flow → ℕ → Lives → Season → FlowMeter → List Event → Type 0
+AllFlow f k live s t [] = Unit {0}
+AllFlow f k live s t (e ∷ es) = Paces f t e × BeginsWithin live s e × AllFlow f k live (season_after live s e) (next_meter k t e) es
 
-module _ (h : HeapState) (f : Flow) (k : ℕ) (great : 0 < k) (live : Lives) (lives : (n : ℕ) → FitsFlow f (live n)) (traced : traced_words f (unmoved_quanta h k) ≤ f.cycle_words) where
-  abbrev most : ℕ
-  most = unmoved_quanta h k
-
-  -- no more than `most` quanta are done before a sweep ends
-  few : (r : Course) (s : Season) (t : FlowMeter) → IsCourse r → IsFlowing h f k live r s t → t.awaiting_sweep_end ≡ true → (t.quanta + 1) * f.quantum_words + f.burst ≤ traced_words f most
-  few r s t w i on =
-      let at : awaits_sweep_end r.heap.phase ≡ true = sym i.awaiting_sweep_end ∙ on in
-      let l = swept_kept r.heap (present_of r) (snapshot_of r) w.represents at in
-      let same = same_swept h r.heap i.limit i.settings in
-      let q = few_quanta k (swept_units h) t.quanta r.heap.units great (i.spent at) (omega (arith, l, same)) in
-      let m = mul-le-mul_right f.quantum_words q in
-      omega (arith, m)
-
-  -- what is asked for leaves the words that were made within a cycle's
-  asked_few : (r : Course) (s : Season) (t : FlowMeter) → IsCourse r → IsFlowing h f k live r s t → (asked : ℕ) → t.words + asked ≤ allowed_words f t → t.words + asked ≤ (if t.awaiting_sweep_end then traced_words f most else f.cycle_words)
-  asked_few r s t w i asked keeps = by_tracing t.awaiting_sweep_end refl keeps
-    where
-      by_tracing : (b : Bool) → t.awaiting_sweep_end ≡ b → t.words + asked ≤ (if b then (t.quanta + 1) * f.quantum_words + f.burst else f.cycle_words) → t.words + asked ≤ (if b then traced_words f most else f.cycle_words)
-      by_tracing true e l = let x = few r s t w i e in omega (arith, x, l)
-      by_tracing false e l = l
-
-  -- of other classes there are none since later either
-  none_since : (s : Season) (count : ℕ) → OnlyMade f (made_since 0 s) → OnlyMade f (made_since count s)
-  none_since s count none class l e = let d = drop_less 0 count s.graph.objects class (omega arith) in let z = none class l e in omega (arith, d, z)
-
-  -- a command that keeps to the flow keeps within its pages
-  flow_within : (r : Course) (s : Season) (t : FlowMeter) (m : ℕ) (c : Command) (reply : Reply) → IsCourse r → IsFlowing h f k live r s t → Paces f k t (Command_done m c reply) → WithinPages (flow_pages f most) s (asked_for s.graph m c)
-  flow_within r s t m c reply w i keeps =
-      let a : words_of (asked_for t.graph m c) ≡ words_of (asked_for s.graph m c) = ap (λ z. words_of (asked_for z m c)) (i.same ∙ sym i.graph) in
-      let b = words_both (made_since s.swept s) (asked_for s.graph m c) in
-      let z = by_tracing t.awaiting_sweep_end refl i.total (asked_few r s t w i (words_of (asked_for t.graph m c)) keeps.0) in
-      words_fit s.before (live i.earlier.number) i.earlier.made (λ class. made_since s.swept s class + asked_for s.graph m c class) f.makes f.live_words (2 * f.cycle_words + traced_words f most) i.earlier.few none (lives i.earlier.number).few (omega (arith, b, z, a))
-    where
-      none : (class : ℕ) → class < CLASSES → f.makes class ≡ false → (s.before class ≡ 0) × (made_since s.swept s class + asked_for s.graph m c class ≡ 0)
-      none class l e =
-          let n = i.earlier.few class l in
-          let x = (lives i.earlier.number).only class l e in
-          let y = i.earlier.only class l e in
-          let v = none_since s s.swept i.only class l e in
-          let u = keeps.1 class l e in
-          let q : asked_for t.graph m c class ≡ asked_for s.graph m c class = ap (λ z. asked_for z m c class) (i.same ∙ sym i.graph) in
-          (omega (arith, n, x, y), omega (arith, v, u, q))
-
-      by_tracing : (o : Bool) → t.awaiting_sweep_end ≡ o → words_of i.earlier.made + words_since s.swept s ≤ (if o then 2 * f.cycle_words + t.words else f.cycle_words + t.words)
-          → t.words + words_of (asked_for t.graph m c) ≤ (if o then traced_words f most else f.cycle_words)
-          → words_of i.earlier.made + words_since s.swept s + words_of (asked_for t.graph m c) ≤ 2 * f.cycle_words + traced_words f most
-      by_tracing true e l n = omega (arith, l, n)
-      by_tracing false e l n = omega (arith, l, n)
-
-  flow_command : (r new : Course) (s : Season) (t : FlowMeter) (m : ℕ) (c : Command) (reply : Reply) → IsCourse r → IsFlowing h f k live r s t → Paces f k t (Command_done m c reply) → Enters r m c reply new
-      → IsFlowing h f k live new (season_after live s (Command_done m c reply)) (next_meter t (Command_done m c reply))
-  flow_command r new s t m c reply w i keeps e = record {
-    graph = enters_graph r new m c reply w e s.graph i.graph;
-    same = enters_graph r new m c reply w e t.graph i.same;
-    awaiting_sweep_end = i.awaiting_sweep_end ∙ ap awaits_sweep_end (sym left.phase);
-    alike = i.alike ∙ ap awaits_sweep_end (sym left.phase);
-    limit = limit_stays r (Command_done m c reply) new e ∙ i.limit;
-    settings = does_settings r (Command_done m c reply) new e ∙ i.settings;
-    spent = λ on. (let x = i.spent (sym (ap awaits_sweep_end left.phase) ∙ on) in let u = left.units in omega (arith, x, u));
-    last = (let l = i.last in let q = longer in omega (arith, l, q));
-    base = (let l = i.base in let q = longer in omega (arith, l, q));
-    swept = (let l = i.swept in let q = longer in omega (arith, l, q));
-    words = within t.awaiting_sweep_end (asked_few r s t w i asked keeps.0);
-    since_last = (let l = i.since_last in let q = more s.last i.last in omega (arith, l, q));
-    since_base = (let q = more s.base i.base in with_more t.awaiting_sweep_end f.cycle_words 0 i.since_base q);
-    earlier = i.earlier;
-    only = λ class l u. (let x = each 0 (omega arith) class in let y = i.only class l u in let z = keeps.1 class l u in omega (arith, x, y, z));
-    total = (let q = more s.swept i.swept in with_all t.awaiting_sweep_end i.total q);
-  }
-    where
-      g : Graph
-      g = present_of r
-
-      change : Change
-      change = change_by (room_for r.heap c) g m c
-
-      left : LeavesCycle r.heap new.heap
-      left = command_left r new m c reply e
-
-      asked : ℕ
-      asked = words_of (asked_for t.graph m c)
-
-      next : Season
-      next = season_after live s (Command_done m c reply)
-
-      is : next.graph ≡ changed g change
-      is = enters_graph r new m c reply w e s.graph i.graph ∙ enters_present r new m c reply w e
-
-      within : (b : Bool) → t.words + asked ≤ (if b then traced_words f most else f.cycle_words) → t.words + asked ≤ f.cycle_words
-      within true l = omega (arith, l, traced)
-      within false l = l
-
-      count : length s.graph.objects ≡ length g.objects
-      count = ap (λ (z : Graph). length z.objects) i.graph
-
-      longer : length s.graph.objects ≤ length next.graph.objects
-      longer = let o = objects_stay g change in let x : length next.graph.objects ≡ length (changed g change).objects = ap (λ (z : Graph). length z.objects) is in omega (arith, o, x, count)
-
-      each : (start : ℕ) → start ≤ length s.graph.objects → (class : ℕ) → made_since start next class ≤ made_since start s class + asked_for t.graph m c class
-      each start low class =
-          let a = more_since g change start class (omega (arith, low, count)) in
-          let d = command_less r.heap g m c class in
-          let x : made_since start next class ≡ blocks_of (drop start (changed g change).objects) class = ap (λ (z : Graph). blocks_of (drop start z.objects) class) is in
-          let v : made_since start s class ≡ blocks_of (drop start g.objects) class = ap (λ (z : Graph). blocks_of (drop start z.objects) class) i.graph in
-          let u : asked_for t.graph m c class ≡ asked_for g m c class = ap (λ z. asked_for z m c class) i.same in
-          omega (arith, a, d, x, v, u)
-
-      more : (start : ℕ) → start ≤ length s.graph.objects → words_since start next ≤ words_since start s + asked
-      more start low =
-          let l = words_more (made_since start next) (λ class. made_since start s class + asked_for t.graph m c class) (λ class small. each start low class) in
-          let b = words_both (made_since start s) (asked_for t.graph m c) in
-          omega (arith, l, b)
-
-      with_more : (b : Bool) (x y : ℕ) → words_since s.base s ≤ (if b then x + t.words else t.words) → words_since s.base next ≤ words_since s.base s + asked → words_since s.base next ≤ (if b then x + (t.words + asked) else t.words + asked)
-      with_more true x y l q = omega (arith, l, q)
-      with_more false x y l q = omega (arith, l, q)
-
-      with_all : (b : Bool) → words_of i.earlier.made + words_since s.swept s ≤ (if b then 2 * f.cycle_words + t.words else f.cycle_words + t.words) → words_since s.swept next ≤ words_since s.swept s + asked
-          → words_of i.earlier.made + words_since s.swept next ≤ (if b then 2 * f.cycle_words + (t.words + asked) else f.cycle_words + (t.words + asked))
-      with_all true l q = omega (arith, l, q)
-      with_all false l q = omega (arith, l, q)
-
-  none_made : (s : Season) → words_since (length s.graph.objects) s ≡ 0
-  none_made s = words_none _ (λ class l. ap (λ z. blocks_of z class) (drop_all (length s.graph.objects) s.graph.objects (omega arith)))
-
-  flow_begins : (r new : Course) (s : Season) (t : FlowMeter) → IsFlowing h f k live r s t → Begins r new → IsFlowing h f k live new (season_after live s Cycle_begun) (next_meter t Cycle_begun)
-  flow_begins r new s t i e = record {
-    graph = i.graph ∙ sym (begins_present r new e);
-    same = i.same ∙ sym (begins_present r new e);
-    awaiting_sweep_end = ap (λ (z : HeapState). awaits_sweep_end z.phase) (sym e.heap);
-    alike = ap (λ (z : HeapState). awaits_sweep_end z.phase) (sym e.heap);
-    limit = limit_stays r Cycle_begun new e ∙ i.limit;
-    settings = does_settings r Cycle_begun new e ∙ i.settings;
-    spent = λ on. omega arith;
-    last = omega arith;
-    base = i.base;
-    swept = i.swept;
-    words = omega arith;
-    since_last = (let z = none_made s in omega (arith, z));
-    since_base = by_base t.awaiting_sweep_end off i.since_base;
-    earlier = i.earlier;
-    only = i.only;
-    total = by_total t.awaiting_sweep_end off i.total;
-  }
-    where
-      off : t.awaiting_sweep_end ≡ false
-      off = i.awaiting_sweep_end ∙ ap awaits_sweep_end e.idle
-
-      by_base : (b : Bool) → b ≡ false → words_since s.base s ≤ (if b then f.cycle_words + t.words else t.words) → words_since s.base s ≤ f.cycle_words + 0
-      by_base true z l = absurd (cc)
-      by_base false z l = let x = i.words in omega (arith, l, x)
-
-      by_total : (b : Bool) → b ≡ false → words_of i.earlier.made + words_since s.swept s ≤ (if b then 2 * f.cycle_words + t.words else f.cycle_words + t.words) → words_of i.earlier.made + words_since s.swept s ≤ 2 * f.cycle_words + 0
-      by_total true z l = absurd (cc)
-      by_total false z l = let x = i.words in omega (arith, l, x)
-
-  flow_quantum : (r new : Course) (budget units : ℕ) (phase : Phase) (s : Season) (t : FlowMeter) → IsCourse r → IsFlowing h f k live r s t → k ≤ budget → Collects r budget units phase new
-      → IsFlowing h f k live new (season_after live s (Quantum_done budget units phase)) (next_meter t (Quantum_done budget units phase))
-  flow_quantum r new budget units phase s t w i enough q = by_phase (awaits_sweep_end phase) refl
-    where
-      present : present_of new ≡ present_of r
-      present = collects_present r new budget units phase w q
-
-      out_phase : awaits_sweep_end new.heap.phase ≡ awaits_sweep_end phase
-      out_phase = ap awaits_sweep_end q.ends
-
-      limit : cycle_limit new.heap ≡ cycle_limit h
-      limit = limit_stays r (Quantum_done budget units phase) new q ∙ i.limit
-
-      settings : settings_of new.heap ≡ settings_of h
-      settings = does_settings r (Quantum_done budget units phase) new q ∙ i.settings
-
-      -- a sweep that hasn't ended hadn't before
-      was : awaits_sweep_end new.heap.phase ≡ true → awaits_sweep_end r.heap.phase ≡ true
-      was now = chain_tracing r.heap new.heap units q.turn.chain now
-
-      -- up to the sweep's end each quantum spends its units
-      spends : (b : Bool) → awaits_sweep_end phase ≡ b → awaits_sweep_end new.heap.phase ≡ true → (t.quanta + 1) * k ≤ new.heap.units
-      spends false e now = absurd (not_true _ now (out_phase ∙ e))
-      spends true e now =
-          let x = i.spent (was now) in
-          let u = chain_units r.heap new.heap units q.turn.chain in
-          let l = all_spent r.heap new.heap budget units q.turn (λ m y. not_true _ now (ap awaits_sweep_end y)) (λ y. not_true _ now (ap awaits_sweep_end y)) in
-          let z = times_next t.quanta k in
-          omega (arith, x, u, l, z, enough)
-
-      -- where no sweep ends
-      stays : (b : Bool) → t.awaiting_sweep_end ≡ b → awaits_sweep_end phase ≡ b → IsFlowing h f k live new s (record t { awaiting_sweep_end = b; quanta = t.quanta + 1 })
-      stays b at e = record {
-        graph = i.graph ∙ sym present;
-        same = i.same ∙ sym present;
-        awaiting_sweep_end = sym (out_phase ∙ e);
-        alike = i.alike ∙ sym i.awaiting_sweep_end ∙ at ∙ sym (out_phase ∙ e);
-        limit = limit;
-        settings = settings;
-        spent = spends b e;
-        last = i.last;
-        base = i.base;
-        swept = i.swept;
-        words = i.words;
-        since_last = i.since_last;
-        since_base = subst (λ b. words_since s.base s ≤ (if b then f.cycle_words + t.words else t.words)) at i.since_base;
-        earlier = i.earlier;
-        only = i.only;
-        total = subst (λ b. words_of i.earlier.made + words_since s.swept s ≤ (if b then 2 * f.cycle_words + t.words else f.cycle_words + t.words)) at i.total;
-      }
-
-      -- at the sweep's end
-      ends : t.awaiting_sweep_end ≡ true → awaits_sweep_end phase ≡ false → IsFlowing h f k live new (season_swept live s) (record t { awaiting_sweep_end = false; quanta = t.quanta + 1 })
-      ends at e = record {
-        graph = i.graph ∙ sym present;
-        same = i.same ∙ sym present;
-        awaiting_sweep_end = sym (out_phase ∙ e);
-        alike = sym (out_phase ∙ e);
-        limit = limit;
-        settings = settings;
-        spent = λ o. absurd (not_true _ o (out_phase ∙ e));
-        last = i.last;
-        base = i.last;
-        swept = omega arith;
-        words = i.words;
-        since_last = i.since_last;
-        since_base = i.since_last;
-        earlier = record { made = made_since s.base s; number = s.number; few = λ class l. omega arith; only = none_since s s.base i.only };
-        only = i.only;
-        total = (let z = none_made s in let b = subst (λ b. words_since s.base s ≤ (if b then f.cycle_words + t.words else t.words)) at i.since_base in omega (arith, z, b));
-      }
-
-      by_tracing : (b : Bool) → s.awaiting_sweep_end ≡ b → awaits_sweep_end phase ≡ false → IsFlowing h f k live new (if b then season_swept live s else s) (record t { awaiting_sweep_end = false; quanta = t.quanta + 1 })
-      by_tracing true y e = ends (i.awaiting_sweep_end ∙ sym i.alike ∙ y) e
-      by_tracing false y e = stays false (i.awaiting_sweep_end ∙ sym i.alike ∙ y) e
-
-      by_phase : (b : Bool) → awaits_sweep_end phase ≡ b → IsFlowing h f k live new (if b then s else (if s.awaiting_sweep_end then season_swept live s else s)) (record t { awaiting_sweep_end = b; quanta = t.quanta + 1 })
-      by_phase true e = stays true (i.awaiting_sweep_end ∙ was (out_phase ∙ e)) e
-      by_phase false e = by_tracing s.awaiting_sweep_end refl e
-
+module _ (f : Flow) (k : ℕ) (live : Lives) where
   -- of the events from here on, what live objects need is what was said
   abbrev Agrees : Season → Lives → Type 0
   Agrees s rest = (j : ℕ) → s.cycles < j → live j ≡ rest j
@@ -292,54 +39,86 @@ module _ (h : HeapState) (f : Flow) (k : ℕ) (great : 0 < k) (live : Lives) (li
   cycles_stay s false true = refl
   cycles_stay s false false = refl
 
-  flows_keep : (es : List Event) (r new : Course) (s : Season) (t : FlowMeter) → IsCourse r → IsFlowing h f k live r s t → Runs r es new → (keeps : AllMetered (KeepsFlow f k) t es) → Agrees s (lives_of f k s.cycles es t keeps) → AllKeep (WithinPages (flow_pages f most)) live s es
-  flows_keep [] r new s t w i runs keeps agrees = tt
-  flows_keep (Command_done m c reply ∷ es) r new s t w i runs keeps agrees = (
-    flow_within r s t m c reply w i keeps.0.0,
-    flows_keep es runs.0 new _ _ (does_course r (Command_done m c reply) runs.0 w runs.1) (flow_command r runs.0 s t m c reply w i keeps.0.0 runs.1) runs.2 keeps.1 agrees,
-  )
-  flows_keep (Cycle_begun ∷ es) r new s t w i runs keeps agrees = (
-    subst (LiveWithin s.graph) (sym first) (subst (λ z. LiveWithin z keeps.0.1.blocks) (i.same ∙ sym i.graph) keeps.0.1.within),
-    flows_keep es runs.0 new _ _ (does_course r Cycle_begun runs.0 w runs.1) (flow_begins r runs.0 s t i runs.1) runs.2 keeps.1 (λ j l. later j l),
+  graph_stays : (s : Season) (a b : Bool) → (if a then s else (if b then season_swept live s else s)).graph ≡ s.graph
+  graph_stays s true b = refl
+  graph_stays s false true = refl
+  graph_stays s false false = refl
+
+  pub all_flow : (es : List Event) (s : Season) (t : FlowMeter) → t.graph ≡ s.graph → (keeps : AllMetered k (KeepsFlow f) t es) → Agrees s (lives_of f k s.cycles es t keeps) → AllFlow f k live s t es
+  all_flow [] s t same keeps agrees = tt
+  all_flow (Command_done m c reply ∷ es) s t same keeps agrees = (keeps.0.0, tt, all_flow es _ _ (ap (λ g. after_entry g (record { mutator = m; command = c; reply = reply })) same) keeps.1 agrees)
+  all_flow (Cycle_begun ∷ es) s t same keeps agrees = (
+    tt,
+    subst (LiveWithin s.graph) (sym first) (subst (λ z. LiveWithin z keeps.0.1.blocks) same keeps.0.1.within),
+    all_flow es _ _ same keeps.1 (λ j l. later j l),
   )
     where
       rest : Lives
-      rest = lives_of f k (s.cycles + 1) es (next_meter t Cycle_begun) keeps.1
+      rest = lives_of f k (s.cycles + 1) es (next_meter k t Cycle_begun) keeps.1
 
       first : live (s.cycles + 1) ≡ keeps.0.1.blocks
       first = agrees (s.cycles + 1) (omega arith) ∙ ap (λ b. if b then keeps.0.1.blocks else rest (s.cycles + 1)) (same_number (s.cycles + 1))
 
       later : (j : ℕ) → s.cycles + 1 < j → live j ≡ rest j
       later j l = agrees j (omega (arith, l)) ∙ ap (λ b. if b then keeps.0.1.blocks else rest j) (other_number j (s.cycles + 1) l)
-  flows_keep (Begin_refused ∷ es) r new s t w i runs keeps agrees = (
+  all_flow (Begin_refused ∷ es) s t same keeps agrees = (tt, tt, all_flow es s t same keeps.1 agrees)
+  all_flow (Quantum_done budget units phase ∷ es) s t same keeps agrees = (
     tt,
-    flows_keep es runs.0 new s t (does_course r Begin_refused runs.0 w runs.1) (subst (λ z. IsFlowing h f k live z s t) (sym runs.1.1) i) runs.2 keeps.1 agrees,
-  )
-  flows_keep (Quantum_done budget units phase ∷ es) r new s t w i runs keeps agrees = (
     tt,
-    flows_keep es runs.0 new _ _ (does_course r (Quantum_done budget units phase) runs.0 w runs.1) (flow_quantum r runs.0 budget units phase s t w i keeps.0.0 runs.1) runs.2 keeps.1 (λ j l. agrees j (subst (λ z. z < j) same_cycles l) ∙ ap (λ z. lives_of f k z es (next_meter t (Quantum_done budget units phase)) keeps.1 j) (sym same_cycles)),
+    all_flow es _ _ (same ∙ sym (graph_stays s (awaits_sweep_end phase) s.awaiting_sweep_end)) keeps.1
+        (λ j l. agrees j (subst (λ z. z < j) same_cycles l) ∙ ap (λ z. lives_of f k z es (next_meter k t (Quantum_done budget units phase)) keeps.1 j) (sym same_cycles)),
   )
     where
       same_cycles : (season_after live s (Quantum_done budget units phase)).cycles ≡ s.cycles
       same_cycles = cycles_stay s (awaits_sweep_end phase) s.awaiting_sweep_end
-  flows_keep (Quantum_refused budget ∷ es) r new s t w i runs keeps agrees = (
-    tt,
-    flows_keep es runs.0 new s t (does_course r (Quantum_refused budget) runs.0 w runs.1) (subst (λ z. IsFlowing h f k live z s t) (sym runs.1.1) i) runs.2 keeps.1 agrees,
+  all_flow (Quantum_refused budget ∷ es) s t same keeps agrees = (tt, tt, all_flow es s t same keeps.1 agrees)
+
+module _ (h : HeapState) (f : Flow) (k : ℕ) (great : 0 < k) (live : Lives) (lives : (n : ℕ) → FitsFlow f (live n)) (traced : traced_words f (sweep_quanta f (length h.roots) (length h.store.pages) k) ≤ f.cycle_words) where
+  abbrev most : ℕ
+  most = flow_pages f (sweep_quanta f (length h.roots) (length h.store.pages) k)
+
+  within : (r : Course) (s : Season) (t : FlowMeter) (e : Event) → Flows h f k great live lives traced r s t → Paces f t e → BeginsWithin live s e → Keeps (WithinPages most) live s e
+  within r s t (Command_done m c reply) w paces lives1 = flow_within h f k great live lives traced r s t m c reply w paces
+  within r s t Cycle_begun w paces lives1 = lives1
+  within r s t Begin_refused w paces lives1 = tt
+  within r s t (Quantum_done budget units phase) w paces lives1 = tt
+  within r s t (Quantum_refused budget) w paces lives1 = tt
+
+  pub flows_keep : (es : List Event) (r new : Course) (s : Season) (t : FlowMeter) → Flows h f k great live lives traced r s t → Runs r es new → AllFlow f k live s t es → AllKeep (WithinPages most) live s es
+  flows_keep [] r new s t w runs all = tt
+  flows_keep (e ∷ es) r new s t w runs all = (
+    within r s t e w all.0 all.1,
+    flows_keep es runs.0 new _ _ (flows_next h f k great live lives traced r runs.0 e s t w all.0 all.1 runs.1) runs.2 all.2,
   )
 
-pub flow_suffices : (h : HeapState) (es : List Event) (new : Course) (f : Flow) (k : ℕ) → 0 < k → IsOpening h → 0 < length h.store.pages → GathersAll h → Runs (opened h) es new → AllMetered (KeepsFlow f k) (opening_meter h.limits) es
+-- from an opening heap
+module _ (h : HeapState) (es : List Event) (f : Flow) (k : ℕ) (great : 0 < k) (o : IsOpening h) (some : 0 < length h.store.pages) (keeps : AllMetered k (KeepsFlow f) (opening_meter h.limits) es) (traced : traced_words f (sweep_quanta f (length h.roots) (length h.store.pages) k) ≤ f.cycle_words) where
+  abbrev pub live : Lives
+  live = lives_of f k 0 es (opening_meter h.limits) keeps
+
+  pub lives : (n : ℕ) → FitsFlow f (live n)
+  lives = lives_few f k 0 es (opening_meter h.limits) keeps
+
+  pub opening_flows : Flows h f k great live lives traced (opened h) (opening_season h.limits) (opening_meter h.limits)
+  opening_flows = record { course = opening_course h o some; counted = opening_counted h o some live; flowing = opening_flowing h f k live o }
+
+  pub flow_all : AllFlow f k live (opening_season h.limits) (opening_meter h.limits) es
+  flow_all = all_flow f k live es (opening_season h.limits) (opening_meter h.limits) refl keeps (λ j l. refl)
+
+wider : (live : Lives) (a b : ℕ) (es : List Event) (s : Season) → a ≤ b → AllKeep (WithinPages a) live s es → AllKeep (WithinPages b) live s es
+wider live a b [] s l keeps = tt
+wider live a b (Command_done m c reply ∷ es) s l keeps = ((let n = keeps.0 in omega (arith, l, n)), wider live a b es _ l keeps.1)
+wider live a b (Cycle_begun ∷ es) s l keeps = (keeps.0, wider live a b es _ l keeps.1)
+wider live a b (Begin_refused ∷ es) s l keeps = (keeps.0, wider live a b es _ l keeps.1)
+wider live a b (Quantum_done budget units phase ∷ es) s l keeps = (keeps.0, wider live a b es _ l keeps.1)
+wider live a b (Quantum_refused budget ∷ es) s l keeps = (keeps.0, wider live a b es _ l keeps.1)
+
+pub flow_suffices : (h : HeapState) (es : List Event) (new : Course) (f : Flow) (k : ℕ) → 0 < k → IsOpening h → 0 < length h.store.pages → GathersAll h → Runs (opened h) es new → AllMetered k (KeepsFlow f) (opening_meter h.limits) es
     → FlowFits f k h → EveryNewFindsRoom es
 flow_suffices h es new f k great o some all runs keeps fits =
-    moving_suffices h es new live o some all runs
-    (wider es (opening_season h.limits) (flows_keep h f k great live (lives_few f k 0 es (opening_meter h.limits) keeps) fits.traced es (opened h) new (opening_season h.limits) (opening_meter h.limits) (opening_course h o some) (opening_flowing h f k live o) runs keeps (λ j l. refl)))
+    moving_suffices h es new lived o some all runs
+    (wider lived (flow_pages f (sweep_quanta f (length h.roots) (length h.store.pages) k)) (length h.store.pages) es (opening_season h.limits) fits.enough
+    (flows_keep h f k great lived (lives h es f k great o some keeps fits.traced) fits.traced es (opened h) new (opening_season h.limits) (opening_meter h.limits) (opening_flows h es f k great o some keeps fits.traced) runs (flow_all h es f k great o some keeps fits.traced)))
   where
-    live : Lives
-    live = lives_of f k 0 es (opening_meter h.limits) keeps
-
-    wider : (es : List Event) (s : Season) → AllKeep (WithinPages (flow_pages f (unmoved_quanta h k))) live s es → AllKeep (WithinPages (length h.store.pages)) live s es
-    wider [] s keeps = tt
-    wider (Command_done m c reply ∷ es) s keeps = ((let l = keeps.0 in let p = fits.enough in omega (arith, l, p)), wider es _ keeps.1)
-    wider (Cycle_begun ∷ es) s keeps = (keeps.0, wider es _ keeps.1)
-    wider (Begin_refused ∷ es) s keeps = (keeps.0, wider es _ keeps.1)
-    wider (Quantum_done budget units phase ∷ es) s keeps = (keeps.0, wider es _ keeps.1)
-    wider (Quantum_refused budget ∷ es) s keeps = (keeps.0, wider es _ keeps.1)
+    lived : Lives
+    lived = live h es f k great o some keeps fits.traced

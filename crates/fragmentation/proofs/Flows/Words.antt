@@ -50,7 +50,8 @@ filled_words s b n q some least l = by_filled (filled b n q some l)
 class_words : (k n : ℕ) → k < CLASSES → LEAST_PAGE_FILL * whole_pages k n ≤ size_of k * n + LEAST_PAGE_FILL
 class_words k n l = filled_words (size_of k) (blocks_in k) n (whole_pages k n) (blocks_some k l) (page_words_least k l) (div-mul-le_self (n + (blocks_in k - 1)) (blocks_in k))
 
-times_sum : (c : ℕ) (f : ℕ → ℕ) (n : ℕ) → class_sum (λ k. c * f k) n ≡ c * class_sum f n
+-- a sum of so many times each number
+pub times_sum : (c : ℕ) (f : ℕ → ℕ) (n : ℕ) → class_sum (λ k. c * f k) n ≡ c * class_sum f n
 times_sum c f zero = sym (mul-zero c)
 times_sum c f (suc n) = let r = times_sum c f n in let d : c * (class_sum f n + f n) ≡ c * class_sum f n + c * f n = spread c (class_sum f n) (f n) in omega (arith, r, d)
   where

@@ -28,7 +28,8 @@ use Rattle.heap_model.specs.Phases.{awaits_sweep_end}
 use Rattle.space.specs.Counts.{main_blocks, used_pages}
 use Rattle.space.specs.Placement.{IsTidy}
 use Rattle.space.proofs.Counts.{used, both_true}
-use Rattle.space.proofs.Placement.Tidying.{shrinks_then, shrinks_writes, shrinks_shades, shrinks_frees, shrinks_keeps, tidy_same, tidy_action}
+use Rattle.space.proofs.Placement.Tidying.{shrinks_then, shrinks_writes, shrinks_shades, shrinks_frees, shrinks_keeps, tidy_same}
+use Rattle.space.proofs.Placement.Acting.{tidy_action}
 use Rattle.space.proofs.Placement.Changing.{shrinks_records}
 use Rattle.space.proofs.Space.{none_evacuating}
 use Rattle.fragmentation.specs.Gathering.{AreUsed, ReceivesFirst, AreTight, HasLooked, IsGathering}

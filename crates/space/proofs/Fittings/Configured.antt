@@ -55,7 +55,7 @@ module _ (config : Config) (h : HeapState) (o : IsOpening h) (same : settings_of
   pub some : 1 ≤ config.pages → 0 < length h.store.pages
   some one = let e = pages in omega (arith, e, one)
 
-  roots : length h.roots ≡ config.mutators * config.slots + config.statics
+  pub roots : length h.roots ≡ config.mutators * config.slots + config.statics
   roots = ap length o.roots ∙ length-replicate (root_cells h.limits) 0 ∙ ap root_cells limits
 
   same_swept : swept_units h ≡ swept_at config config.pages

@@ -2,6 +2,8 @@
 use Rattle.std.proofs.Common.{◌≡◌, ◌≢◌, ℕ, ◌+◌, ◌-◌, ◌*◌, ◌/◌, ◌<◌, ◌≤◌, inl, inr, Bool, true, false, if◌then◌else◌, List, length, ap, ◌∙◌, sym, subst, arith, refl}
 use Rattle.std.proofs.lemmas.Nat.{le-div}
 use Rattle.std.proofs.Math.Nat.{mul-le-mul_right}
+use Rattle.graph_heap.specs.declared.command.Command.{Command}
+use Rattle.graph_heap.specs.declared.command.Reply.{Reply}
 use Rattle.graph_heap.specs.Graph.{Graph}
 use Rattle.size_classes.specs.declared.class.TheConstants.{CLASSES}
 use Rattle.heap_model.specs.declared.phase.Phase.{Phase}
@@ -11,10 +13,10 @@ use Rattle.heap_model.specs.declared.phase.Moving.TheVariants as moves
 use Rattle.heap_model.specs.State.{HeapState}
 use Rattle.heap_model.specs.Opening.{IsOpening}
 use Rattle.heap_model.specs.Settings.{HeapSettings, settings_of}
-use Rattle.heap_model.specs.Spent.{IsWithin, cycle_limit, swept_units}
+use Rattle.heap_model.specs.Spent.{IsWithin, cycle_limit, swept_units, moving_work}
 use Rattle.heap_model.specs.Represents.{Represents}
 use Rattle.heap_model.specs.Action.{Action, Scans_root, Ends_roots, Scans_header, Scans_cell, Ends_marking, Frees_block, Passes_block, Closes_page, Ends_sweep, Looks_at_page, Chooses_page, Chooses_none, Moves_block, Ends_moving, Chain, Nothing_done, Then}
-use Rattle.heap_model.specs.Event.{Course, Event, Command_done, Cycle_begun, Begin_refused, Quantum_done, Quantum_refused, Collects, Does, Runs, IsCourse, present_of, snapshot_of, room_for, change_by}
+use Rattle.heap_model.specs.Event.{Course, Event, Command_done, Cycle_begun, Begin_refused, Quantum_done, Quantum_refused, Enters, Collects, Does, Runs, IsCourse, present_of, snapshot_of, room_for, change_by}
 use Rattle.heap_model.specs.ReachedFrom.{opened}
 use Rattle.heap_model.specs.Left.{LeavesCycle}
 use Rattle.heap_model.proofs.Spent.Actions.{moving_bound}
@@ -32,11 +34,11 @@ use Rattle.space.proofs.Paces.Pacing.{idle_phase, quanta_after, runs_keep, openi
 use Rattle.space.proofs.Paces.Spending.{limit_stays, same_swept, swept_kept, all_spent, few_quanta}
 use Rattle.space.proofs.Paces.Shifted.{at_units, chain_at, change_at, represents_at}
 
-next_times : (n d : ℕ) → (n + 1) * d ≡ n * d + d
+pub next_times : (n d : ℕ) → (n + 1) * d ≡ n * d + d
 next_times n d = grind arith
 
 -- a running cycle moves, if it is past the end of its sweep
-a_move : (q : Phase) → in_cycle q ≡ true → awaits_sweep_end q ≡ false → (m : Moving) × (q ≡ phases.Moving m)
+pub a_move : (q : Phase) → in_cycle q ≡ true → awaits_sweep_end q ≡ false → (m : Moving) × (q ≡ phases.Moving m)
 a_move phases.Idle on off = absurd (cc)
 a_move (phases.Roots next) on off = absurd (cc)
 a_move (phases.Marking part cell) on off = absurd (cc)
@@ -67,23 +69,28 @@ pub chain_tracing : (h after : HeapState) (spent : ℕ) → Chain h spent after 
 chain_tracing h after spent Nothing_done on = on
 chain_tracing h after spent (Then u cost j k linked chain links action) on = chain_tracing h j u chain (action_tracing (record j { store = linked }) k cost action on)
 
--- in moving no more is spent than before it and in it at most
-moving_high : (h : HeapState) (present snapshot : Graph) → Represents h present snapshot → (m : Moving) → h.phase ≡ phases.Moving m → h.units ≤ swept_units h + moving_units h
-moving_high h present snapshot w (moves.Pass class page best chosen) e =
-    let v = subst (λ z. IsWithin h z) e w.within in
-    let b = moving_bound h present snapshot w.pages w.consistent in
+-- in moving no more is spent than before it, on looks, and on the words that were moved
+moving_spent : (h : HeapState) (m : Moving) → h.phase ≡ phases.Moving m → IsWithin h h.phase → h.units ≤ swept_units h + (h.defrag_pages + CLASSES) * length h.store.pages + moving_work h
+moving_spent h (moves.Pass class page best chosen) e w =
+    let v = subst (λ z. IsWithin h z) e w in
     let a = v.0 in let f = v.1 in let q = v.2 in let d = v.3 in
     let m = next_times (chosen + class) (length h.store.pages) in
     let l : chosen + class + 1 ≤ h.defrag_pages + CLASSES = omega (arith, f, d) in
     let n = mul-le-mul_right (length h.store.pages) l in
-    omega (arith, a, b, q, m, n)
-moving_high h present snapshot w (moves.Emptying class page block chosen) e =
-    let v = subst (λ z. IsWithin h z) e w.within in
-    let b = moving_bound h present snapshot w.pages w.consistent in
+    omega (arith, a, q, m, n)
+moving_spent h (moves.Emptying class page block chosen) e w =
+    let v = subst (λ z. IsWithin h z) e w in
     let a = v.0 in let f = v.1 in let d = v.2 in
     let l : chosen + class ≤ h.defrag_pages + CLASSES = omega (arith, f, d) in
     let n = mul-le-mul_right (length h.store.pages) l in
-    omega (arith, a, b, n)
+    omega (arith, a, n)
+
+-- and so no more than before it and in it at most
+moving_high : (h : HeapState) (present snapshot : Graph) → Represents h present snapshot → (m : Moving) → h.phase ≡ phases.Moving m → h.units ≤ swept_units h + moving_units h
+moving_high h present snapshot w m e =
+    let s = moving_spent h m e w.within in
+    let b = moving_bound h present snapshot w.pages w.consistent in
+    omega (arith, s, b)
 
 -- a heap that moves may have spent as much as a sweep leaves at most
 fresh_within : (h : HeapState) (m : Moving) → IsWithin h h.phase → h.phase ≡ phases.Moving m → IsWithin (at_units (swept_units h) h) h.phase
@@ -96,6 +103,28 @@ pub record HasMoved (k : ℕ) (h : HeapState) (r : Course) (ended more units : �
   pub one : ended ≡ more + 1
   pub spent : swept_units h + more * (k - 255) ≤ units
   pub within : IsWithin (at_units units r.heap) r.heap.phase
+
+-- the first quantum that ends in moving
+pub first_moved : (k : ℕ) (h : HeapState) (r : Course) (m : Moving) → swept_units r.heap ≡ swept_units h → IsWithin r.heap r.heap.phase → r.heap.phase ≡ phases.Moving m → HasMoved k h r 1 0 (swept_units r.heap)
+first_moved k h r m same within e = record { one = refl; spent = omega (arith, same); within = fresh_within r.heap m within e }
+
+-- one more, which spends k - 255 units at least
+pub next_moved : (k : ℕ) (h : HeapState) (r new : Course) (ended more units budget spends : ℕ) (phase : Phase) → IsCourse r → HasMoved k h r ended more units → Collects r budget spends phase new → k - 255 ≤ spends → HasMoved k h new (ended + 1) (more + 1) (units + spends)
+next_moved k h r new ended more units budget spends phase w v q enough = record {
+  one = (let o = v.one in omega (arith, o));
+  spent = (let a = v.spent in let x = next_times more (k - 255) in omega (arith, a, x, enough));
+  within = (represents_chain (at_units units r.heap) (at_units (units + spends) new.heap) spends (present_of r) (snapshot_of r)
+      (represents_at units r.heap (present_of r) (snapshot_of r) w.represents v.within) (chain_at units r.heap new.heap spends q.turn.chain)).within;
+}
+
+-- what a command leaves of that
+pub command_moved : (k : ℕ) (h : HeapState) (r new : Course) (m : ℕ) (c : Command) (reply : Reply) (ended more units : ℕ) → IsCourse r → HasMoved k h r ended more units → Enters r m c reply new → HasMoved k h new ended more units
+command_moved k h r new m c reply ended more units w v does = record {
+  one = v.one;
+  spent = v.spent;
+  within = (represents_changed (at_units units r.heap) (at_units units new.heap) (present_of r) (snapshot_of r) (change_by (room_for r.heap c) (present_of r) m c) (represents_at units r.heap (present_of r) (snapshot_of r) w.represents v.within)
+      (founded (present_of r) (room_for r.heap c) m c (present_row r.heap (present_of r) (snapshot_of r) w.represents.consistent)) (change_at units r.heap new.heap (present_of r) _ does.change)).within;
+}
 
 -- What is kept: each of n quanta spent k units at least, but for 255 of each that ended in moving.
 pub record IsSpent (k : ℕ) (h : HeapState) (r : Course) (n : ℕ) : Type 0 where
@@ -207,31 +236,22 @@ module _ (h : HeapState) (k : ℕ) (great : 256 ≤ k) where
             units = swept_units new.heap;
             spent = λ on1. more 0 (i.none e);
             none = λ on1. absurd (let z : true ≡ false = sym on1 ∙ f in cc);
-            moved = λ on1 past. record { one = refl; spent = (omega (arith, same)); within = fresh_within new.heap m.0 after.within m.1 };
+            moved = λ on1 past. first_moved k h new m.0 same after.within m.1;
           }
       by_sweep false true e f = absurd (let z : true ≡ false = sym (chain_tracing r.heap new.heap spends q.turn.chain f) ∙ e in cc)
-      by_sweep false false e f =
-          let v = i.moved on e in
-          let at = represents_chain (at_units i.units r.heap) (at_units (i.units + spends) new.heap) spends (present_of r) (snapshot_of r)
-          (represents_at i.units r.heap (present_of r) (snapshot_of r) w.represents v.within) (chain_at i.units r.heap new.heap spends q.turn.chain) in
-          record {
-            limit = limit;
-            settings = settings;
-            ended = i.ended + 1;
-            more = i.more + 1;
-            units = i.units + spends;
-            spent = λ on1. more i.ended refl;
-            none = λ on1. absurd (let z : true ≡ false = sym on1 ∙ f in cc);
-            moved = λ on1 past. record {
-              one = (let o = v.one in omega (arith, o));
-              spent = (let a = v.spent in let x = next_times i.more (k - 255) in let l : k - 255 ≤ spends = omega (arith, left, enough) in omega (arith, a, x, l));
-              within = at.within;
-            };
-          }
+      by_sweep false false e f = record {
+        limit = limit;
+        settings = settings;
+        ended = i.ended + 1;
+        more = i.more + 1;
+        units = i.units + spends;
+        spent = λ on1. more i.ended refl;
+        none = λ on1. absurd (let z : true ≡ false = sym on1 ∙ f in cc);
+        moved = λ on1 past. next_moved k h r new i.ended i.more i.units budget spends phase w (i.moved on e) q (omega (arith, left, enough));
+      }
 
-  spent_command : (r new : Course) (n : ℕ) → IsCourse r → IsSpent k h r n → cycle_limit new.heap ≡ cycle_limit h → settings_of new.heap ≡ settings_of h → (left : LeavesCycle r.heap new.heap)
-      → ((u : ℕ) → IsWithin (at_units u r.heap) r.heap.phase → IsWithin (at_units u new.heap) new.heap.phase) → IsSpent k h new n
-  spent_command r new n w i limit settings left within = record {
+  spent_command : (r new : Course) (m : ℕ) (c : Command) (reply : Reply) (n : ℕ) → IsCourse r → IsSpent k h r n → cycle_limit new.heap ≡ cycle_limit h → settings_of new.heap ≡ settings_of h → LeavesCycle r.heap new.heap → Enters r m c reply new → IsSpent k h new n
+  spent_command r new m c reply n w i limit settings left does = record {
     limit = limit;
     settings = settings;
     ended = i.ended;
@@ -239,18 +259,13 @@ module _ (h : HeapState) (k : ℕ) (great : 256 ≤ k) where
     units = i.units;
     spent = λ on. (let s = i.spent (sym (ap in_cycle left.phase) ∙ on) in let u = left.units in omega (arith, s, u));
     none = λ on. i.none (sym (ap awaits_sweep_end left.phase) ∙ on);
-    moved = λ on past. (let v = i.moved (sym (ap in_cycle left.phase) ∙ on) (sym (ap awaits_sweep_end left.phase) ∙ past) in record { one = v.one; spent = v.spent; within = within i.units v.within });
+    moved = λ on past. command_moved k h r new m c reply i.ended i.more i.units w (i.moved (sym (ap in_cycle left.phase) ∙ on) (sym (ap awaits_sweep_end left.phase) ∙ past)) does;
   }
 
   pub spent_next : (r : Course) (e : Event) (new : Course) (n to : ℕ) → IsCourse r → IsSpent k h r n → HasBudget k e → Counts r e n to → Does r e new → IsSpent k h new to
-  spent_next r (Command_done m c reply) new n to w i enough same does = subst (IsSpent k h new) (sym same) (spent_command r new n w i (limit_stays r (Command_done m c reply) new does ∙ i.limit) (does_settings r (Command_done m c reply) new does ∙ i.settings) left within)
-    where
-      left : LeavesCycle r.heap new.heap
-      left = change_left r.heap new.heap (present_of r) (change_by (room_for r.heap c) (present_of r) m c) does.change
-
-      within : (u : ℕ) → IsWithin (at_units u r.heap) r.heap.phase → IsWithin (at_units u new.heap) new.heap.phase
-      within u v = (represents_changed (at_units u r.heap) (at_units u new.heap) (present_of r) (snapshot_of r) (change_by (room_for r.heap c) (present_of r) m c) (represents_at u r.heap (present_of r) (snapshot_of r) w.represents v)
-          (founded (present_of r) (room_for r.heap c) m c (present_row r.heap (present_of r) (snapshot_of r) w.represents.consistent)) (change_at u r.heap new.heap (present_of r) _ does.change)).within
+  spent_next r (Command_done m c reply) new n to w i enough same does =
+      subst (IsSpent k h new) (sym same) (spent_command r new m c reply n w i (limit_stays r (Command_done m c reply) new does ∙ i.limit) (does_settings r (Command_done m c reply) new does ∙ i.settings)
+      (change_left r.heap new.heap (present_of r) (change_by (room_for r.heap c) (present_of r) m c) does.change) does)
   spent_next r Cycle_begun new n to w i enough same does = record {
     limit = limit_stays r Cycle_begun new does ∙ i.limit;
     settings = does_settings r Cycle_begun new does ∙ i.settings;

@@ -75,6 +75,7 @@ tidy_objects s old new k w = record {
   given = λ b l. (let x = w.given b l in let y = k.more in omega arith);
   shape = λ b l. w.shape b l ∙ sym (k.shape (record_of s b).identity (w.given b l));
   one = w.one;
+  one_old = w.one_old;
   old = w.old;
 }
 
@@ -177,6 +178,7 @@ tidy_new s new objects shape colour id at same makes takes w = record {
     | inr q ↦ (let m = q.3 in m.shape ∙ sym (ap (λ z. (object_of (objects ++ new_object shape ∷ []) z).shape) (m.identity ∙ same) ∙ new_shape))
   ];
   one = λ a b l n f g x y. by_two a b f g x y (blocks a l) (blocks b n);
+  one_old = λ a b l n f g x y. two_old a b f g x y (blocks a l) (blocks b n);
   old = λ b l. elim (blocks b l) [
     | inl q ↦ elim (w.old b q.0) [ inl z ↦ inl (q.1.forward ∙ z) | inr z ↦ inr (keeps_evacuating s.pages new.pages keeps (b / 2048) z) ]
     | inr q ↦ inl (q.3.forward ∙ sym q.2)
@@ -211,19 +213,25 @@ tidy_new s new objects shape colour id at same makes takes w = record {
     by_two a b f g x y (inl p) (inr q) = absurd (let u = w.given a p.0 in let i = p.1.identity in let j = q.3.identity in omega (arith, u, i, j, x, same))
     by_two a b f g x y (inr p) (inl q) = absurd (let u = w.given b q.0 in let i = q.1.identity in let j = p.3.identity in omega (arith, u, i, j, x, same))
 
+    two_old : (a b : ℕ) → (record_of new a).forward ≢ a → (record_of new b).forward ≢ b → (record_of new a).identity ≡ (record_of new b).identity → (record_of new a).part ≡ (record_of new b).part
+        → WasOrMade s new at (parts_in (cells_of shape)) id shape a → WasOrMade s new at (parts_in (cells_of shape)) id shape b → a ≡ b
+    two_old a b f g x y (inl p) (inl q) = w.one_old a b p.0 q.0 (λ z. f (p.1.forward ∙ z)) (λ z. g (q.1.forward ∙ z)) (sym p.1.identity ∙ x ∙ q.1.identity) (sym p.1.part ∙ y ∙ q.1.part)
+    two_old a b f g x y (inr p) q = absurd (f (p.3.forward ∙ sym p.2))
+    two_old a b f g x y (inl p) (inr q) = absurd (g (q.3.forward ∙ sym q.2))
+
 -- the barrier
 pub shrinks_records : (h k : HeapState) (x : ℕ) → Records h x k → Shrinks h.store k.store × (k.store.pages ≡ h.store.pages) × KeepsSettings h k
 shrinks_records h k x (Records_nothing e) = (shrinks_none h.store, refl, record { most = refl; below = refl })
 shrinks_records h k x (Records_main k0 e sh) = let f = shrinks_shades h k _ sh in let g = shades_same h k _ sh in (f.0, f.1, g.0)
 
 -- roots that get null, one after the other
-record LeavesBlocks (h k : HeapState) : Type 0 where
-  shrinks : Shrinks h.store k.store
-  pages : k.store.pages ≡ h.store.pages
-  settings : KeepsSettings h k
+pub record LeavesBlocks (h k : HeapState) : Type 0 where
+  pub shrinks : Shrinks h.store k.store
+  pub pages : k.store.pages ≡ h.store.pages
+  pub settings : KeepsSettings h k
   phase : k.phase ≡ h.phase
 
-clears_leave : (h : HeapState) (first n : ℕ) (k : HeapState) → Clears h first n k → LeavesBlocks h k
+pub clears_leave : (h : HeapState) (first n : ℕ) (k : HeapState) → Clears h first n k → LeavesBlocks h k
 clears_leave h first n k Clears_none = record { shrinks = shrinks_none h.store; pages = refl; settings = record { most = refl; below = refl }; phase = refl }
 clears_leave h first n k (Clears_next n0 j k0 c r) =
     let w = clears_leave h first n0 j c in

@@ -1,5 +1,5 @@
 -- Blocks stand where they should, through actions and changes.
-use Rattle.std.proofs.Common.{◌≡◌, ◌≢◌, ℕ, ◌+◌, ◌-◌, ◌*◌, ◌/◌, ◌<◌, ◌≤◌, ◌⊎◌, inl, inr, Bool, true, false, ◌==◌, if◌then◌else◌, nat_le, List, Option, Some, None, length, set, ap, ◌∙◌, sym, subst, arith, refl}
+use Rattle.std.proofs.Common.{◌≡◌, ◌≢◌, ℕ, ◌+◌, ◌-◌, ◌*◌, ◌/◌, ◌<◌, ◌≤◌, ◌⊎◌, inl, inr, Bool, true, false, ◌&&◌, ◌==◌, if◌then◌else◌, nat_le, List, Option, Some, None, length, set, ap, ◌∙◌, sym, subst, arith, refl}
 use Rattle.std.specs.Prelude.{position, slice_get}
 use Rattle.std.proofs.lemmas.List.Quantifiers.{position-Some}
 use Rattle.std.proofs.lemmas.Option.{same_Some, slice_get_within}
@@ -14,19 +14,17 @@ use Rattle.heap_model.specs.declared.phase.Moving.TheVariants as moves
 use Rattle.heap_model.specs.Block.{BlockRecord, with_forward}
 use Rattle.heap_model.specs.Pages.{Page, ArePages, page_at, is_usable, with_allocated}
 use Rattle.heap_model.specs.Store.{Store, Writes, is_allocated, record_of, address_of, size_in}
-use Rattle.heap_model.specs.Core.{Sweeping}
+use Rattle.heap_model.specs.Core.{Name, null, Sweeping}
 use Rattle.heap_model.specs.Cut.{view}
-use Rattle.heap_model.specs.Collector.{In_sweep, contains}
-use Rattle.heap_model.specs.State.{HeapState, seen, is_evacuating, reference_of, collector_of, progress_of}
+use Rattle.heap_model.specs.Collector.{In_sweep, In_moves, contains}
+use Rattle.heap_model.specs.State.{HeapState, seen, page_of, is_target_page, is_evacuating, reference_of, collector_of, progress_of}
 use Rattle.heap_model.specs.Agreement.{Consistent}
-use Rattle.heap_model.specs.Action.{Shades, Was_marked, Is_marked, KeepsBlocks, Frees, MovesBlock, IsNext, Action, Scans_root, Ends_roots, Scans_header, Scans_cell, Ends_marking, Frees_block, Passes_block, Closes_page, Ends_sweep, Looks_at_page, Chooses_page, Chooses_none, Moves_block, Ends_moving, allocated_on, closed, is_looked_at, is_sparse}
-use Rattle.heap_model.specs.Represents.{Represents}
+use Rattle.heap_model.specs.Action.{Shades, Was_marked, Is_marked, KeepsBlocks, Frees, MovesBlock, IsNext, allocated_on, closed, is_looked_at}
 use Rattle.heap_model.proofs.State.{allocated_pages, node_kept, behind}
 use Rattle.heap_model.proofs.Store.Allocated.{set_page, page_within, allocated_block, size_some, is_page, block_within, page_of_place}
 use Rattle.heap_model.proofs.Action.Moving.{same_number, usable_fits, below_end}
 use Rattle.heap_model.proofs.Collector.Coherence.{stage_at}
 use Rattle.heap_model.proofs.Spent.Actions.{moved_main}
-use Rattle.heap_model.specs.Phases.{awaits_sweep_end}
 use Rattle.space.specs.Placement.{class_in, IsTidy, KeepsOnly}
 
 pub not_same : (a b : ℕ) → (a == b) ≡ false → a ≢ b
@@ -101,6 +99,7 @@ tidy_less s t objects f same leave w = record {
   given = λ b l. (let h = f.head b l in let q = h.identity in let p = w.given b (f.allocated b l) in omega (arith, p, q));
   shape = λ b l. (let h = f.head b l in h.shape ∙ w.shape b (f.allocated b l) ∙ ap (λ z. (object_of objects z).shape) (sym h.identity));
   one = λ a b l m p q i j. (let h = f.head a l in let k = f.head b m in w.one a b (f.allocated a l) (f.allocated b m) (sym h.forward ∙ p) (sym k.forward ∙ q) (sym h.identity ∙ i ∙ k.identity) (sym h.part ∙ j ∙ k.part));
+  one_old = λ a b l m p q i j. (let h = f.head a l in let k = f.head b m in w.one_old a b (f.allocated a l) (f.allocated b m) (λ z. p (h.forward ∙ z)) (λ z. q (k.forward ∙ z)) (sym h.identity ∙ i ∙ k.identity) (sym h.part ∙ j ∙ k.part));
   old = λ b l. elim (w.old b (f.allocated b l)) [
     | inl e ↦ inl ((f.head b l).forward ∙ e)
     | inr e ↦ leave b l e
@@ -131,7 +130,7 @@ leave_put old new k v l e same j on = by_place (j == k) refl (ap (λ z. page_at 
     by_place true t f = ap is_evacuating f ∙ same (ap (λ z. is_evacuating (page_at old z)) (sym (same_number j k t)) ∙ on)
     by_place false t f = ap is_evacuating f ∙ on
 
-tidy_put : (s t : Store) (objects : List Object) (k : ℕ) (p q : Page) → Shrinks s t → page_at s.pages k ≡ Some p → t.pages ≡ set s.pages k (Some q) → q.class ≡ p.class → (p.evacuating ≡ true → q.evacuating ≡ true) → IsTidy s objects → IsTidy t objects
+pub tidy_put : (s t : Store) (objects : List Object) (k : ℕ) (p q : Page) → Shrinks s t → page_at s.pages k ≡ Some p → t.pages ≡ set s.pages k (Some q) → q.class ≡ p.class → (p.evacuating ≡ true → q.evacuating ≡ true) → IsTidy s objects → IsTidy t objects
 tidy_put s t objects k p q f at is same on w =
     let l = page_within s.pages k p at in
     tidy_less s t objects f (λ b m. class_put s.pages t.pages k (Some q) l is (ap Some same ∙ ap class_in (sym at)) (b / 2048))
@@ -172,7 +171,7 @@ closed_class (Some q) p e = by_allocated (allocated_on (Some q) == 0) e
     by_allocated true e = absurd (cc)
     by_allocated false e = ap (λ (z : Page). Some z.class) (same_Some _ p e)
 
-tidy_close : (h : HeapState) (present snapshot : Graph) (objects : List Object) (page block : ℕ) (new : Store) → ArePages h.store.pages → Consistent h present snapshot → h.phase ≡ phases.Sweeping page block → page < length h.store.pages
+pub tidy_close : (h : HeapState) (present snapshot : Graph) (objects : List Object) (page block : ℕ) (new : Store) → ArePages h.store.pages → Consistent h present snapshot → h.phase ≡ phases.Sweeping page block → page < length h.store.pages
     → is_looked_at (page_at h.store.pages page) block ≡ true → KeepsBlocks h.store new → new.pages ≡ set h.store.pages page (closed (page_at h.store.pages page)) → IsTidy h.store objects → IsTidy new objects
 tidy_close h present snapshot objects page block new pages c e l looked keeps is w =
     let f = shrinks_keeps h.store new keeps in
@@ -208,7 +207,7 @@ place_page s page i p w at l =
     page_of_place page (address_of p.class page i) (omega arith) (omega arith)
 
 -- a block that is moved
-tidy_move : (h : HeapState) (present snapshot : Graph) (objects : List Object) (class page block chosen i to j : ℕ) (p q : Page) (new : Store) → ArePages h.store.pages → Consistent h present snapshot → h.phase ≡ phases.Moving (moves.Emptying class page block chosen)
+pub tidy_move : (h : HeapState) (present snapshot : Graph) (objects : List Object) (class page block chosen i to j : ℕ) (p q : Page) (new : Store) → ArePages h.store.pages → Consistent h present snapshot → h.phase ≡ phases.Moving (moves.Emptying class page block chosen)
     → page_at h.store.pages page ≡ Some p → p.evacuating ≡ true → IsNext p block i → position (is_usable p.class) h.store.pages ≡ Some to → page_at h.store.pages to ≡ Some q → slice_get q.allocated j ≡ Some false
     → MovesBlock h.store new (address_of p.class page i) (address_of p.class to j) → new.pages ≡ set h.store.pages to (Some (record (with_allocated q j true) { is_target = true })) → IsTidy h.store objects → IsTidy new objects
 tidy_move h present snapshot objects class page block chosen i to j p q new pages c e at evacuating next place there empty m is w = record {
@@ -229,6 +228,7 @@ tidy_move h present snapshot objects class page block chosen i to j p q new page
     | inr s ↦ (let f = s.1 in f.shape ∙ w.shape from main.0 ∙ ap (λ z. (object_of objects z).shape) (sym f.identity))
   ];
   one = λ a b l n f g x y. by_two a b l n f g x y (blocks a l) (blocks b n);
+  one_old = λ a b l n f g x y. two_old a b f g x y (blocks a l) (blocks b n) (a == from) refl (b == from) refl;
   old = λ b l. elim (blocks b l) [
     | inr s ↦ inl (ap (λ z. (record_of new z).forward) s.0 ∙ ap (λ (z : BlockRecord). z.forward) m.copy ∙ sym s.0)
     | inl s ↦ by_from b s.0 (b == from) refl
@@ -302,6 +302,54 @@ tidy_move h present snapshot objects class page block chosen i to j p q new page
     by_two a b l n f g x y (inl s) (inr r) = absurd ((main_before a s.0 f).0 (w.one a from s.0 main.0 (main_before a s.0 f).1 main.1 (sym s.1.identity ∙ x ∙ r.1.identity) (sym s.1.part ∙ y ∙ r.1.part)))
     by_two a b l n f g x y (inr s) (inl r) = absurd ((main_before b r.0 g).0 (w.one b from r.0 main.0 (main_before b r.0 g).1 main.1 (sym r.1.identity ∙ sym x ∙ s.1.identity) (sym r.1.part ∙ sym y ∙ s.1.part)))
 
+    -- before, no part of a main copy on this page had an old one: that would forward to a target page
+    none_before : (b : ℕ) → is_allocated h.store b ≡ true → (record_of h.store b).forward ≢ b → (record_of h.store b).identity ≡ (record_of h.store from).identity → (record_of h.store b).part ≡ (record_of h.store from).part → ⊥
+    none_before b l old x y =
+        let st = stage_at (collector_of h) (view present) (view snapshot) c.parts In_moves (ap (progress_of h.store.pages) e) in
+        let allocated_b : (seen h).allocated (b + 1) ≡ true = behind true (λ z. is_allocated h.store z) b ∙ l in
+        let allocated_from : (seen h).allocated (from + 1) ≡ true = behind true (λ z. is_allocated h.store z) from ∙ main.0 in
+        let forward_b : (seen h).forward (b + 1) ≡ (record_of h.store b).forward + 1 = behind 0 (λ z. (record_of h.store z).forward + 1) b in
+        let forward_from : (seen h).forward (from + 1) ≡ from + 1 = behind 0 (λ z. (record_of h.store z).forward + 1) from ∙ ap (λ z. z + 1) main.1 in
+        let names : (seen h).name (b + 1) ≡ (seen h).name (from + 1) = behind null (λ z. named (record_of h.store z)) b ∙ same_name (record_of h.store b) (record_of h.store from) x y ∙ sym (behind null (λ z. named (record_of h.store z)) from) in
+        let to_from : (seen h).forward (b + 1) ≡ from + 1 = st.0.forward (b + 1) allocated_b ∙ ap c.parts.at names ∙ sym (st.0.forward (from + 1) allocated_from) ∙ forward_from in
+        elim (st.1.old (b + 1) allocated_b) [
+          | inl z ↦ old (let v : (record_of h.store b).forward + 1 ≡ b + 1 = sym forward_b ∙ z in omega (arith, v))
+          | inr z ↦ (let v : is_target_page (page_at h.store.pages ((from + 1 - 1) / 2048)) ≡ true = ap (λ k. is_target_page (page_of h.store.pages k)) (sym to_from) ∙ z in
+              let k : (from + 1 - 1) / 2048 ≡ page = ap (λ k. k / 2048) (let k : from + 1 - 1 ≡ from = omega arith in k) ∙ from_page in
+              never p.evacuating p.is_target evacuating (ap is_target_page (sym at) ∙ ap (λ k. is_target_page (page_at h.store.pages k)) (sym k) ∙ v) (is_page h.store page p pages at).marks)
+        ]
+      where
+        named : BlockRecord → Name
+        named n = record { identity = n.identity; part = n.part }
+
+        same_name : (m n : BlockRecord) → m.identity ≡ n.identity → m.part ≡ n.part → named m ≡ named n
+        same_name m n f g t = record { identity = f t; part = g t }
+
+        never : (a b : Bool) → a ≡ true → b ≡ true → (a && b) ≡ false → ⊥
+        never a b f g z = cc
+
+    same_as : (b : ℕ) → (t : Bool) → (b == from) ≡ t → t ≡ false → is_allocated h.store b ≡ true → (record_of new b).forward ≢ b → (record_of h.store b).forward ≢ b
+    same_as b true t z k f g = absurd (cc)
+    same_as b false t z k f g = f (ap (λ (n : BlockRecord). n.forward) (m.nodes b (not_same b from t) k) ∙ g)
+
+    copy_main : (a : ℕ) → a ≡ goal → (record_of new a).forward ≡ a
+    copy_main a z = ap (λ y. (record_of new y).forward) z ∙ ap (λ (y : BlockRecord). y.forward) m.copy ∙ sym z
+
+    two_old : (a b : ℕ) → (record_of new a).forward ≢ a → (record_of new b).forward ≢ b → (record_of new a).identity ≡ (record_of new b).identity → (record_of new a).part ≡ (record_of new b).part
+        → ((is_allocated h.store a ≡ true) × SameName (record_of new a) (record_of h.store a)) ⊎ ((a ≡ goal) × SameName (record_of new a) (record_of h.store from))
+        → ((is_allocated h.store b ≡ true) × SameName (record_of new b) (record_of h.store b)) ⊎ ((b ≡ goal) × SameName (record_of new b) (record_of h.store from))
+        → (t : Bool) → (a == from) ≡ t → (u : Bool) → (b == from) ≡ u → a ≡ b
+    two_old a b f g x y (inr s) r t d u o = absurd (f (copy_main a s.0))
+    two_old a b f g x y (inl s) (inr r) t d u o = absurd (g (copy_main b r.0))
+    two_old a b f g x y (inl s) (inl r) true d true o = same_number a from d ∙ sym (same_number b from o)
+    two_old a b f g x y (inl s) (inl r) true d false o =
+        let here = same_number a from d in
+        absurd (none_before b r.0 (same_as b false o refl r.0 g) (sym r.1.identity ∙ sym x ∙ s.1.identity ∙ ap (λ z. (record_of h.store z).identity) here) (sym r.1.part ∙ sym y ∙ s.1.part ∙ ap (λ z. (record_of h.store z).part) here))
+    two_old a b f g x y (inl s) (inl r) false d true o =
+        let here = same_number b from o in
+        absurd (none_before a s.0 (same_as a false d refl s.0 f) (sym s.1.identity ∙ x ∙ r.1.identity ∙ ap (λ z. (record_of h.store z).identity) here) (sym s.1.part ∙ y ∙ r.1.part ∙ ap (λ z. (record_of h.store z).part) here))
+    two_old a b f g x y (inl s) (inl r) false d false o = w.one_old a b s.0 r.0 (same_as a false d refl s.0 f) (same_as b false o refl r.0 g) (sym s.1.identity ∙ x ∙ r.1.identity) (sym s.1.part ∙ y ∙ r.1.part)
+
     keeps_evacuating : (k : ℕ) → is_evacuating (page_at h.store.pages k) ≡ true → is_evacuating (page_at new.pages k) ≡ true
     keeps_evacuating k on = leave_put h.store.pages new.pages to _ within is (λ z. absurd (let y : false ≡ true = sym fits.1 ∙ sym (ap is_evacuating there) ∙ z in cc)) k on
 
@@ -314,45 +362,3 @@ tidy_move h present snapshot objects class page block chosen i to j p q new page
       | inl z ↦ inl (ap (λ (n : BlockRecord). n.forward) (m.nodes b ne k) ∙ z)
       | inr z ↦ inr (keeps_evacuating (b / 2048) z)
     ]
-
--- each action
-pub tidy_action : (h after : HeapState) (cost : ℕ) (present snapshot : Graph) (objects : List Object) → Represents h present snapshot → Action h cost after → IsTidy h.store objects → IsTidy after.store objects
-tidy_action h after cost g s objects st (Scans_root next k e l sh) w = let f = shrinks_shades _ k _ sh in tidy_same h.store k.store objects f.0 f.1 w
-tidy_action h after cost g s objects st (Ends_roots next e l) w = w
-tidy_action h after cost g s objects st (Scans_header part cell x front back e f n) w = w
-tidy_action h after cost g s objects st (Scans_cell part cell new k e l w0 sh) w =
-    let f = shrinks_shades _ k _ sh in
-    tidy_same h.store k.store objects (shrinks_then h.store new k.store (shrinks_writes h.store new (part - 1) _ w0 (record { identity = refl; part = refl; shape = refl; forward = refl })) f.0) (f.1 ∙ w0.pages) w
-tidy_action h after cost g s objects st (Ends_marking part cell e f n) w = w
-tidy_action h after cost g s objects st (Frees_block page block p new e f was unmarked w0 pages) w = tidy_put h.store new objects page p (with_allocated p block false) (shrinks_frees h.store new _ w0) f pages refl (λ z. z) w
-tidy_action h after cost g s objects st (Passes_block page block p e f l marked) w = w
-tidy_action h after cost g s objects st (Closes_page page block new e l f w0 pages) w = tidy_close h g s objects page block new st.pages st.consistent e l f w0 pages w
-tidy_action h after cost g s objects st (Ends_sweep page block e l) w = w
-tidy_action h after cost g s objects st (Looks_at_page class page best chosen at few more) w = w
-tidy_action h after cost g s objects st (Chooses_page class page best chosen k p new at few last is good there w0 pages) w = tidy_put h.store new objects k.page p (record p { evacuating = true }) (shrinks_keeps h.store new w0) there pages refl (λ z. refl) w
-tidy_action h after cost g s objects st (Chooses_none class page best chosen at few last is) w = w
-tidy_action h after cost g s objects st (Moves_block class page block chosen i to j p q new e at evacuating next place there empty w0 pages) w =
-    tidy_move h g s objects class page block chosen i to j p q new st.pages st.consistent e at evacuating next place there empty w0 pages w
-tidy_action h after cost g s objects st (Ends_moving done) w = w
-
--- until the sweep's end nothing is moved
-sparse_tracing : (b : Bool) → awaits_sweep_end (if b then phases.Moving (moves.Pass 0 0 None 0) else phases.Idle) ≡ true → ⊥
-sparse_tracing true e = cc
-sparse_tracing false e = cc
-
-pub only_action : (h after : HeapState) (cost base : ℕ) (ids : List ℕ) → Action h cost after → awaits_sweep_end after.phase ≡ true → (awaits_sweep_end h.phase ≡ true → KeepsOnly h.store base ids) → KeepsOnly after.store base ids
-only_action h after cost base ids (Scans_root next k e l sh) t w = only_less h.store k.store base ids (shrinks_shades _ k _ sh).0 (w (ap awaits_sweep_end e))
-only_action h after cost base ids (Ends_roots next e l) t w = w (ap awaits_sweep_end e)
-only_action h after cost base ids (Scans_header part cell x front back e f n) t w = w (ap awaits_sweep_end e)
-only_action h after cost base ids (Scans_cell part cell new k e l w0 sh) t w =
-    only_less h.store k.store base ids (shrinks_then h.store new k.store (shrinks_writes h.store new (part - 1) _ w0 (record { identity = refl; part = refl; shape = refl; forward = refl })) (shrinks_shades _ k _ sh).0) (w (ap awaits_sweep_end e))
-only_action h after cost base ids (Ends_marking part cell e f n) t w = w (ap awaits_sweep_end e)
-only_action h after cost base ids (Frees_block page block p new e f was unmarked w0 pages) t w = only_less h.store new base ids (shrinks_frees h.store new _ w0) (w (ap awaits_sweep_end e))
-only_action h after cost base ids (Passes_block page block p e f l marked) t w = w (ap awaits_sweep_end e)
-only_action h after cost base ids (Closes_page page block new e l f w0 pages) t w = only_less h.store new base ids (shrinks_keeps h.store new w0) (w (ap awaits_sweep_end e))
-only_action h after cost base ids (Ends_sweep page block e l) t w = absurd (sparse_tracing (is_sparse h) t)
-only_action h after cost base ids (Looks_at_page class page best chosen at few more) t w = absurd (cc)
-only_action h after cost base ids (Chooses_page class page best chosen k p new at few last is good there w0 pages) t w = absurd (cc)
-only_action h after cost base ids (Chooses_none class page best chosen at few last is) t w = absurd (cc)
-only_action h after cost base ids (Moves_block class page block chosen i to j p q new e at evacuating next place there empty w0 pages) t w = absurd (cc)
-only_action h after cost base ids (Ends_moving done) t w = absurd (cc)

@@ -1,29 +1,30 @@
-use Rattle.std.proofs.Common.{◌≡◌, ℕ, ◌+◌, ◌*◌, ◌/◌, ◌≤◌, ap, ◌∙◌, rules, arith}
-use Rattle.settings.specs.declared.config.Config.{Config}
-use Rattle.paced.proofs.Planning.{room_of, share_of, none_fits, fastest_fits}
+use Rattle.std.proofs.Common.{◌≡◌, ℕ, ◌-◌, ◌≤◌, ◌⊎◌, inl, inr, Bool, ◌∙◌, sym, arith}
+use Rattle.fragmentation.specs.Flow.{classes_made}
+use Rattle.paced.specs.declared.plan.Plan.{Plan}
+use Rattle.paced.specs.Planning.{MayChoose}
+use Rattle.paced.proofs.Planning.{single_chosen, none_told, chosen_fastest}
 use Rattle.paced.proofs.plan.fastest.Goals as goal
 
--- the words that were reckoned are the room's share
-same_share : (c : Config) (classes live room whole traced : ℕ) → room ≡ room_of classes live c.pages → 2 * whole + traced ≡ share_of c → room / (2 * whole + traced) ≡ room_of classes live c.pages / share_of c
-same_share c classes live room whole traced r s = ap (λ z. z / (2 * whole + traced)) r ∙ ap (λ d. room_of classes live c.pages / d) s
+pub loop-words-init : goal.loop-words-init
+loop-words-init c = record { most = λ makes made plan may. c.most_words-words.ensures makes made plan may.lasts }
 
-pub returns-then-quantum_words-eq0 : goal.returns-then-quantum_words-eq0
-returns-then-quantum_words-eq0 c = λ makes made.
-    let cfg = c.args.config.now in
-    let w = c.cycle_quanta-whole.ensures.quanta in
-    let t = c.unmoved_quanta.ensures.quanta in
-    let room : c.saturating_sub-room.result ≡ room_of c.args.classes c.args.live_words cfg.pages = search rules in
-    let is = same_share cfg c.args.classes c.args.live_words c.saturating_sub-room.result c.cycle_quanta-whole.result c.unmoved_quanta.result room (omega (arith, w, t)) in
-    none_fits makes c.args.classes made cfg c.args.live_words (c.saturating_sub-room.result / (2 * c.cycle_quanta-whole.result + c.unmoved_quanta.result)) is (search rules)
+pub returns-then-is_some : goal.returns-then-is_some
+returns-then-is_some c = λ makes made.
+    chosen_fastest makes c.args.config.now c.args.live_words c.loop-words.words (let l = c.loop-words-test.true in omega (arith, l)) c.lasting-plan.result (sym c.is_some.ensures ∙ c.if-is_some.true) (c.lasting-plan.ensures.some makes made) (c.loop-words.invariant.most makes made)
+
+order : (a b : ℕ) → a ≤ b → (a ≡ b) ⊎ (a ≤ b - 1)
+order a b l = grind arith
+
+pub loop-words-preserved : goal.loop-words-preserved
+loop-words-preserved c = record { most = λ makes made plan may. by_order makes made plan may (order plan.quantum_words c.loop-words.words (c.loop-words.invariant.most makes made plan may)) }
+  where
+    by_order : (makes : ℕ → Bool) → classes_made makes ≡ c.args.classes → (plan : Plan) → MayChoose makes c.args.config.now c.args.live_words plan → (plan.quantum_words ≡ c.loop-words.words) ⊎ (plan.quantum_words ≤ c.loop-words.words - 1) → plan.quantum_words ≤ c.loop-words.words - 1
+    by_order makes made plan may (inl e) = absurd (c.lasting-plan.ensures.none makes made (none_told c.lasting-plan.result (sym c.is_some.ensures ∙ c.if-is_some.false)) plan e may.lasts may.fullest)
+    by_order makes made plan may (inr l) = l
 
 pub returns : goal.returns
-returns c = λ makes made.
-    let cfg = c.args.config.now in
-    let w = c.cycle_quanta-whole.ensures.quanta in
-    let t = c.unmoved_quanta.ensures.quanta in
-    let q = c.saturating_sub-room.result / (2 * c.cycle_quanta-whole.result + c.unmoved_quanta.result) in
-    let room : c.saturating_sub-room.result ≡ room_of c.args.classes c.args.live_words cfg.pages = search rules in
-    let is = same_share cfg c.args.classes c.args.live_words c.saturating_sub-room.result c.cycle_quanta-whole.result c.unmoved_quanta.result room (omega (arith, w, t)) in
-    let some : 1 ≤ q = search rules in
-    let f = fastest_fits makes c.args.classes made cfg c.args.live_words q is some in
-    (some, ap (λ z. q * z) w, f.2, f.3)
+returns c = λ makes made p.
+    let s = single_chosen makes c.args.config.now c.args.live_words p in
+    let m = c.loop-words.invariant.most makes made s.0 s.1 in
+    let one = s.1.some in
+    omega (arith, m, one, c.loop-words-test.false)

@@ -20,3 +20,11 @@ loop-pages-preserved c = record { none = λ makes made pages one less fits. by_s
 
 pub returns : goal.returns
 returns c = λ makes made pages one small fits. c.loop-pages.invariant.none makes made pages one (omega (arith, c.loop-pages-test.false, c.loop-pages.auto.pages-end, small)) fits
+
+pub returns-then-has_plan_on : goal.returns-then-has_plan_on
+returns-then-has_plan_on c = λ makes made. (
+  c.loop-pages.auto.pages,
+  omega (arith, c.loop-pages-test.true, c.loop-pages.auto.pages-end),
+  (c.has_plan_on.ensures makes made).0 c.if-has_plan_on.true,
+  λ pages one less plan. c.loop-pages.invariant.none makes made pages one less plan,
+)

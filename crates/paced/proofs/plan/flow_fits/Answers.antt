@@ -3,4 +3,4 @@ use Rattle.paced.proofs.Planning.{all_classes}
 use Rattle.paced.proofs.plan.flow_fits.Goals as goal
 
 pub returns : goal.returns
-returns c = c.fits.ensures (λ class. true) all_classes
+returns c = c.fits_on.ensures (λ class. true) all_classes

@@ -3,4 +3,4 @@ use Rattle.paced.specs.Rooms.{among}
 use Rattle.paced.proofs.plan.flow_fits_for.Goals as goal
 
 pub returns : goal.returns
-returns c = c.fits.ensures (among c.args.used.now) (sym c.classes_in.ensures.count)
+returns c = c.fits_on.ensures (among c.args.used.now) (sym c.classes_in.ensures.count)

@@ -12,5 +12,5 @@ pub returns : goal.returns
 returns c =
     let on = c.on_pages-on.result in
     let plan = c.fastest.result in
-    IfOk-weaker c.plan_line.result (λ line. string_bytes line ≡ plan_line on plan) (λ line. IsRow (made_of (option_map (λ used. used.now) c.args.classes)) c.args.config.now c.args.live_words c.args.pages (string_bytes line))
+    IfOk-weaker c.plan_line.result (λ line. string_bytes line ≡ plan_line on c.args.live_words plan) (λ line. IsRow (made_of (option_map (λ used. used.now) c.args.classes)) c.args.config.now c.args.live_words c.args.pages (string_bytes line))
     (λ line told. (record { on = on; is_on = c.on_pages-on.ensures; plan = plan; fastest = c.fastest.ensures }, told)) c.plan_line.ensures

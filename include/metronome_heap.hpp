@@ -234,7 +234,7 @@ inline std::uint32_t try_cycle_limit(const metronome_settings &settings, metrono
     return metronome_cycle_limit(&settings, &limit);
 }
 
-// The plan of the most words for each quantum that fits in a heap of these settings.
+// The plan for a heap of these settings, of the most words for each quantum with which those of a cycle last until its end.
 inline std::uint32_t try_plan(const metronome_settings &settings, std::uint64_t live_words, metronome_flow &flow) noexcept {
     return metronome_plan(&settings, live_words, &flow);
 }

@@ -38,12 +38,12 @@ typedef struct metronome_work {
     uint64_t most_quanta; /* the most quanta before one new object */
 } metronome_work;
 
-/* The plan of the most words for each quantum that fits in a heap of these settings, where live objects take at most live_words
- * words of blocks whenever a cycle begins. The settings are to be such as METRONOME_SETTINGS_MOVING has. No heap is made; it takes
- * time by the pages.
- * OK. NO_PLAN where none fits, or not each cycle moves, or may empty all pages: then quantum_words and cycle_words are 0, and
- * least_pages tells on how many pages there is one. BAD_SCHEDULE, or BAD_SETTING and the place of a setting, and *flow is left as
- * it was. */
+/* A plan for a heap of these settings, where live objects take at most live_words words of blocks whenever a cycle begins: it has as
+ * many words for a cycle as fit, and the most for a quantum with which they last until a whole cycle has ended. The settings are to
+ * be such as METRONOME_SETTINGS_MOVING has. No heap is made; it takes time by the pages.
+ * OK. NO_PLAN where none fits and lasts, or not each cycle moves, or may empty all pages: then quantum_words and cycle_words are 0,
+ * and least_pages tells on how many pages there is one. BAD_SCHEDULE, or BAD_SETTING and the place of a setting, and *flow is left
+ * as it was. */
 uint32_t metronome_plan(const metronome_settings *settings, uint64_t live_words, metronome_flow *flow) METRONOME_NONNULL;
 
 /* The heap keeps a plan from here on: before each new object the collector works as much as the plan wants for it, and no more: it

@@ -37,9 +37,10 @@ impl Settings {
         Settings { defrag_below: pages + 1, defrag_pages: pages, ..Settings::new(pages, mutators, slots) }
     }
 
-    /// The plan of the most words for each quantum that fits in a heap of these settings, where live objects take at most
-    /// `live_words` words of blocks whenever a cycle begins. Where none fits it has no words for a quantum, and says on how many
-    /// pages there is one. Refused: `BadSetting`, `BadSchedule`.
+    /// A plan for a heap of these settings, where live objects take at most `live_words` words of blocks whenever a cycle
+    /// begins: it has as many words for a cycle as fit, and the most for a quantum with which they last until a whole cycle has
+    /// ended. Where there is none it has no words for a quantum, and says on how many pages there is one. Refused: `BadSetting`,
+    /// `BadSchedule`.
     pub fn plan(&self, live_words: u64) -> Result<Flow> {
         let mut flow = Flow::default();
         // SAFETY: both live through the call.

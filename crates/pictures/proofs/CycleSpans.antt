@@ -1,10 +1,8 @@
 -- Cycles and their phases, quantum by quantum.
-use Rattle.std.proofs.Common.{◌≡◌, ℕ, ◌+◌, ◌<◌, min, Bool, true, false, List, [], ◌∷◌, ◌++◌, length, drop, get_or, refl, ap, ◌∙◌, sym, subst, append-nil, arith}
-use Rattle.std.specs.Prelude.{Some, None, if◌then◌else◌}
+use Rattle.std.proofs.Common.{◌≡◌, ◌⊎◌, inl, inr, ℕ, Bool, true, false, List, [], ◌∷◌, ◌++◌, refl, ap, ap₂, ◌∙◌, sym, subst, append-nil}
+use Rattle.std.specs.Prelude.{Option, Some, None, if◌then◌else◌}
 use Rattle.std.specs.List.{flat_map, zip}
-use Rattle.std.proofs.lemmas.List.{drop_more, drop_all}
 use Rattle.std.proofs.lemmas.List.Elements.{filter-append}
-use Rattle.std.proofs.lemmas.Slice.Zip.{length-zip, get_or-zip}
 use Rattle.streams.specs.Streams.{GrowsByPart}
 use Rattle.trace.proofs.Exact.{same_Some}
 use Rattle.quanta.specs.declared.interval.Interval.{Interval}
@@ -58,75 +56,82 @@ same_spans a b w r m s v = rw (w, r, m, s, v) refl
 abbrev pub events_in : List Turn → List Turn → List TraceEvent
 events_in these later = flat_map cycle_events (cycles_on these later)
 
-module _ (these all : List Turn) (d q : Turn) (k : ℕ) (l : k < length all) (is : q ≡ get_or all k d) where
-  on : drop k all ≡ q ∷ drop (k + 1) all
-  on = drop_more all k d l ∙ ap (λ x. x ∷ drop (k + 1) all) (sym is)
-
+module _ (these : List Turn) (q : Turn) (later : List Turn) where
   abbrev step : Bool → List (List Turn)
-  step b = if b then these ∷ cycles_on (q ∷ []) (drop (k + 1) all) else cycles_on (these ++ q ∷ []) (drop (k + 1) all)
+  step b = if b then these ∷ cycles_on (q ∷ []) later else cycles_on (these ++ q ∷ []) later
 
   -- the next quantum opens a cycle
-  pub opened_on : (events : List TraceEvent) → events ≡ cycle_events these → q.1.opens_cycle ≡ true → events_in these (drop k all) ≡ events ++ events_in (q ∷ []) (drop (k + 1) all)
-  opened_on events e opens =
-      ap (events_in these) on ∙ ap (λ b. flat_map cycle_events (step b)) opens ∙ ap (λ es. es ++ events_in (q ∷ []) (drop (k + 1) all)) (sym e)
+  opened_on : (events : List TraceEvent) → events ≡ cycle_events these → q.1.opens_cycle ≡ true → events_in these (q ∷ later) ≡ events ++ events_in (q ∷ []) later
+  opened_on events e opens = ap (λ b. flat_map cycle_events (step b)) opens ∙ ap (λ es. es ++ events_in (q ∷ []) later) (sym e)
 
   -- or it goes on with one
-  pub gone_on : q.1.opens_cycle ≡ false → events_in these (drop k all) ≡ events_in (these ++ q ∷ []) (drop (k + 1) all)
-  gone_on opens = ap (events_in these) on ∙ ap (λ b. flat_map cycle_events (step b)) opens
+  gone_on : q.1.opens_cycle ≡ false → events_in these (q ∷ later) ≡ events_in (these ++ q ∷ []) later
+  gone_on opens = ap (λ b. flat_map cycle_events (step b)) opens
 
--- a quantum in two slices is one of the pairs
-below : (k a b : ℕ) → k < a → k < b → k < min a b
-below k a b l m = grind (arith, l, m)
+-- what two slices have left, pair by pair: one more, where each of them has one more
+pub next_turn : {quanta later : List Interval} {starts behind : List QuantumStart} (q : Turn) → (quanta ≡ q.0 ∷ later) × (starts ≡ q.1 ∷ behind) → zip quanta starts ≡ q ∷ zip later behind
+next_turn q more = ap₂ (λ (a : List Interval) (b : List QuantumStart). zip a b) more.0 more.1
 
-pub turn_within : (quanta : List Interval) (starts : List QuantumStart) (k : ℕ) → k < length quanta → k < length starts → k < length (zip quanta starts)
-turn_within quanta starts k l m = subst (λ n. k < n) (sym (length-zip quanta starts)) (below k (length quanta) (length starts) l m)
+-- or none, where one of them has none
+pub no_turn : (quanta : List Interval) (starts : List QuantumStart) → (quanta ≡ []) ⊎ (starts ≡ []) → zip quanta starts ≡ []
+no_turn [] starts none = refl
+no_turn (i ∷ later) starts (inl e) = absurd (cc)
+no_turn (i ∷ later) starts (inr e) = ap (λ (b : List QuantumStart). zip (i ∷ later) b) e
 
-pub turn_is : (quanta : List Interval) (starts : List QuantumStart) (k : ℕ) (q : Turn) → k < length quanta → k < length starts → q.0 ≡ get_or quanta k q.0 → q.1 ≡ get_or starts k q.1 → q ≡ get_or (zip quanta starts) k q
-turn_is quanta starts k q l m e f =
-    ap (λ (i : Interval). (i, q.1)) e ∙ ap (λ (s : QuantumStart). (get_or quanta k q.0, s)) f ∙ sym (get_or-zip quanta starts k q l m)
-
--- none is left
-pub none_left : (quanta : List Interval) (starts : List QuantumStart) (k : ℕ) → k ≡ min (length quanta) (length starts) → drop k (zip quanta starts) ≡ []
-none_left quanta starts k e = drop_all k (zip quanta starts) (let n = length-zip quanta starts in omega (arith, e, n))
-
--- The events of the cycles before one are written; it has these quanta so far, of which k were gone through.
-abbrev pub IsOn : List ℕ → List ℕ → List Turn → CycleSpans → ℕ → Type 0
-IsOn old new all cycle k =
-    (these : List Turn) × (cycle ≡ spans_of these) × SoFar json_text old new (events_in [] all) (events_in these (drop k all))
+-- The events of the cycles before one are written; it has these quanta so far, and the others are left.
+pub record IsOn (old new : List ℕ) (all left : List Turn) (cycle : CycleSpans) : Type 0 where
+  pub these : List Turn
+  pub has : cycle ≡ spans_of these
+  pub written : SoFar json_text old new (events_in [] all) (events_in these left)
 
 -- a cycle's events
-its_events : (these : List Turn) (cycle : CycleSpans) → cycle ≡ spans_of these → present (span_events cycle) ≡ cycle_events these
-its_events these cycle e = ap (λ c. present (span_events c)) e
+its_events : (these : List Turn) (cycle : CycleSpans) (events : List (Option TraceEvent)) → cycle ≡ spans_of these → events ≡ span_events cycle → present events ≡ cycle_events these
+its_events these cycle events has draws = ap present draws ∙ ap (λ c. present (span_events c)) has
 
-pub first_on : (old : List ℕ) (all : List Turn) (cycle : CycleSpans) → cycle ≡ spans_of [] → IsOn old old all cycle 0
-first_on old all cycle e = ([], e, none_yet json_is old (events_in [] all))
+-- before the first turn
+pub first_on : (old : List ℕ) {quanta quanta' : List Interval} {starts starts' : List QuantumStart} (cycle : CycleSpans) → quanta' ≡ quanta → starts' ≡ starts → cycle ≡ spans_of [] → IsOn old old (zip quanta starts) (zip quanta' starts') cycle
+first_on old {quanta} {quanta'} {starts} {starts'} cycle q s has =
+    let left : zip quanta' starts' ≡ zip quanta starts = ap₂ (λ (a : List Interval) (b : List QuantumStart). zip a b) q s in
+    record {
+      these = [];
+      has = has;
+      written = subst (λ (turns : List Turn). SoFar json_text old old (events_in [] turns) (events_in [] (zip quanta' starts'))) left (none_yet json_is old (events_in [] (zip quanta' starts')));
+    }
 
-module _ (old mid : List ℕ) (all : List Turn) (cycle : CycleSpans) (k : ℕ) (on : IsOn old mid all cycle k) where
-  module _ (q : Turn) (l : k < length all) (is : q ≡ get_or all k q) where
-    pub goes_on : (next : CycleSpans) → q.1.opens_cycle ≡ false → ((these : List Turn) → cycle ≡ spans_of these → next ≡ spans_of (these ++ q ∷ [])) → IsOn old mid all next (k + 1)
-    goes_on next opens longer =
-        (on.0 ++ q ∷ [], longer on.0 on.1, subst (SoFar json_text old mid (events_in [] all)) (gone_on on.0 all q q k l is opens) on.2)
+module _ {old mid : List ℕ} {all left : List Turn} {cycle : CycleSpans} (on : IsOn old mid all left cycle) where
+  module _ {q : Turn} {later : List Turn} (next : left ≡ q ∷ later) (new : List ℕ) where
+    -- the next quantum goes on with the cycle
+    pub goes_on : (longer : CycleSpans) → q.1.opens_cycle ≡ false → ((these : List Turn) → cycle ≡ spans_of these → longer ≡ spans_of (these ++ q ∷ [])) → new ≡ mid → IsOn old new all later longer
+    goes_on longer opens with_it same =
+        let behind : events_in on.these left ≡ events_in (on.these ++ q ∷ []) later = ap (events_in on.these) next ∙ gone_on on.these q later opens in
+        let here : SoFar json_text old mid (events_in [] all) (events_in (on.these ++ q ∷ []) later) = subst (SoFar json_text old mid (events_in [] all)) behind on.written in
+        record {
+          these = on.these ++ q ∷ [];
+          has = with_it on.these on.has;
+          written = subst (λ (t : List ℕ). SoFar json_text old t (events_in [] all) (events_in (on.these ++ q ∷ []) later)) (sym same) here;
+        }
 
-    module _ (opens : q.1.opens_cycle ≡ true) (new : List ℕ) where
-      behind : events_in on.0 (drop k all) ≡ present (span_events cycle) ++ events_in (q ∷ []) (drop (k + 1) all)
-      behind = opened_on on.0 all q q k l is (present (span_events cycle)) (its_events on.0 cycle on.1) opens
+    -- or it opens the next one
+    module _ (opens : q.1.opens_cycle ≡ true) (events : List (Option TraceEvent)) (draws : events ≡ span_events cycle) where
+      behind : events_in on.these left ≡ present events ++ events_in (q ∷ []) later
+      behind = ap (events_in on.these) next ∙ opened_on on.these q later (present events) (its_events on.these cycle events on.has draws) opens
 
-      pub opens_next : (next : CycleSpans) → next ≡ spans_of (q ∷ []) → new ≡ mid ++ json_text (present (span_events cycle)) → IsOn old new all next (k + 1)
-      opens_next next e written = (q ∷ [], e, further json_is old mid _ _ on.2 (present (span_events cycle)) (events_in (q ∷ []) (drop (k + 1) all)) behind new written)
+      pub opens_next : (first : CycleSpans) → first ≡ spans_of (q ∷ []) → new ≡ mid ++ json_text (present events) → IsOn old new all later first
+      opens_next first has written =
+          record { these = q ∷ []; has = has; written = further json_is old mid _ _ on.written (present events) (events_in (q ∷ []) later) behind new written }
 
-      pub opening_cut : GrowsByPart mid new (json_text (present (span_events cycle))) → GrowsByPart old new (json_text (events_in [] all))
-      opening_cut g = cut_short json_is old mid _ _ on.2 (present (span_events cycle)) (events_in (q ∷ []) (drop (k + 1) all)) behind new g
+      pub opening_cut : GrowsByPart mid new (json_text (present events)) → GrowsByPart old new (json_text (events_in [] all))
+      opening_cut g = cut_short json_is old mid _ _ on.written (present events) (events_in (q ∷ []) later) behind new g
 
-  -- the last cycle
-  module _ (none : drop k all ≡ []) (new : List ℕ) where
-    left : events_in on.0 (drop k all) ≡ present (span_events cycle)
-    left = ap (events_in on.0) none ∙ append-nil (cycle_events on.0) ∙ sym (its_events on.0 cycle on.1)
+  -- none is left: that was the last cycle
+  module _ (none : left ≡ []) (new : List ℕ) (events : List (Option TraceEvent)) (draws : events ≡ span_events cycle) where
+    at_last : SoFar json_text old mid (events_in [] all) (present events)
+    at_last =
+        let rest : events_in on.these left ≡ present events = ap (events_in on.these) none ∙ append-nil (cycle_events on.these) ∙ sym (its_events on.these cycle events on.has draws) in
+        subst (SoFar json_text old mid (events_in [] all)) rest on.written
 
-    at_last : SoFar json_text old mid (events_in [] all) (present (span_events cycle))
-    at_last = subst (SoFar json_text old mid (events_in [] all)) left on.2
+    pub last_written : new ≡ mid ++ json_text (present events) → new ≡ old ++ json_text (events_in [] all)
+    last_written e = to_last json_is old mid (events_in [] all) (present events) at_last new e
 
-    pub last_written : new ≡ mid ++ json_text (present (span_events cycle)) → new ≡ old ++ json_text (events_in [] all)
-    last_written e = to_last json_is old mid (events_in [] all) (present (span_events cycle)) at_last new e
-
-    pub last_cut : GrowsByPart mid new (json_text (present (span_events cycle))) → GrowsByPart old new (json_text (events_in [] all))
-    last_cut g = in_last json_is old mid (events_in [] all) (present (span_events cycle)) at_last new g
+    pub last_cut : GrowsByPart mid new (json_text (present events)) → GrowsByPart old new (json_text (events_in [] all))
+    last_cut g = in_last json_is old mid (events_in [] all) (present events) at_last new g

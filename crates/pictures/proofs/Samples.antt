@@ -1,20 +1,19 @@
 -- What is drawn of samples, one after the other.
 use Rattle.std.proofs.Common.{◌≡◌, ◌≤◌, ◌⊎◌, inl, inr, set, subst, arith, Bool, is_some, ℕ, zero, suc, ◌+◌, ◌-◌, ◌*◌, ◌<◌, List, [], ◌∷◌, ◌++◌, Option, Some, length, drop, get_or, slice_get, ap, ◌∙◌, sym, refl}
 use Rattle.std.specs.List.{list_any}
-use Rattle.std.proofs.lemmas.List.{drop_more, get_or-set_same, get_or-set_other}
+use Rattle.std.proofs.Math.Bool.{or_assoc, or-false}
+use Rattle.std.proofs.lemmas.List.{drop_more, drop_all, get_or-set_same, get_or-set_other}
 use Rattle.pictures.specs.declared.axis.Axis.{Axis}
-use Rattle.pictures.specs.declared.colour.Colour.TheVariants.{Sky, Blue, Green, Yellow, Orange, Purple}
+use Rattle.pictures.specs.declared.colour.Colour.TheVariants.{Blue, Green, Yellow, Orange, Purple}
 use Rattle.pictures.specs.declared.element.Element.{Element}
-use Rattle.pictures.specs.declared.element.Element.TheVariants.{Rectangle, Veil}
+use Rattle.pictures.specs.declared.element.Element.TheVariants.{Veil}
 use Rattle.pictures.specs.declared.over_time.Scale.{Scale}
-use Rattle.pictures.specs.declared.caption.Words.TheVariants.{LeastPages, MostPages, Objects, Roots, Marking, Sweeping, Moving}
 use Rattle.pictures.specs.declared.sample.Phases.{Phases}
 use Rattle.pictures.specs.declared.sample.Sample.{Sample}
-use Rattle.pictures.specs.Joining.{joined}
+use Rattle.pictures.specs.Joining.{all_phases, joined}
 use Rattle.pictures.specs.Axes.{step_of, line_x, height_of, axis_number, numbers_from}
-use Rattle.pictures.specs.Frame.{swatch, meaning, told_if}
 use Rattle.pictures.specs.Lines.{present}
-use Rattle.pictures.specs.OverTime.{rises, phases_in, time_legend, more_pages, phase_band, objects_dash, next_x, sample_marks, samples_from}
+use Rattle.pictures.specs.OverTime.{rises, phases_in, legend_of, time_legend, more_pages, phase_band, objects_dash, next_x, sample_marks, samples_from}
 
 -- what is drawn of a sample, in parts
 pub marks_are : (scale : Scale) (s : Sample) (end x width low high : ℕ) → x ≡ line_x s.line scale.lines → width ≡ end - line_x s.line scale.lines → low ≡ height_of s.least_pages scale.pages → high ≡ height_of s.most_pages scale.pages
@@ -24,15 +23,24 @@ marks_are scale s end x width low high at wide least most = rw (at, wide, least,
 
 -- the legend, in parts
 pub legend_are : (scale : Scale) (samples : List Sample) (most counted : Bool) (phases : Phases) → most ≡ list_any (rises scale) samples → counted ≡ list_any (λ s. is_some s.objects) samples → phases ≡ phases_in samples
-    → Some (swatch 0 Sky) ∷ Some (meaning 0 LeastPages)
-    ∷ told_if most (Veil 150 48 14 14 23 Blue) ∷ told_if most (meaning 1 MostPages)
-    ∷ told_if counted (Rectangle 280 54 14 3 Blue) ∷ told_if counted (meaning 2 Objects)
-    ∷ told_if phases.roots (swatch 3 Yellow) ∷ told_if phases.roots (meaning 3 Roots)
-    ∷ told_if phases.marking (swatch 4 Orange) ∷ told_if phases.marking (meaning 4 Marking)
-    ∷ told_if phases.sweeping (swatch 5 Green) ∷ told_if phases.sweeping (meaning 5 Sweeping)
-    ∷ told_if phases.moving (swatch 6 Purple) ∷ told_if phases.moving (meaning 6 Moving) ∷ []
-    ≡ time_legend scale samples
+    → legend_of most counted phases ≡ time_legend scale samples
 legend_are scale samples most counted phases rise count are = rw (rise, count, are) refl
+
+-- the phases of three, whichever are taken together first
+pub phases_of_three : (a b c : Phases) → all_phases (all_phases a b) c ≡ all_phases a (all_phases b c)
+phases_of_three a b c = rw (or_assoc a.roots b.roots c.roots, or_assoc a.marking b.marking c.marking, or_assoc a.sweeping b.sweeping c.sweeping, or_assoc a.moving b.moving c.moving) refl
+
+-- the phases so far, with those of the next sample, and those behind it
+pub phases_on : (samples : List Sample) (d : Sample) (k : ℕ) (so_far more : Phases) → k < length samples → more ≡ all_phases so_far (get_or samples k d).phases
+    → all_phases more (phases_in (drop (k + 1) samples)) ≡ all_phases so_far (phases_in (drop k samples))
+phases_on samples d k so_far more l is =
+    let behind = phases_in (drop (k + 1) samples) in
+    ap (λ p. all_phases p behind) is ∙ phases_of_three so_far (get_or samples k d).phases behind ∙ ap (λ later. all_phases so_far (phases_in later)) (sym (drop_more samples k d l))
+
+-- or they are all
+pub phases_last : (samples : List Sample) (k : ℕ) (so_far : Phases) → length samples ≤ k → all_phases so_far (phases_in (drop k samples)) ≡ so_far
+phases_last samples k so_far none =
+    ap (λ later. all_phases so_far (phases_in later)) (drop_all k samples none) ∙ rw (or-false so_far.roots, or-false so_far.marking, or-false so_far.sweeping, or-false so_far.moving) refl
 
 -- the first item behind some
 get_drop : {A : Type 0} (k : ℕ) (xs : List A) → slice_get (drop k xs) 0 ≡ slice_get xs k

@@ -19,24 +19,39 @@ use Rattle.pictures.specs.Utilisation.{span_of}
 abbrev pub process_line : List ℕ
 process_line = codes "{\"name\":\"process_name\",\"ph\":\"M\",\"pid\":1,\"args\":{\"name\":\"metronome\"}},"
 
--- the name of a row: of the quanta, of the mutators' ticks, of cycles, or of their phases
+-- the number of a row: of the quanta, of the mutators' ticks, of cycles, or of their phases
+abbrev pub row_number : Row → ℕ
+row_number Collector = 1
+row_number Mutators = 2
+row_number Cycles = 3
+row_number Phases = 4
+
+-- a row, by its number, with a name
+abbrev pub row_text : Row → List ℕ → List ℕ
+row_text row name =
+    codes "{\"name\":\"thread_name\",\"ph\":\"M\",\"pid\":1,\"tid\":" ++ decimal (row_number row)
+    ++ codes ",\"args\":{\"name\":\"" ++ name ++ codes "\"}},"
+
+-- a row, with its name
 abbrev pub row_line : Row → List ℕ
-row_line Collector = codes "{\"name\":\"thread_name\",\"ph\":\"M\",\"pid\":1,\"tid\":1,\"args\":{\"name\":\"collector\"}},"
-row_line Mutators = codes "{\"name\":\"thread_name\",\"ph\":\"M\",\"pid\":1,\"tid\":2,\"args\":{\"name\":\"mutators\"}},"
-row_line Cycles = codes "{\"name\":\"thread_name\",\"ph\":\"M\",\"pid\":1,\"tid\":3,\"args\":{\"name\":\"cycles\"}},"
-row_line Phases = codes "{\"name\":\"thread_name\",\"ph\":\"M\",\"pid\":1,\"tid\":4,\"args\":{\"name\":\"phases\"}},"
+row_line Collector = row_text Collector (codes "collector")
+row_line Mutators = row_text Mutators (codes "mutators")
+row_line Cycles = row_text Cycles (codes "cycles")
+row_line Phases = row_text Phases (codes "phases")
 
--- a quantum: when it begins, and how many ticks it takes
-abbrev pub quantum_line : ℕ → ℕ → List ℕ
-quantum_line start ticks =
-    codes "{\"name\":\"quantum\",\"ph\":\"X\",\"ts\":" ++ decimal start ++ codes ",\"dur\":" ++ decimal ticks
-    ++ codes ",\"pid\":1,\"tid\":1},"
+-- how many ticks an event takes, and its row: the end of its text
+abbrev pub length_text : ℕ → Row → List ℕ
+length_text ticks row =
+    codes ",\"dur\":" ++ decimal ticks ++ codes ",\"pid\":1,\"tid\":" ++ decimal (row_number row) ++ codes "}"
 
--- ticks of the mutators, on their row
-abbrev pub between_text : ℕ → ℕ → List ℕ
-between_text start ticks =
-    codes "{\"name\":\"mutators\",\"ph\":\"X\",\"ts\":" ++ decimal start ++ codes ",\"dur\":" ++ decimal ticks
-    ++ codes ",\"pid\":1,\"tid\":2}"
+-- an event that takes ticks: its name and its row, when it begins, and how many ticks it takes
+abbrev pub ticks_text : List ℕ → Row → ℕ → ℕ → List ℕ
+ticks_text name row start ticks =
+    codes "{\"name\":\"" ++ name ++ codes "\",\"ph\":\"X\",\"ts\":" ++ decimal start ++ length_text ticks row
+
+-- an event that takes ticks, and behind which others stand
+abbrev pub ticks_line : List ℕ → Row → ℕ → ℕ → List ℕ
+ticks_line name row start ticks = ticks_text name row start ticks ++ codes ","
 
 -- a share of the mutators in thousandths, from a tick on
 abbrev pub share_line : ℕ → ℕ → List ℕ
@@ -44,34 +59,24 @@ share_line tick permille =
     codes "{\"name\":\"utilisation\",\"ph\":\"C\",\"ts\":" ++ decimal tick ++ codes ",\"pid\":1,\"args\":{\"permille\":"
     ++ decimal permille ++ codes "}},"
 
--- what stands before the beginning of a cycle or of a phase: its name
-abbrev pub span_head : Span → List ℕ
-span_head spans.Cycle = codes "{\"name\":\"cycle\",\"ph\":\"X\",\"ts\":"
-span_head spans.Roots = codes "{\"name\":\"roots\",\"ph\":\"X\",\"ts\":"
-span_head spans.Marking = codes "{\"name\":\"marking\",\"ph\":\"X\",\"ts\":"
-span_head spans.Sweeping = codes "{\"name\":\"sweeping\",\"ph\":\"X\",\"ts\":"
-span_head spans.Moving = codes "{\"name\":\"moving\",\"ph\":\"X\",\"ts\":"
-
--- what stands behind its ticks: its row
-abbrev pub span_tail : Span → List ℕ
-span_tail spans.Cycle = codes ",\"pid\":1,\"tid\":3},"
-span_tail phase = codes ",\"pid\":1,\"tid\":4},"
-
 -- a cycle or a phase: when it begins, and how many ticks it takes
 abbrev pub span_line : Span → ℕ → ℕ → List ℕ
-span_line span start ticks =
-    span_head span ++ decimal start ++ codes ",\"dur\":" ++ decimal ticks ++ span_tail span
+span_line spans.Cycle start ticks = ticks_line (codes "cycle") Cycles start ticks
+span_line spans.Roots start ticks = ticks_line (codes "roots") Phases start ticks
+span_line spans.Marking start ticks = ticks_line (codes "marking") Phases start ticks
+span_line spans.Sweeping start ticks = ticks_line (codes "sweeping") Phases start ticks
+span_line spans.Moving start ticks = ticks_line (codes "moving") Phases start ticks
 
 -- an event as a line of text: each but the last has a comma behind it
 abbrev pub event_line : TraceEvent → List ℕ
 event_line Open = codes "{\"traceEvents\":["
 event_line Process = process_line
 event_line (Row_name row) = row_line row
-event_line (Quantum start ticks) = quantum_line start ticks
-event_line (Between start ticks) = between_text start ticks ++ codes ","
+event_line (Quantum start ticks) = ticks_line (codes "quantum") Collector start ticks
+event_line (Between start ticks) = ticks_line (codes "mutators") Mutators start ticks
 event_line (Share tick permille) = share_line tick permille
 event_line (Span_of span start ticks) = span_line span start ticks
-event_line (Rest start ticks) = between_text start ticks
+event_line (Rest start ticks) = ticks_text (codes "mutators") Mutators start ticks
 event_line Close = codes "]}"
 
 -- The events of a quantum, by the end of the one before it: the mutators' ticks between these ends, and the collector's;

@@ -11,7 +11,7 @@ use Rattle.pictures.specs.declared.caption.Words.TheVariants.{HeapOverTime, Page
 use Rattle.pictures.specs.declared.caption.Caption.TheVariants.{Words}
 use Rattle.pictures.specs.declared.element.Anchor.TheVariants.{Start, Middle, End}
 use Rattle.pictures.specs.declared.element.Element.{Element}
-use Rattle.pictures.specs.declared.element.Element.TheVariants.{Rectangle, Veil, Text, Close}
+use Rattle.pictures.specs.declared.element.Element.TheVariants.{Rectangle, Veil, Text}
 use Rattle.pictures.specs.declared.sample.Phases.{Phases}
 use Rattle.pictures.specs.declared.sample.Sample.{Sample}
 use Rattle.pictures.specs.declared.over_time.Scale.{Scale}
@@ -19,7 +19,7 @@ use Rattle.pictures.specs.declared.over_time.TheConstants.{MOST_SAMPLES}
 use Rattle.pictures.specs.Axes.{line_x, height_of, axis_numbers}
 use Rattle.pictures.specs.Joining.{phases_of}
 use Rattle.pictures.specs.Elements.{svg_text}
-use Rattle.pictures.specs.Frame.{frame, swatch, meaning, told_if}
+use Rattle.pictures.specs.Frame.{chart_of, swatch, meaning, told_if}
 use Rattle.pictures.specs.Lines.{present}
 
 -- what a heap is like after a line: the phase of its cycle, its pages in use and, where they are counted, its objects
@@ -80,12 +80,10 @@ phases_in samples = record {
   moving = list_any (λ s. s.phases.moving) samples;
 }
 
--- what the colours mean that are drawn; objects stand in the legend as the dash that they are
-abbrev pub time_legend : Scale → List Sample → List (Option Element)
-time_legend scale samples =
-    let most = list_any (rises scale) samples in
-    let counted = list_any (λ s. is_some s.objects) samples in
-    let phases = phases_in samples in
+-- what the colours mean, where it is known whether pages rise, whether objects are counted, and which phases there are;
+-- objects stand in the legend as the dash that they are
+abbrev pub legend_of : Bool → Bool → Phases → List (Option Element)
+legend_of most counted phases =
     Some (swatch 0 Sky) ∷ Some (meaning 0 LeastPages)
     ∷ told_if most (Veil 150 48 14 14 23 Blue) ∷ told_if most (meaning 1 MostPages)
     ∷ told_if counted (Rectangle 280 54 14 3 Blue) ∷ told_if counted (meaning 2 Objects)
@@ -93,6 +91,11 @@ time_legend scale samples =
     ∷ told_if phases.marking (swatch 4 Orange) ∷ told_if phases.marking (meaning 4 Marking)
     ∷ told_if phases.sweeping (swatch 5 Green) ∷ told_if phases.sweeping (meaning 5 Sweeping)
     ∷ told_if phases.moving (swatch 6 Purple) ∷ told_if phases.moving (meaning 6 Moving) ∷ []
+
+-- what the colours mean that are drawn of samples
+abbrev pub time_legend : Scale → List Sample → List (Option Element)
+time_legend scale samples =
+    legend_of (list_any (rises scale) samples) (list_any (λ s. is_some s.objects) samples) (phases_in samples)
 
 -- the numbers of the axes, and the samples
 abbrev pub time_shown : Scale → List Sample → List Element
@@ -104,10 +107,6 @@ time_shown scale samples =
 abbrev pub time_drawn : Scale → List Sample → List Element
 time_drawn scale samples = present (time_legend scale samples) ++ time_shown scale samples
 
--- what stands around the picture of a heap over time
-abbrev pub time_frame : List Element
-time_frame = frame 1200 528 HeapOverTime
-
 -- the names of the axes
 abbrev pub time_axes : List Element
 time_axes =
@@ -117,7 +116,7 @@ time_axes =
 
 -- the elements of the picture of a heap over time
 abbrev pub time_chart : Scale → List Sample → List Element
-time_chart scale samples = time_frame ++ (time_axes ++ (time_drawn scale samples ++ Close ∷ []))
+time_chart scale samples = chart_of 1200 528 HeapOverTime time_axes (time_drawn scale samples)
 
 -- the text of the picture, which has the first samples alone
 abbrev pub time_picture : Scale → List Sample → List ℕ

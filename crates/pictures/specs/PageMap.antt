@@ -15,7 +15,7 @@ use Rattle.pictures.specs.declared.caption.Words.TheVariants.{PagesOfTheHeap, Ev
 use Rattle.pictures.specs.declared.caption.Caption.TheVariants.{Number, OldCopies, Heap, Free, Page as Page_caption}
 use Rattle.pictures.specs.declared.element.Anchor.TheVariants.{Start, End}
 use Rattle.pictures.specs.declared.element.Element.{Element}
-use Rattle.pictures.specs.declared.element.Element.TheVariants.{Group, Rectangle, Veil, Text, GroupEnd, Path, VeilPath, Stroke, PathEnd, Close}
+use Rattle.pictures.specs.declared.element.Element.TheVariants.{Group, Rectangle, Veil, Text, GroupEnd, Path, VeilPath, Stroke, PathEnd}
 use Rattle.pictures.specs.declared.layers.Layer.{Layer}
 use Rattle.pictures.specs.declared.layers.Layer.TheVariants.{Free as Free_layer, InUse, Target, Evacuating}
 use Rattle.pictures.specs.declared.layers.TheConstants.{LAYERS}
@@ -23,7 +23,7 @@ use Rattle.pictures.specs.declared.squares.Squares.{Squares}
 use Rattle.pictures.specs.declared.squares.Squares.TheVariants.{Small}
 use Rattle.pictures.specs.Captions.{phase_words}
 use Rattle.pictures.specs.Elements.{svg_text}
-use Rattle.pictures.specs.Frame.{frame, swatch, meaning, told_if}
+use Rattle.pictures.specs.Frame.{chart_of, swatch, meaning, told_if}
 use Rattle.pictures.specs.Lines.{each_from, present}
 use Rattle.pictures.specs.Squares.{squares_for, scale_of, row_of, square_x, square_y, map_height}
 
@@ -154,10 +154,6 @@ abbrev pub squares_shown : Squares → List (Option Page) → List Element
 squares_shown Small pages = row_numbers pages ++ layers_shown pages LAYERS
 squares_shown squares pages = each_shown squares pages
 
--- what stands around the map of pages
-abbrev pub map_frame : HeapState → List Element
-map_frame h = frame 1200 (map_height (length h.store.pages)) PagesOfTheHeap
-
 -- what is said of the numbers in squares: small ones have none
 abbrev pub number_words : Squares → Words
 number_words Small = NoNumbers
@@ -201,10 +197,7 @@ map_squares h = squares_shown (squares_for (length h.store.pages)) h.store.pages
 abbrev pub map_shown : HeapState → List Element
 map_shown h = present (map_legend h) ++ map_squares h
 
--- the elements of the picture of pages
-abbrev pub page_map : HeapState → List Element
-page_map h = map_frame h ++ (map_told h ++ (map_shown h ++ Close ∷ []))
-
--- the text of the picture
+-- the text of the picture of pages
 abbrev pub pages_picture : HeapState → List ℕ
-pages_picture h = svg_text (page_map h)
+pages_picture h =
+    svg_text (chart_of 1200 (map_height (length h.store.pages)) PagesOfTheHeap (map_told h) (map_shown h))

@@ -7,12 +7,12 @@ use Rattle.pictures.specs.declared.caption.Caption.{Caption}
 use Rattle.pictures.specs.declared.caption.Caption.TheVariants.{Words, Number, Tenths}
 use Rattle.pictures.specs.declared.element.Anchor.TheVariants.{Middle}
 use Rattle.pictures.specs.declared.element.Element.{Element}
-use Rattle.pictures.specs.declared.element.Element.TheVariants.{Rectangle, Text, Close}
+use Rattle.pictures.specs.declared.element.Element.TheVariants.{Rectangle, Text}
 use Rattle.pictures.specs.declared.plan_bars.PlanBar.{PlanBar}
 use Rattle.pictures.specs.declared.plan_bars.PlanFigures.{PlanFigures}
 use Rattle.pictures.specs.Axes.{height_of, axis_numbers}
 use Rattle.pictures.specs.Elements.{svg_text}
-use Rattle.pictures.specs.Frame.{frame, swatch, meaning}
+use Rattle.pictures.specs.Frame.{chart_of, swatch, meaning}
 use Rattle.pictures.specs.Lines.{each_from}
 
 -- how many words a plan allows for each quantum; 0 where there is no plan
@@ -71,14 +71,6 @@ plans_told =
     swatch 0 Blue ∷ meaning 0 WordsForAQuantum ∷ meaning 2 UnitsForAWord ∷ Text 610 458 11 Middle (Words NumberOfPages)
     ∷ []
 
--- what stands around the picture of plans
-abbrev pub plans_frame : List Element
-plans_frame = frame 1200 470 PlansOfAHeap
-
--- the elements of the picture of plans
-abbrev pub plans_chart : List PlanBar → List Element
-plans_chart bars = plans_frame ++ (plans_told ++ (plans_shown bars ++ Close ∷ []))
-
--- the text of the picture
+-- the text of the picture of plans
 abbrev pub bars_picture : List PlanBar → List ℕ
-bars_picture bars = svg_text (plans_chart bars)
+bars_picture bars = svg_text (chart_of 1200 470 PlansOfAHeap plans_told (plans_shown bars))

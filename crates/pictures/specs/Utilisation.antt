@@ -9,11 +9,11 @@ use Rattle.pictures.specs.declared.caption.Words.TheVariants.{LeastUtilisation, 
 use Rattle.pictures.specs.declared.caption.Caption.TheVariants.{Words, Number, Percent}
 use Rattle.pictures.specs.declared.element.Anchor.TheVariants.{Start, Middle, End}
 use Rattle.pictures.specs.declared.element.Element.{Element}
-use Rattle.pictures.specs.declared.element.Element.TheVariants.{Rectangle, Line, Dot, Text, Close}
+use Rattle.pictures.specs.declared.element.Element.TheVariants.{Rectangle, Line, Dot, Text}
 use Rattle.pictures.specs.declared.share.Share.{Share}
 use Rattle.pictures.specs.declared.share.TheConstants.{WINDOWS}
 use Rattle.pictures.specs.Elements.{svg_text}
-use Rattle.pictures.specs.Frame.{frame, meaning}
+use Rattle.pictures.specs.Frame.{chart_of, meaning}
 use Rattle.pictures.specs.Lines.{each_from}
 
 -- this many powers of ten from one on, each with two and five times as much
@@ -95,14 +95,6 @@ axes =
     ∷ Text 20 86 11 Start (Words MutatorsShare) ∷ Text 610 478 11 Middle (Words WindowTicks)
     ∷ []
 
--- what stands around the picture of utilisation
-abbrev pub chart_frame : List Element
-chart_frame = frame 1200 490 LeastUtilisation
-
--- the elements of the picture of utilisation
-abbrev pub share_chart : List Share → List Element
-share_chart shares = chart_frame ++ (axes ++ (shares_shown shares ++ Close ∷ []))
-
--- the text of the picture
+-- the text of the picture of utilisation
 abbrev pub utilisation_picture : List Share → List ℕ
-utilisation_picture shares = svg_text (share_chart shares)
+utilisation_picture shares = svg_text (chart_of 1200 490 LeastUtilisation axes (shares_shown shares))

@@ -1,9 +1,9 @@
 //! The quanta of a run, and its cycles with their phases, as events that viewers of traces read.
-ghost use Rattle.std.specs.Prelude.{◌≡◌, ◌≤◌, ◌<◌, ◌+◌, ◌-◌, ◌*◌, ◌/◌, ◌++◌, length, take, codes, decimal, OnOk, OnErr};
+ghost use Rattle.std.specs.Prelude.{◌≡◌, ◌≤◌, ◌<◌, ◌+◌, ◌-◌, ◌*◌, ◌/◌, ◌++◌, length, take, OnOk, OnErr};
 ghost use Rattle.streams.specs.Streams.{GrowsByPart, failed};
 ghost use Rattle.quanta.specs.Intervals.{IsRising};
 ghost use Rattle.quanta.specs.Timetable.{last_end};
-ghost use Rattle.pictures.specs.Events.{process_line, row_line, span_line, quantum_line, between_text, share_line, event_line, quantum_events, quanta_events, cycles_events, events_head, events_tail, json_text, events_picture};
+ghost use Rattle.pictures.specs.Events.{process_line, row_number, row_text, row_line, length_text, ticks_text, ticks_line, span_line, share_line, event_line, quantum_events, quanta_events, cycles_events, events_head, events_tail, json_text, events_picture};
 
 use crate::cycle_spans::write_cycles;
 use crate::writing::{DocumentLine, write_lines};
@@ -56,96 +56,81 @@ pub enum TraceEvent {
     Close,
 }
 
-/// Puts two numbers, each behind a text, and a text behind them.
-fn put_event(out: &mut [u8], first: &[u8], a: u64, second: &[u8], b: u64, last: &[u8]) -> usize
-    requires { length first.now + length second.now + length last.now + 40 ≤ length out.old }
-    ensures text { take result out.new ≡ first.now ++ decimal a ++ second.now ++ decimal b ++ last.now }
-    ensures place { result ≤ length first.now + length second.now + length last.now + 40 }
-{
-    let end = put_named(out, 0, first, a);
-    let end = put_named(out, end, second, b);
-    put(out, end, last)
+impl Row {
+    /// Its number.
+    fn number(self) -> u64
+        ensures { result ≡ row_number self }
+    {
+        match self {
+            Row::Collector => 1,
+            Row::Mutators => 2,
+            Row::Cycles => 3,
+            Row::Phases => 4,
+        }
+    }
 }
 
-/// Puts ticks of the mutators.
-fn put_between(out: &mut [u8], start: u64, ticks: u64) -> usize
-    requires { 256 ≤ length out.old }
-    ensures text { take result out.new ≡ between_text start ticks }
-    ensures place { result ≤ 120 }
-{
-    let head = b"{\"name\":\"mutators\",\"ph\":\"X\",\"ts\":";
-    let tail = b",\"pid\":1,\"tid\":2}";
-    put_event(out, head, start, b",\"dur\":", ticks, tail)
-}
-
-/// Puts a quantum.
-fn put_quantum(out: &mut [u8], start: u64, ticks: u64) -> usize
-    requires { 256 ≤ length out.old }
-    ensures text { take result out.new ≡ quantum_line start ticks }
+/// Puts a row, with a name.
+fn put_row_text(out: &mut [u8], row: Row, name: &[u8]) -> usize
+    requires out { 256 ≤ length out.old }
+    requires name { length name.now ≤ 16 }
+    ensures text { take result out.new ≡ row_text row name.now }
     ensures place { result < 256 }
 {
-    let head = b"{\"name\":\"quantum\",\"ph\":\"X\",\"ts\":";
-    let tail = b",\"pid\":1,\"tid\":1},";
-    put_event(out, head, start, b",\"dur\":", ticks, tail)
+    let head = b"{\"name\":\"thread_name\",\"ph\":\"M\",\"pid\":1,\"tid\":";
+    let end = put_named(out, 0, head, row.number());
+    let end = put(out, end, b",\"args\":{\"name\":\"");
+    let end = put(out, end, name);
+    put(out, end, b"\"}},")
 }
 
-/// Puts a share of the mutators.
-fn put_share(out: &mut [u8], tick: u64, permille: u64) -> usize
-    requires { 256 ≤ length out.old }
-    ensures text { take result out.new ≡ share_line tick permille }
-    ensures place { result < 256 }
-{
-    let head = b"{\"name\":\"utilisation\",\"ph\":\"C\",\"ts\":";
-    let middle = b",\"pid\":1,\"args\":{\"permille\":";
-    put_event(out, head, tick, middle, permille, b"}},")
-}
-
-/// Puts the name of a row.
+/// Puts a row, with its name.
 fn put_row(out: &mut [u8], row: Row) -> usize
     requires { 256 ≤ length out.old }
     ensures text { take result out.new ≡ row_line row }
     ensures place { result < 256 }
 {
     match row {
-        Row::Collector => {
-            let line =
-                b"{\"name\":\"thread_name\",\"ph\":\"M\",\"pid\":1,\"tid\":1,\"args\":{\"name\":\"collector\"}},";
-            put(out, 0, line)
-        }
-        Row::Mutators => {
-            let line =
-                b"{\"name\":\"thread_name\",\"ph\":\"M\",\"pid\":1,\"tid\":2,\"args\":{\"name\":\"mutators\"}},";
-            put(out, 0, line)
-        }
-        Row::Cycles => {
-            let line =
-                b"{\"name\":\"thread_name\",\"ph\":\"M\",\"pid\":1,\"tid\":3,\"args\":{\"name\":\"cycles\"}},";
-            put(out, 0, line)
-        }
-        Row::Phases => {
-            let line =
-                b"{\"name\":\"thread_name\",\"ph\":\"M\",\"pid\":1,\"tid\":4,\"args\":{\"name\":\"phases\"}},";
-            put(out, 0, line)
-        }
+        Row::Collector => put_row_text(out, row, b"collector"),
+        Row::Mutators => put_row_text(out, row, b"mutators"),
+        Row::Cycles => put_row_text(out, row, b"cycles"),
+        Row::Phases => put_row_text(out, row, b"phases"),
     }
 }
 
-/// Puts a cycle or a phase, by its head.
-fn put_phase(out: &mut [u8], head: &[u8], start: u64, ticks: u64) -> usize
+/// Puts how many ticks an event takes, and its row, at a place.
+fn put_length(out: &mut [u8], at: usize, ticks: u64, row: Row) -> usize
+    requires { at + 64 ≤ length out.old }
+    ensures text { take result out.new ≡ take at out.old ++ length_text ticks row }
+    ensures place { result ≤ at + 64 }
+{
+    let end = put_named(out, at, b",\"dur\":", ticks);
+    let end = put_named(out, end, b",\"pid\":1,\"tid\":", row.number());
+    put(out, end, b"}")
+}
+
+/// Puts an event that takes ticks.
+fn put_ticks(out: &mut [u8], name: &[u8], row: Row, start: u64, ticks: u64) -> usize
     requires out { 256 ≤ length out.old }
-    requires head { length head.now ≤ 64 }
-    ensures text { take result out.new
-        ≡ head.now ++ decimal start ++ codes ",\"dur\":" ++ decimal ticks ++ codes ",\"pid\":1,\"tid\":4}," }
+    requires name { length name.now ≤ 16 }
+    ensures text { take result out.new ≡ ticks_text name.now row start ticks }
+    ensures place { result ≤ 160 }
+{
+    let end = put(out, 0, b"{\"name\":\"");
+    let end = put(out, end, name);
+    let end = put_named(out, end, b"\",\"ph\":\"X\",\"ts\":", start);
+    put_length(out, end, ticks, row)
+}
+
+/// Puts an event that takes ticks, and behind which others stand.
+fn put_ticks_line(out: &mut [u8], name: &[u8], row: Row, start: u64, ticks: u64) -> usize
+    requires out { 256 ≤ length out.old }
+    requires name { length name.now ≤ 16 }
+    ensures text { take result out.new ≡ ticks_line name.now row start ticks }
     ensures place { result < 256 }
 {
-    put_event(
-        out,
-        head,
-        start,
-        b",\"dur\":",
-        ticks,
-        b",\"pid\":1,\"tid\":4},",
-    )
+    let end = put_ticks(out, name, row, start, ticks);
+    put(out, end, b",")
 }
 
 /// Puts a cycle, or a phase of one.
@@ -155,36 +140,24 @@ fn put_span(out: &mut [u8], span: Span, start: u64, ticks: u64) -> usize
     ensures place { result < 256 }
 {
     match span {
-        Span::Cycle => {
-            let head = b"{\"name\":\"cycle\",\"ph\":\"X\",\"ts\":";
-            let tail = b",\"pid\":1,\"tid\":3},";
-            put_event(out, head, start, b",\"dur\":", ticks, tail)
-        }
-        Span::Roots => put_phase(
-            out,
-            b"{\"name\":\"roots\",\"ph\":\"X\",\"ts\":",
-            start,
-            ticks,
-        ),
-        Span::Marking => put_phase(
-            out,
-            b"{\"name\":\"marking\",\"ph\":\"X\",\"ts\":",
-            start,
-            ticks,
-        ),
-        Span::Sweeping => put_phase(
-            out,
-            b"{\"name\":\"sweeping\",\"ph\":\"X\",\"ts\":",
-            start,
-            ticks,
-        ),
-        Span::Moving => put_phase(
-            out,
-            b"{\"name\":\"moving\",\"ph\":\"X\",\"ts\":",
-            start,
-            ticks,
-        ),
+        Span::Cycle => put_ticks_line(out, b"cycle", Row::Cycles, start, ticks),
+        Span::Roots => put_ticks_line(out, b"roots", Row::Phases, start, ticks),
+        Span::Marking => put_ticks_line(out, b"marking", Row::Phases, start, ticks),
+        Span::Sweeping => put_ticks_line(out, b"sweeping", Row::Phases, start, ticks),
+        Span::Moving => put_ticks_line(out, b"moving", Row::Phases, start, ticks),
     }
+}
+
+/// Puts a share of the mutators.
+fn put_share(out: &mut [u8], tick: u64, permille: u64) -> usize
+    requires { 256 ≤ length out.old }
+    ensures text { take result out.new ≡ share_line tick permille }
+    ensures place { result < 256 }
+{
+    let head = b"{\"name\":\"utilisation\",\"ph\":\"C\",\"ts\":";
+    let end = put_named(out, 0, head, tick);
+    let end = put_named(out, end, b",\"pid\":1,\"args\":{\"permille\":", permille);
+    put(out, end, b"}},")
 }
 
 impl DocumentLine for TraceEvent {
@@ -199,14 +172,17 @@ impl DocumentLine for TraceEvent {
                 put(out, 0, line)
             }
             TraceEvent::Row(row) => put_row(out, row),
-            TraceEvent::Quantum(start, ticks) => put_quantum(out, start, ticks),
+            TraceEvent::Quantum(start, ticks) => {
+                put_ticks_line(out, b"quantum", Row::Collector, start, ticks)
+            }
             TraceEvent::Between(start, ticks) => {
-                let end = put_between(out, start, ticks);
-                put(out, end, b",")
+                put_ticks_line(out, b"mutators", Row::Mutators, start, ticks)
             }
             TraceEvent::Share(tick, permille) => put_share(out, tick, permille),
             TraceEvent::Span(span, start, ticks) => put_span(out, span, start, ticks),
-            TraceEvent::Rest(start, ticks) => put_between(out, start, ticks),
+            TraceEvent::Rest(start, ticks) => {
+                put_ticks(out, b"mutators", Row::Mutators, start, ticks)
+            }
             TraceEvent::Close => put(out, 0, b"]}"),
         }
     }

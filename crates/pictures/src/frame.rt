@@ -1,5 +1,5 @@
-//! What all pictures have: a title on white paper, and a legend.
-ghost use Rattle.std.specs.Prelude.{◌≡◌, ◌<◌, ◌+◌, ◌++◌, OnOk, OnErr};
+//! What all pictures have: a title on white paper, a legend, and an end.
+ghost use Rattle.std.specs.Prelude.{◌≡◌, ◌<◌, ◌+◌, ◌++◌, List, ⊤, OnOk, OnErr};
 ghost use Rattle.streams.specs.Streams.{GrowsByPart, failed};
 ghost use Rattle.pictures.specs.Elements.{svg_text};
 ghost use Rattle.pictures.specs.Frame as frames;
@@ -7,7 +7,7 @@ ghost use Rattle.pictures.specs.Frame as frames;
 use crate::caption::{Caption, Words};
 use crate::colour::Colour;
 use crate::element::{Anchor, Element};
-use crate::writing::write_lines;
+use crate::writing::{write_line, write_lines};
 use streams::{Sink, WriteFailed};
 
 /// The beginning of a picture of this width and height, with a title.
@@ -51,8 +51,26 @@ pub(crate) fn told_if(there: bool, element: Element) -> Option<Element>
     if there { Some(element) } else { None }
 }
 
+/// What a picture shows.
+pub(crate) trait Shown: Copy {
+    ghost use Rattle.pictures.specs.declared.element.Element.{Element};
+
+    /// What is asked of it.
+    ghost asked: { Self → Type 0 } = { λ _. ⊤ };
+
+    /// Its elements.
+    ghost drawn: { Self → List Element };
+
+    /// Writes these elements.
+    fn write<K: Sink>(self, sink: &mut K) -> Result<(), WriteFailed>
+        requires { asked self }
+        ensures ok { OnOk result (K.taken sink.new ≡ K.taken sink.old ++ svg_text (drawn self)) }
+        ensures err { OnErr result (GrowsByPart (K.taken sink.old) (K.taken sink.new) (svg_text (drawn self))) }
+        ensures cause { K.failures sink.new ≡ K.failures sink.old + failed result };
+}
+
 /// Writes the beginning of a picture of this width and height, with a title, and what it tells.
-pub(crate) fn write_head<K: Sink>(
+fn write_head<K: Sink>(
     width: u32,
     height: u32,
     title: Words,
@@ -67,4 +85,25 @@ pub(crate) fn write_head<K: Sink>(
 {
     write_lines(sink, &frame(width, height, title))?;
     write_lines(sink, told)
+}
+
+/// Writes a picture of this width and height: its title, what it tells and what it shows, and its end.
+pub(crate) fn write_chart<K: Sink, S: Shown>(
+    width: u32,
+    height: u32,
+    title: Words,
+    told: &[Element],
+    shown: S,
+    sink: &mut K,
+) -> Result<(), WriteFailed>
+    requires { S.asked shown }
+    ensures ok { OnOk result (K.taken sink.new
+        ≡ K.taken sink.old ++ svg_text (frames.chart_of width height title told.now (S.drawn shown))) }
+    ensures err { OnErr result (GrowsByPart (K.taken sink.old) (K.taken sink.new)
+        (svg_text (frames.chart_of width height title told.now (S.drawn shown)))) }
+    ensures cause { K.failures sink.new ≡ K.failures sink.old + failed result }
+{
+    write_head(width, height, title, told, sink)?;
+    shown.write(sink)?;
+    write_line(sink, Element::Close)
 }

@@ -11,9 +11,9 @@ use crate::axis::{Axis, height, write_axis, x_of};
 use crate::caption::{Caption, Words};
 use crate::colour::Colour;
 use crate::element::{Anchor, Element};
-use crate::frame::{meaning, swatch, told_if, write_head};
+use crate::frame::{Shown, meaning, swatch, told_if, write_chart};
 use crate::sample::{Phases, Sample};
-use crate::writing::{write_line, write_present};
+use crate::writing::write_present;
 use streams::{Sink, WriteFailed};
 
 /// How many samples a picture has at most.
@@ -161,40 +161,16 @@ fn any_counted(samples: &[Sample]) -> bool
 fn phases_in(samples: &[Sample]) -> Phases
     ensures { result ≡ pictures.phases_in samples.now }
 {
-    Phases {
-        roots: any_roots(samples),
-        marking: any_marking(samples),
-        sweeping: any_sweeping(samples),
-        moving: any_moving(samples),
+    let mut phases = Phases {
+        roots: false,
+        marking: false,
+        sweeping: false,
+        moving: false,
+    };
+    for sample in samples {
+        phases = phases.with(sample.phases);
     }
-}
-
-/// Whether some sample has the phase of roots.
-fn any_roots(samples: &[Sample]) -> bool
-    ensures { result ≡ list_any (λ s. s.phases.roots) samples.now }
-{
-    samples.iter().any(|sample| sample.phases.roots)
-}
-
-/// Whether some sample has the phase of marking.
-fn any_marking(samples: &[Sample]) -> bool
-    ensures { result ≡ list_any (λ s. s.phases.marking) samples.now }
-{
-    samples.iter().any(|sample| sample.phases.marking)
-}
-
-/// Whether some sample has the phase of sweeping.
-fn any_sweeping(samples: &[Sample]) -> bool
-    ensures { result ≡ list_any (λ s. s.phases.sweeping) samples.now }
-{
-    samples.iter().any(|sample| sample.phases.sweeping)
-}
-
-/// Whether some sample has the phase of moving.
-fn any_moving(samples: &[Sample]) -> bool
-    ensures { result ≡ list_any (λ s. s.phases.moving) samples.now }
-{
-    samples.iter().any(|sample| sample.phases.moving)
+    phases
 }
 
 /// What the colours mean that are drawn; objects stand there as the dash that they are.
@@ -235,15 +211,21 @@ fn write_shown<K: Sink>(scale: &Scale, samples: &[Sample], sink: &mut K) -> Resu
     write_samples(scale, samples, sink)
 }
 
-/// Writes the legend, and what it explains.
-fn write_drawn<K: Sink>(scale: &Scale, samples: &[Sample], sink: &mut K) -> Result<(), WriteFailed>
-    ensures ok { OnOk result (K.taken sink.new ≡ K.taken sink.old ++ svg_text (time_drawn scale.now samples.now)) }
-    ensures err { OnErr result (GrowsByPart (K.taken sink.old) (K.taken sink.new)
-        (svg_text (time_drawn scale.now samples.now))) }
-    ensures cause { K.failures sink.new ≡ K.failures sink.old + failed result }
-{
-    write_present(sink, &legend(scale, samples))?;
-    write_shown(scale, samples, sink)
+/// Samples, and the scale to which they are drawn.
+#[derive(Clone, Copy)]
+struct ScaledSamples<'a> {
+    scale: &'a Scale,
+    samples: &'a [Sample],
+}
+
+/// Of samples a picture shows the legend, and what it explains.
+impl<'a> Shown for ScaledSamples<'a> {
+    ghost drawn = { λ scaled. time_drawn scaled.scale.now scaled.samples.now };
+
+    fn write<K: Sink>(self, sink: &mut K) -> Result<(), WriteFailed> {
+        write_present(sink, &legend(self.scale, self.samples))?;
+        write_shown(self.scale, self.samples, sink)
+    }
 }
 
 /// The names of the axes.
@@ -271,9 +253,8 @@ fn draw_samples<K: Sink>(scale: &Scale, samples: &[Sample], sink: &mut K) -> Res
         (svg_text (time_chart scale.now samples.now))) }
     ensures cause { K.failures sink.new ≡ K.failures sink.old + failed result }
 {
-    write_head(1200, 528, Words::HeapOverTime, &axes(), sink)?;
-    write_drawn(scale, samples, sink)?;
-    write_line(sink, Element::Close)
+    let shown = ScaledSamples { scale, samples };
+    write_chart(1200, 528, Words::HeapOverTime, &axes(), shown, sink)
 }
 
 /// Writes the samples of a run to a sink, as an SVG document of lines that end with LF: from left to right the lines of

@@ -10,11 +10,11 @@ use crate::caption::{Caption, Words};
 use crate::colour::Colour;
 use crate::each_page::{PageDrawing, write_pages};
 use crate::element::{Anchor, Element};
-use crate::frame::{meaning, swatch, told_if, write_head};
+use crate::frame::{Shown, meaning, swatch, told_if, write_chart};
 use crate::layers::{Layer, has_mark, write_small};
 use crate::look::name_of;
 use crate::squares::{Squares, height};
-use crate::writing::{write_line, write_lines, write_present};
+use crate::writing::{write_lines, write_present};
 use machine::Heap;
 use pages::PageView;
 use streams::{Sink, WriteFailed};
@@ -275,14 +275,20 @@ fn legend(heap: &Heap) -> [Option<Element>; 12]
     ]
 }
 
-/// Writes the legend, and the squares of all pages.
-fn write_shown<K: Sink>(heap: &Heap, sink: &mut K) -> Result<(), WriteFailed>
-    ensures ok { OnOk result (K.taken sink.new ≡ K.taken sink.old ++ svg_text (map_shown heap.now)) }
-    ensures err { OnErr result (GrowsByPart (K.taken sink.old) (K.taken sink.new) (svg_text (map_shown heap.now))) }
-    ensures cause { K.failures sink.new ≡ K.failures sink.old + failed result }
-{
-    write_present(sink, &legend(heap))?;
-    write_squares(heap, sink)
+/// The map of a heap.
+#[derive(Clone, Copy)]
+struct HeapMap<'a> {
+    heap: &'a Heap,
+}
+
+/// A map shows the legend, and the squares of all pages.
+impl<'a> Shown for HeapMap<'a> {
+    ghost drawn = { λ shown. map_shown shown.heap.now };
+
+    fn write<K: Sink>(self, sink: &mut K) -> Result<(), WriteFailed> {
+        write_present(sink, &legend(self.heap))?;
+        write_squares(self.heap, sink)
+    }
 }
 
 /// Writes the map of the pages of a heap to a sink, as an SVG document of lines that end with LF: the phase, the units
@@ -301,7 +307,6 @@ pub fn draw_pages<K: Sink>(heap: &Heap, sink: &mut K) -> Result<(), WriteFailed>
     ensures cause { K.failures sink.new ≡ K.failures sink.old + failed result }
 {
     let height = height(heap.pages());
-    write_head(1200, height, Words::PagesOfTheHeap, &summary(heap), sink)?;
-    write_shown(heap, sink)?;
-    write_line(sink, Element::Close)
+    let (told, shown) = (summary(heap), HeapMap { heap });
+    write_chart(1200, height, Words::PagesOfTheHeap, &told, shown, sink)
 }

@@ -9,8 +9,8 @@ use crate::axis::{Axis, height, write_axis};
 use crate::caption::{Caption, Words};
 use crate::colour::Colour;
 use crate::element::{Anchor, Element};
-use crate::frame::{meaning, swatch, write_head};
-use crate::writing::{write_line, write_lines};
+use crate::frame::{Shown, meaning, swatch, write_chart};
+use crate::writing::write_lines;
 use streams::{Sink, WriteFailed};
 
 /// The figures of a plan.
@@ -109,14 +109,20 @@ fn write_bars<K: Sink>(bars: &[PlanBar], sink: &mut K) -> Result<(), WriteFailed
     Ok(())
 }
 
-/// Writes the axis of words, and the bars.
-fn write_shown<K: Sink>(bars: &[PlanBar], sink: &mut K) -> Result<(), WriteFailed>
-    ensures ok { OnOk result (K.taken sink.new ≡ K.taken sink.old ++ svg_text (plans_shown bars.now)) }
-    ensures err { OnErr result (GrowsByPart (K.taken sink.old) (K.taken sink.new) (svg_text (plans_shown bars.now))) }
-    ensures cause { K.failures sink.new ≡ K.failures sink.old + failed result }
-{
-    write_axis(Axis::Words, most_words(bars), sink)?;
-    write_bars(bars, sink)
+/// The bars of a picture.
+#[derive(Clone, Copy)]
+struct Bars<'a> {
+    bars: &'a [PlanBar],
+}
+
+/// Of bars a picture shows the axis of words, and each bar.
+impl<'a> Shown for Bars<'a> {
+    ghost drawn = { λ shown. plans_shown shown.bars.now };
+
+    fn write<K: Sink>(self, sink: &mut K) -> Result<(), WriteFailed> {
+        write_axis(Axis::Words, most_words(self.bars), sink)?;
+        write_bars(self.bars, sink)
+    }
 }
 
 /// What bars and their numbers mean.
@@ -146,7 +152,5 @@ pub fn draw_bars<K: Sink>(bars: &[PlanBar], sink: &mut K) -> Result<(), WriteFai
     ensures err { OnErr result (GrowsByPart (K.taken sink.old) (K.taken sink.new) (bars_picture bars.now)) }
     ensures cause { K.failures sink.new ≡ K.failures sink.old + failed result }
 {
-    write_head(1200, 470, Words::PlansOfAHeap, &told(), sink)?;
-    write_shown(bars, sink)?;
-    write_line(sink, Element::Close)
+    write_chart(1200, 470, Words::PlansOfAHeap, &told(), Bars { bars }, sink)
 }

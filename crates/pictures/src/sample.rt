@@ -29,7 +29,7 @@ impl Phases {
     }
 
     /// The phases that are among these or those.
-    fn with(self, those: Phases) -> Phases
+    pub(crate) fn with(self, those: Phases) -> Phases
         ensures { result ≡ joining.all_phases self those }
     {
         Phases {

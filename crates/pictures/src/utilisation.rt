@@ -9,10 +9,10 @@ ghost use Rattle.pictures.specs.Utilisation.{AreShares, log_of, window_x, share_
 use crate::caption::{Caption, Words};
 use crate::colour::Colour;
 use crate::element::{Anchor, Element};
-use crate::frame::{meaning, write_head};
+use crate::frame::{Shown, meaning, write_chart};
 use crate::measuring::put_shares;
 use crate::share::{Share, WINDOWS};
-use crate::writing::{write_line, write_lines};
+use crate::writing::write_lines;
 use quanta::Schedule;
 use settings::Config;
 use streams::{Sink, WriteFailed};
@@ -120,17 +120,23 @@ fn write_marks<K: Sink, M: Mark>(last: u32, marks: &[M], sink: &mut K) -> Result
     Ok(())
 }
 
-/// Writes the numbers of the axis of windows, and the points of the windows.
-fn write_shown<K: Sink>(shares: &[Share], sink: &mut K) -> Result<(), WriteFailed>
-    requires { length shares.now ≤ 39 }
-    ensures ok { OnOk result (K.taken sink.new ≡ K.taken sink.old ++ svg_text (shares_shown shares.now)) }
-    ensures err { OnErr result (GrowsByPart (K.taken sink.old) (K.taken sink.new)
-        (svg_text (shares_shown shares.now))) }
-    ensures cause { K.failures sink.new ≡ K.failures sink.old + failed result }
-{
-    let last = shares.len().clamp(1, 38);
-    write_marks(last as u32, &WINDOWS[..last + 1], sink)?;
-    write_marks(last as u32, shares, sink)
+/// The shares of a picture.
+#[derive(Clone, Copy)]
+struct Shares<'a> {
+    shares: &'a [Share],
+}
+
+/// Of shares a picture shows the numbers of the axis of windows, and the points of the windows.
+impl<'a> Shown for Shares<'a> {
+    ghost asked = { λ shown. length shown.shares.now ≤ 39 };
+
+    ghost drawn = { λ shown. shares_shown shown.shares.now };
+
+    fn write<K: Sink>(self, sink: &mut K) -> Result<(), WriteFailed> {
+        let last = self.shares.len().clamp(1, 38);
+        write_marks(last as u32, &WINDOWS[..last + 1], sink)?;
+        write_marks(last as u32, self.shares, sink)
+    }
 }
 
 /// What the marks mean, and the axis of shares.
@@ -179,9 +185,8 @@ fn draw_shares<K: Sink>(shares: &[Share], sink: &mut K) -> Result<(), WriteFaile
     ensures err { OnErr result (GrowsByPart (K.taken sink.old) (K.taken sink.new) (utilisation_picture shares.now)) }
     ensures cause { K.failures sink.new ≡ K.failures sink.old + failed result }
 {
-    write_head(1200, 490, Words::LeastUtilisation, &axes(), sink)?;
-    write_shown(shares, sink)?;
-    write_line(sink, Element::Close)
+    let shown = Shares { shares };
+    write_chart(1200, 490, Words::LeastUtilisation, &axes(), shown, sink)
 }
 
 /// Writes the mutators' shares of windows of 1, 2, 5, 10, 20, 50 ticks and so on, up to the time that has

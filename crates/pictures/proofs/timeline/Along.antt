@@ -2,7 +2,6 @@
 use Rattle.std.proofs.Common.{◌≡◌, ◌≢◌, ℕ, suc, ◌+◌, ◌*◌, ◌^◌, ◌<◌, ◌≤◌, List, [], ◌∷◌, ◌++◌, length, length-append, get_or, take, drop, min, max, refl, ap, ◌∙◌, sym, subst, arith, append_assoc, add-mul, mul-le-mul_right, pow_mono, pow-add, length-drop, Bool, false, Option, None, Some}
 use Rattle.std.specs.List.{fold}
 use Rattle.std.specs.Option.{option_or}
-use Rattle.std.proofs.Math.Bool.{or_assoc}
 use Rattle.std.proofs.Math.Seq.{take-add, take_all}
 use Rattle.std.proofs.Math.ListN.{drop_of_length-le}
 use Rattle.std.proofs.lemmas.List.{take-append-le, drop-append-le, drop-drop}
@@ -15,6 +14,7 @@ use Rattle.pictures.specs.Joining.{joined}
 use Rattle.pictures.specs.OverTime.{sample_of}
 use Rattle.pictures.specs.Samples.{sampled, IsSampleOf, AreSamples, IsStride}
 use Rattle.pictures.specs.Sampler.{ArePairs, AreTaken}
+use Rattle.pictures.proofs.Samples.{phases_of_three}
 
 -- objects that were counted aren't counted again
 pub counted_once : (s : Sample) (h : HeapState) (line n : ℕ) (counted : Bool) → s.objects ≡ Some n → joined s (sample_of h line false) ≡ joined s (sample_of h line counted)
@@ -33,10 +33,7 @@ or_of_three (Some x) b c = refl
 
 joined_three : (a b c : Sample) → joined (joined a b) c ≡ joined a (joined b c)
 joined_three a b c = rw (
-  or_assoc a.phases.roots b.phases.roots c.phases.roots,
-  or_assoc a.phases.marking b.phases.marking c.phases.marking,
-  or_assoc a.phases.sweeping b.phases.sweeping c.phases.sweeping,
-  or_assoc a.phases.moving b.phases.moving c.phases.moving,
+  phases_of_three a.phases b.phases c.phases,
   min_of_three a.least_pages b.least_pages c.least_pages,
   max_of_three a.most_pages b.most_pages c.most_pages,
   or_of_three a.objects b.objects c.objects,

@@ -1,4 +1,4 @@
-use Rattle.std.proofs.Common.{refl, ap, ◌∙◌}
+use Rattle.std.proofs.Common.{refl, ap, ◌∙◌, arith}
 use Rattle.std.proofs.lemmas.Result.{on_err_weaker, on_ok_weaker}
 use Rattle.quanta.specs.Timetable.{Timetable}
 use Rattle.pictures.specs.Events.{quanta_events, events_tail}
@@ -27,18 +27,15 @@ returns-in_err-write_cycles-clause-err g c =
     at_err c.from_residual-in_err-write_cycles.result _
     (cycles_cut p c.head.result (quanta_events 0 c.intervals.result.now) (cycles_by c.intervals-2.result.now c.starts.result.now) (events_tail p.timetable) is _ _ c.in_ok-write_lines.ensures.ok _ c.in_ok-write_quanta.ensures.ok _ c.in_err-write_cycles.ensures.err)
 
-pub returns-clause-ok : goal.returns-clause-ok
-returns-clause-ok g c =
+pub returns : goal.returns
+returns g c =
     let p = c.args.player.now in
     let times = ap (λ (t : Timetable). t.intervals) c.schedule-schedule.ensures in
     let is = events_are p c.head.result c.intervals.result.now c.intervals-2.result.now c.starts.result.now c.tail.result c.head.ensures (c.intervals.ensures.intervals ∙ times) (c.intervals-2.ensures.intervals ∙ times) c.starts.ensures (c.tail.ensures ∙ ap events_tail c.schedule-schedule.ensures) in
-    on_ok_weaker c.write_lines-2.result
-    (all_written p c.head.result (quanta_events 0 c.intervals.result.now) (cycles_by c.intervals-2.result.now c.starts.result.now) c.tail.result is _ _ c.in_ok-write_lines.ensures.ok _ c.in_ok-write_quanta.ensures.ok _ c.in_ok-write_cycles.ensures.ok _) c.write_lines-2.ensures.ok
-
-pub returns-clause-err : goal.returns-clause-err
-returns-clause-err g c =
-    let p = c.args.player.now in
-    let times = ap (λ (t : Timetable). t.intervals) c.schedule-schedule.ensures in
-    let is = events_are p c.head.result c.intervals.result.now c.intervals-2.result.now c.starts.result.now c.tail.result c.head.ensures (c.intervals.ensures.intervals ∙ times) (c.intervals-2.ensures.intervals ∙ times) c.starts.ensures (c.tail.ensures ∙ ap events_tail c.schedule-schedule.ensures) in
-    on_err_weaker c.write_lines-2.result
-    (all_cut p c.head.result (quanta_events 0 c.intervals.result.now) (cycles_by c.intervals-2.result.now c.starts.result.now) c.tail.result is _ _ c.in_ok-write_lines.ensures.ok _ c.in_ok-write_quanta.ensures.ok _ c.in_ok-write_cycles.ensures.ok _) c.write_lines-2.ensures.err
+    let quanta = quanta_events 0 c.intervals.result.now in
+    let cycles = cycles_by c.intervals-2.result.now c.starts.result.now in
+    record {
+      ok = on_ok_weaker c.write_lines-2.result (all_written p c.head.result quanta cycles c.tail.result is _ _ c.in_ok-write_lines.ensures.ok _ c.in_ok-write_quanta.ensures.ok _ c.in_ok-write_cycles.ensures.ok _) c.write_lines-2.ensures.ok;
+      err = on_err_weaker c.write_lines-2.result (all_cut p c.head.result quanta cycles c.tail.result is _ _ c.in_ok-write_lines.ensures.ok _ c.in_ok-write_quanta.ensures.ok _ c.in_ok-write_cycles.ensures.ok _) c.write_lines-2.ensures.err;
+      cause = omega (arith, c.in_ok-write_lines.ensures.cause, c.in_ok-write_quanta.ensures.cause, c.in_ok-write_cycles.ensures.cause, c.write_lines-2.ensures.cause);
+    }

@@ -1,22 +1,7 @@
-use Rattle.std.proofs.Common.{◌++◌, ap}
-use Rattle.std.proofs.lemmas.Result.{on_err_weaker, on_ok_weaker}
-use Rattle.pictures.specs.Utilisation.{chart_frame, axes, shares_shown}
-use Rattle.pictures.proofs.Parts.{at_err}
-use Rattle.pictures.proofs.Drawing.{in_head, in_body, in_end, to_end}
 use Rattle.pictures.proofs.utilisation.draw_shares.Goals as goal
 
-pub returns-in_err-write_head-clause-err : goal.returns-in_err-write_head-clause-err
-returns-in_err-write_head-clause-err g c =
-    at_err c.from_residual.result _ (in_head _ chart_frame axes (shares_shown c.args.shares.now) (ap (λ xs. chart_frame ++ xs) c.axes.ensures) _ _ c.in_err-write_head.ensures.err)
-
-pub returns-in_err-write_shown-clause-err : goal.returns-in_err-write_shown-clause-err
-returns-in_err-write_shown-clause-err g c =
-    at_err c.from_residual-in_err-write_shown.result _ (in_body _ chart_frame axes (shares_shown c.args.shares.now) (ap (λ xs. chart_frame ++ xs) c.axes.ensures) _ _ c.in_ok-write_head.ensures.ok _ c.in_err-write_shown.ensures.err)
-
 pub returns-clause-ok : goal.returns-clause-ok
-returns-clause-ok g c =
-    on_ok_weaker c.write_line.result (to_end _ chart_frame axes (shares_shown c.args.shares.now) (ap (λ xs. chart_frame ++ xs) c.axes.ensures) _ _ c.in_ok-write_head.ensures.ok _ c.in_ok-write_shown.ensures.ok _) c.write_line.ensures.ok
+returns-clause-ok g c = rw c.axes.ensures at c.write_chart.ensures.ok
 
 pub returns-clause-err : goal.returns-clause-err
-returns-clause-err g c =
-    on_err_weaker c.write_line.result (in_end _ chart_frame axes (shares_shown c.args.shares.now) (ap (λ xs. chart_frame ++ xs) c.axes.ensures) _ _ c.in_ok-write_head.ensures.ok _ c.in_ok-write_shown.ensures.ok _) c.write_line.ensures.err
+returns-clause-err g c = rw c.axes.ensures at c.write_chart.ensures.err

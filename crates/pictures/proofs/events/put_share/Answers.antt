@@ -1,0 +1,5 @@
+use Rattle.std.proofs.Common.{◌∙◌, append_assoc}
+use Rattle.pictures.proofs.events.put_share.Goals as goal
+
+pub returns-clause-text : goal.returns-clause-text
+returns-clause-text c = c.put.ensures.text ∙ rw (c.put_named-end-2.ensures.text, c.put_named-end.ensures.text) (simp append_assoc)

@@ -1,5 +1,5 @@
 -- Lists of commands done in order, one after the other.
-use Rattle.std.proofs.Common.{◌≡◌, ℕ, ◌+◌, ◌<◌, ◌≤◌, true, false, List, [], ◌∷◌, ◌++◌, length, refl, subst, arith, length-append}
+use Rattle.std.proofs.Common.{◌≡◌, ℕ, ◌+◌, ◌<◌, ◌≤◌, true, false, List, [], ◌∷◌, ◌++◌, length, refl, sym, subst, arith, length-append}
 use Rattle.std.specs.Prelude.{Option, Some, None, MatchOption, is_some}
 use Rattle.graph_heap.specs.declared.command.Command.{Command}
 use Rattle.graph_heap.specs.declared.command.Refusal.{Refusal}
@@ -22,6 +22,10 @@ is_refusal (replies.KeptWord w) why e = cc
 is_refusal (replies.Is b) why e = cc
 is_refusal (replies.Described id shape) why e = cc
 is_refusal (replies.Refused given) why e = cc
+
+-- what was done, told by a progress that is another one
+pub told_as : (h : HeapState) (m : ℕ) (cs : List Command) (p q : Progress) (after : HeapState) → p ≡ q → DoesFront h m cs q after → DoesFront h m cs p after
+told_as h m cs p q after e w = subst (λ (x : Progress). DoesFront h m cs x after) (sym e) w
 
 -- commands of which none was refused, and then others
 joined : (m : ℕ) (h mid after : HeapState) (cs ds : List Command) (rs ss : List Reply) (refused : Option Refusal)

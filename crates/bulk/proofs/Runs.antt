@@ -18,11 +18,11 @@ use Rattle.bulk.proofs.Lists.{clear_at}
 use Rattle.bulk.proofs.Rows.{goes_on, goes_on_with}
 
 -- the numbers of a run stay below the greatest
-pub number_in : (first i n k : ℕ) → number_after first i + n < 2 ^ 32 → k < n → number_after first i + k ≡ number_after first (i + k)
-number_in first i n k few l = omega (arith, few, l)
+pub number_in : (first i n k begin : ℕ) → begin ≡ number_after first i → begin + n < 2 ^ 32 → k < n → begin + k ≡ number_after first (i + k)
+number_in first i n k begin is few l = omega (arith, is, few, l)
 
-pub number_first : (first i : ℕ) → number_after first i + 0 ≡ number_after first i
-number_first first i = omega arith
+pub number_first : (first i begin : ℕ) → begin ≡ number_after first i → begin + 0 ≡ number_after first i
+number_first first i begin is = omega (arith, is)
 
 append_nil : (xs : List ℕ) → xs ++ [] ≡ xs
 append_nil [] = refl

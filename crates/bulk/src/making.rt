@@ -25,10 +25,7 @@ pub fn new_with(
     ensures { DoesFront heap.old mutator (makes dst shape refs.now words.now) result heap.new }
 {
     if let Some(refusal) = refusal_in(heap.make(mutator, dst, shape)) {
-        return Progress {
-            done: 0,
-            refused: Some(refusal),
-        };
+        return Progress::stopped(0, refusal);
     }
     let stored = store_slots(heap, mutator, dst, refs);
     if stored.refused.is_some() {

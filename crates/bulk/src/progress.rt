@@ -1,5 +1,5 @@
 //! How far a list of commands was done.
-ghost use Rattle.std.specs.Prelude.{◌≡◌, ◌+◌, ◌<◌, ◌^◌};
+ghost use Rattle.std.specs.Prelude.{◌≡◌, ◌+◌, ◌<◌, ◌^◌, Some, None};
 ghost use Rattle.bulk.specs.InOrder.{refusal_in};
 
 use graph_heap::{Refusal, Reply};
@@ -14,6 +14,28 @@ pub struct Progress {
 }
 
 impl Progress {
+    /// All of a list was done.
+    #[inline(always)]
+    pub(crate) fn whole(done: u32) -> Progress
+        ensures { result ≡ record { done = done; refused = None } }
+    {
+        Progress {
+            done,
+            refused: None,
+        }
+    }
+
+    /// So much of a list was done, and then a command was refused.
+    #[inline(always)]
+    pub(crate) fn stopped(done: u32, refusal: Refusal) -> Progress
+        ensures { result ≡ record { done = done; refused = Some refusal } }
+    {
+        Progress {
+            done,
+            refused: Some(refusal),
+        }
+    }
+
     /// The progress of a list, behind commands that were done before it.
     #[inline(always)]
     pub(crate) fn behind(self, before: u32) -> Progress

@@ -28,23 +28,14 @@ pub fn copy_refs(
     for i in 0..count {
         let load = heap.load(mutator, through, from, from_first.saturating_add(i));
         if let Some(refusal) = refusal_in(load) {
-            return Progress {
-                done: 2 * i,
-                refused: Some(refusal),
-            };
+            return Progress::stopped(2 * i, refusal);
         }
         let store = heap.store(mutator, to, to_first.saturating_add(i), through);
         if let Some(refusal) = refusal_in(store) {
-            return Progress {
-                done: 2 * i + 1,
-                refused: Some(refusal),
-            };
+            return Progress::stopped(2 * i + 1, refusal);
         }
     }
-    Progress {
-        done: 2 * count,
-        refused: None,
-    }
+    Progress::whole(2 * count)
 }
 
 /// What slots hold, at most 252, into the first reference cells of the object in slot obj.
@@ -56,14 +47,8 @@ pub(crate) fn store_slots(heap: &mut Heap, mutator: u32, obj: u32, slots: &[u32]
     let count = slots.len() as u32;
     for i in 0..count {
         if let Some(refusal) = refusal_in(heap.store(mutator, obj, i, slots[i as usize])) {
-            return Progress {
-                done: i,
-                refused: Some(refusal),
-            };
+            return Progress::stopped(i, refusal);
         }
     }
-    Progress {
-        done: count,
-        refused: None,
-    }
+    Progress::whole(count)
 }

@@ -15,25 +15,16 @@ pub fn clear_slots(heap: &mut Heap, mutator: u32, first: u32, count: u32) -> Pro
     ensures { DoesFront heap.old mutator (clears first count) result heap.new }
 {
     if count == 0 {
-        return Progress {
-            done: 0,
-            refused: None,
-        };
+        return Progress::whole(0);
     }
     match heap.clear_run(mutator, first, count) {
         Ok(done) => {
             if done == count {
-                return Progress {
-                    done: count,
-                    refused: None,
-                };
+                return Progress::whole(count);
             }
             clear_rest(heap, mutator, first, count, done)
         }
-        Err(refusal) => Progress {
-            done: 0,
-            refused: Some(refusal),
-        },
+        Err(refusal) => Progress::stopped(0, refusal),
     }
 }
 
@@ -49,18 +40,10 @@ fn clear_rest(heap: &mut Heap, mutator: u32, first: u32, count: u32, cleared: u3
     while done < count {
         match heap.clear_run(mutator, first.saturating_add(done), count - done) {
             Ok(more) => done += more,
-            Err(refusal) => {
-                return Progress {
-                    done,
-                    refused: Some(refusal),
-                };
-            }
+            Err(refusal) => return Progress::stopped(done, refusal),
         }
     }
-    Progress {
-        done: count,
-        refused: None,
-    }
+    Progress::whole(count)
 }
 
 /// What slot src holds into slot dst, and then null into src: two commands. A slot that is moved into itself keeps what it
@@ -69,25 +52,13 @@ pub fn move_slot(heap: &mut Heap, mutator: u32, dst: u32, src: u32) -> Progress
     ensures { DoesFront heap.old mutator (moves dst src) result heap.new }
 {
     if let Some(refusal) = refusal_in(heap.copy(mutator, dst, src)) {
-        return Progress {
-            done: 0,
-            refused: Some(refusal),
-        };
+        return Progress::stopped(0, refusal);
     }
     if dst == src {
-        return Progress {
-            done: 1,
-            refused: None,
-        };
+        return Progress::whole(1);
     }
     match refusal_in(heap.clear(mutator, src)) {
-        Some(refusal) => Progress {
-            done: 1,
-            refused: Some(refusal),
-        },
-        None => Progress {
-            done: 2,
-            refused: None,
-        },
+        Some(refusal) => Progress::stopped(1, refusal),
+        None => Progress::whole(2),
     }
 }

@@ -22,18 +22,10 @@ pub fn get_words(heap: &mut Heap, mutator: u32, obj: u32, first: u32, words: &mu
         let rest = &mut words[done as usize..];
         match heap.get_run(mutator, obj, first.saturating_add(done), rest) {
             Ok(count) => done += count,
-            Err(refusal) => {
-                return Progress {
-                    done,
-                    refused: Some(refusal),
-                };
-            }
+            Err(refusal) => return Progress::stopped(done, refusal),
         }
     }
-    Progress {
-        done: room,
-        refused: None,
-    }
+    Progress::whole(room)
 }
 
 /// Writes at most 252 words into as many word cells of the object in slot obj, from the first on. Done are the words that
@@ -50,18 +42,10 @@ pub fn put_words(heap: &mut Heap, mutator: u32, obj: u32, first: u32, words: &[u
         let rest = &words[done as usize..];
         match heap.put_run(mutator, obj, first.saturating_add(done), rest) {
             Ok(more) => done += more,
-            Err(why) => {
-                return Progress {
-                    done,
-                    refused: Some(why),
-                };
-            }
+            Err(why) => return Progress::stopped(done, why),
         }
     }
-    Progress {
-        done: count,
-        refused: None,
-    }
+    Progress::whole(count)
 }
 
 /// The same, by single commands: for a word or two, of which a run would look up more than it spares.
@@ -80,16 +64,10 @@ pub(crate) fn put_each(
     for i in 0..count {
         let word = words[i as usize];
         if let Some(refusal) = refusal_in(heap.put(mutator, obj, first.saturating_add(i), word)) {
-            return Progress {
-                done: i,
-                refused: Some(refusal),
-            };
+            return Progress::stopped(i, refusal);
         }
     }
-    Progress {
-        done: count,
-        refused: None,
-    }
+    Progress::whole(count)
 }
 
 /// The first words of a new object, whichever way takes less.

@@ -25,14 +25,21 @@ needed rule = record rule { required = true }
 abbrev pub place : Text → Rule
 place name = needed (new_rule name)
 
+-- an argument that is a number of 64 bits
+abbrev long : Rule → Rule
+long rule = record rule { parser = Some long_number }
+
+-- an argument that stands there once or more
+abbrev many : Rule → Rule
+many rule = record rule { range = Some (record { start_inclusive = 1; end_inclusive = usize_max }) }
+
 -- a number in its place
 abbrev pub number : Text → Rule
-number name = record (place name) { parser = Some long_number }
+number name = long (place name)
 
 -- one number or more in their places
 abbrev pub numbers : Text → Rule
-numbers name =
-    record (number name) { range = Some (record { start_inclusive = 1; end_inclusive = usize_max }) }
+numbers name = many (number name)
 
 -- a name alone
 abbrev pub flag : Text → Rule
@@ -48,12 +55,11 @@ figure name = record (word name) { parser = Some short_number }
 
 -- a name and a number that fits 64 bits
 abbrev pub long_figure : Text → Rule
-long_figure name = record (word name) { parser = Some long_number }
+long_figure name = long (word name)
 
 -- a name and one number or more
 abbrev pub figures : Text → Rule
-figures name =
-    record (figure name) { range = Some (record { start_inclusive = 1; end_inclusive = usize_max }) }
+figures name = many (figure name)
 
 -- an argument that is this where it isn't given
 abbrev pub by_default : Text → Rule → Rule

@@ -121,6 +121,10 @@ pub empty_handed : (c : SharedConfig) (b : Bool) (w : ℕ) (m : M) → turn_of m
 empty_handed c false w m none is = is.0
 empty_handed c true w m none is = absurd (let z : Some is.held.course ≡ None = sym (ap turn_of is.carried) ∙ none in cc)
 
+-- what holds of a member by its table, before and after a step, holds of what is shown of it
+pub shown_so : (P : MemberView → MemberView → Type 0) (id new : TableId) (c : SharedConfig) (was m : M) (v : MemberView) → new ≡ id → shown_by id c was ≡ v → P (shown_by id c was) (shown_by id c m) → P v (shown_by new c m)
+shown_so P id new c was m v same shows p = subst (λ (x : MemberView). P x (shown_by new c m)) shows (subst (λ (t : TableId). P (shown_by id c was) (shown_by t c m)) (sym same) p)
+
 -- who has given the turn back
 pub left_none : (old : MemberView) (had : Bool) (new : MemberView) → Leaves old had new → new.turn ≡ None
 left_none old false new l = ap (λ (v : MemberView). v.turn) l.1 ∙ l.0

@@ -1,13 +1,12 @@
 -- The last entries of a history, where it grows by one, and the places at which they stand in it.
-use Rattle.std.proofs.Common.{◌≡◌, ◌≢◌, ℕ, ◌+◌, ◌-◌, ◌/◌, ◌%◌, ◌<◌, ◌≤◌, Bool, true, false, List, [], ◌∷◌, ◌++◌, length, drop, refl, sym, ap, ◌∙◌, subst, arith, Some, None, Ok, Err, length-append, length-drop, drop-drop}
+use Rattle.std.proofs.Common.{◌≡◌, ◌≢◌, ℕ, ◌+◌, ◌-◌, ◌/◌, ◌%◌, ◌<◌, ◌≤◌, Bool, true, false, List, [], ◌∷◌, ◌++◌, length, drop, refl, sym, ap, ◌∙◌, subst, arith, Some, None, length-append, length-drop, drop-drop}
 use Rattle.std.specs.Prelude.{Option, slice_get, nat_le, ok_or, if◌then◌else◌}
 use Rattle.std.proofs.lemmas.Bool.Decides.{nat_tests}
 use Rattle.std.proofs.lemmas.List.{drop-append-le}
 use Rattle.circular_buffer.specs.Buffer.{Buffer, buffer, keep_last}
 use Rattle.circular_buffer.proofs.Places.{slice_get-drop, slice_get-some}
 use Rattle.graph_heap.specs.declared.command.Entry.{Entry}
-use Rattle.heap_shared.specs.declared.member.NoEntry.{NoEntry}
-use Rattle.heap_shared.specs.declared.member.NoEntry.TheVariants.{NotYet, Gone}
+use Rattle.heap_shared.specs.declared.member.NoEntry.TheVariants.{Gone}
 use Rattle.heap_shared.specs.Ring.{entry_ago, IsKeptAt, TellsEntry}
 use Rattle.heap_shared.specs.Turns.{word_of}
 use Rattle.heap_shared.proofs.Words.{half}

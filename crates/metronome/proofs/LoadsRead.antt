@@ -1,6 +1,6 @@
 -- A load, by the bytes of its file.
-use Rattle.std.proofs.Common.{◌≡◌, ℕ, ◌<◌, ◌∙◌, true, false, Bool, List, length, Option, Some, None, sym, refl, arith}
-use Rattle.std.specs.Prelude.{nat_lt, if◌then◌else◌, IfSome, Result, Ok, Err}
+use Rattle.std.proofs.Common.{◌≡◌, ℕ, ◌<◌, ◌∙◌, List, length, Option, Some, None, sym, arith}
+use Rattle.std.specs.Prelude.{IfSome, Result, Ok, Err}
 use Rattle.trace.specs.declared.fault.PlayFault.TheVariants as texts
 use Rattle.documents.specs.TomlTable.{document_of}
 use Rattle.documents.specs.declared.toml_table.ReadFault.{ReadFault}
@@ -14,14 +14,10 @@ use Rattle.metronome.specs.declared.fault.RunFault.TheVariants.{Text}
 use Rattle.metronome.specs.Faults.{IsUnreadable}
 use Rattle.metronome.specs.Files.{KnownFile, document_bytes}
 use Rattle.metronome.specs.Loaded.{LoadRead}
-use Rattle.metronome.proofs.Obeying.{known_read}
+use Rattle.metronome.proofs.Obeying.{known_read, long_first}
 
 too_long : (bytes : List ℕ) → 65536 < length bytes → bytes_fault bytes ≡ Some faults.TooLong
-too_long bytes long = by_test (nat_lt 65536 (length bytes)) (grind arith)
-  where
-    by_test : (b : Bool) → b ≡ true → (if b then Some faults.TooLong else fault_in (document_of bytes)) ≡ Some faults.TooLong
-    by_test true e = refl
-    by_test false e = absurd (cc)
+too_long bytes long = long_first bytes (Some faults.TooLong) (fault_in (document_of bytes)) long
 
 -- what is too long has no other fault
 long_read : (all cut : List ℕ) (r : Result LoadTable (ReadFault DocumentFault)) → 65536 < length all → 65536 < length cut → IsRead cut r → IsRead all r

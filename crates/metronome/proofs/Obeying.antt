@@ -67,13 +67,17 @@ rest_read given text f = (
   ],
 )
 
--- so it says the same of a configuration as all its bytes
-long_fault : (bytes : List ℕ) → 65536 < length bytes → file_fault bytes ≡ Some faults.TooLong
-long_fault bytes long = by_test (nat_lt 65536 (length bytes)) (grind arith)
+-- of what is too long nothing else is said
+pub long_first : {A : Type 0} (bytes : List ℕ) (said other : A) → 65536 < length bytes → (if nat_lt 65536 (length bytes) then said else other) ≡ said
+long_first bytes said other long = by_test (nat_lt 65536 (length bytes)) (grind arith)
   where
-    by_test : (b : Bool) → b ≡ true → (if b then Some faults.TooLong else fault_in (document_of bytes)) ≡ Some faults.TooLong
+    by_test : (b : Bool) → b ≡ true → (if b then said else other) ≡ said
     by_test true e = refl
     by_test false e = absurd (cc)
+
+-- so it says the same of a configuration as all its bytes
+long_fault : (bytes : List ℕ) → 65536 < length bytes → file_fault bytes ≡ Some faults.TooLong
+long_fault bytes long = long_first bytes (Some faults.TooLong) (fault_in (document_of bytes)) long
 
 long_read : (all cut : List ℕ) (r : Result Config (ReadFault ConfigFault)) → 65536 < length all → 65536 < length cut → IsRead cut r → IsRead all r
 long_read all cut (Ok config) long few h = absurd (let no : Some faults.TooLong ≡ None = sym (long_fault cut few) ∙ h.0 in cc)
@@ -95,8 +99,8 @@ module _ {A : Type 0} (Says : List ℕ → A → Type 0) (long : (all cut : List
   known_read None bytes r e h = tt
   known_read (Some all) bytes r e h = read_whole all r (subst (λ b. Says b r) e h)
 
-pub config_read : (known : Option (List ℕ)) (bytes : List ℕ) (r : Result Config (ReadFault ConfigFault)) → IfSome known (λ all. bytes ≡ document_bytes all) → IsRead bytes r → IfSome known (λ all. IsRead all r)
-config_read known bytes r e h = known_read IsRead long_read known bytes r e h
+pub config_seen : (known : Option (List ℕ)) (bytes seen : List ℕ) (r : Result Config (ReadFault ConfigFault)) → IfSome known (λ all. bytes ≡ document_bytes all) → seen ≡ bytes → IsRead seen r → IfSome known (λ all. IsRead all r)
+config_seen known bytes seen r e same h = known_read IsRead long_read known bytes r e (subst (λ b. IsRead b r) same h)
 
 -- what can't be read, by whether something failed
 pub unreadable_so : (p q : Bool) (fault : RunFault) → (IsTrue p → IsTrue q) → IsUnreadable p fault → IsUnreadable q fault

@@ -8,7 +8,7 @@ ghost use Rattle.metronome.specs.Plans.{IsPlansPicture, TellsPlans};
 ghost use Rattle.metronome.specs.Told.{ReportTold};
 
 use crate::fault::{Ending, RunFault};
-use crate::told::tell_text;
+use crate::told::{ended, tell_text};
 use graph_heap::NoMemory;
 use pictures::{PlanBar, draw_bars};
 use plans::{plan_bars, plans_report};
@@ -56,8 +56,7 @@ fn draw_plans<K: Sink>(
     ensures writes { K.failures sink.new ≡ K.failures sink.old + failed_writes result }
 {
     let bars = bars_of_plans(alloc, config, live, classes)?;
-    draw_bars(bars.as_slice(), sink)?;
-    Ok(Ending::Done)
+    ended(draw_bars(bars.as_slice(), sink))
 }
 
 /// Tells of the plans by which a heap paces itself, where so many words are live: on how few pages there is one, and what

@@ -5,10 +5,9 @@ ghost use Rattle.metronome.specs.declared.fault.Ending.{Ending};
 ghost use Rattle.metronome.specs.declared.fault.RunFault.{RunFault};
 ghost use Rattle.streams.specs.Streams.{given_by, taken_by, Stays};
 ghost use Rattle.command_line.specs.declared.job.Job.TheVariants as jobs;
-ghost use Rattle.metronome.specs.Files.{no_file};
 ghost use Rattle.metronome.specs.Done.{JobDone, JobCountsReads, style_of, layout_of};
 ghost use Rattle.metronome.specs.Faults.{failed_reads, failed_writes};
-ghost use Rattle.metronome.specs.Run.{IsGivenOf, JobDoneOn, Obeyed, RunDone, words_line};
+ghost use Rattle.metronome.specs.Run.{IsGivenOf, Obeyed, RunDone, words_line};
 ghost use Rattle.metronome.specs.Status.{status_of};
 
 use crate::after::{Telling, after_play};
@@ -63,7 +62,8 @@ where
         × RunDone (O.known opener.now) (map S.text words.now) (taken_by K.taken sink.old sink.new) how
         × (K.failures sink.new ≡ K.failures sink.old + failed_writes how) }
 {
-    let how = perform(rt, alloc, words, opener, sink, errors);
+    let host = Host { rt, alloc, opener };
+    let how = perform(&host, words, sink, errors);
     if let Err(fault) = &how {
         tell(errors, fault);
     }
@@ -97,25 +97,17 @@ fn tell_words<E: Write>(errors: &mut E, text: &str) -> io::Result<()>
 }
 
 /// Does what the words ask for. Where they ask for progress, the lines that are read are reported on the error stream.
-fn perform<S, O, K, E, T>(
-    rt: &T,
-    alloc: Global,
+fn perform<S: AsStr, O: Opener, K: Sink, E: Write, T: Threads + Wait + Sync>(
+    host: &Host<O, T>,
     words: &[S],
-    opener: &O,
     sink: &mut K,
     errors: &mut E,
 ) -> Result<Ending, RunFault>
-where
-    S: AsStr,
-    O: Opener,
-    K: Sink,
-    E: Write,
-    T: Threads + Wait + Sync,
-    ensures done { RunDone (O.known opener.now) (map S.text words.now)
+    ensures done { RunDone (O.known host.now.opener.now) (map S.text words.now)
         (taken_by K.taken sink.old sink.new) result }
     ensures writes { K.failures sink.new ≡ K.failures sink.old + failed_writes result }
 {
-    let request = match read_words(alloc, words) {
+    let request = match read_words(host.alloc, words) {
         Ok(request) => request,
         Err(WordsFault::Help(text)) => {
             write_all(sink, text.as_bytes())?;
@@ -124,8 +116,7 @@ where
         Err(WordsFault::Refused(text)) => return Err(RunFault::Words(text)),
         Err(WordsFault::NoMemory) => return Err(RunFault::Text(PlayFault::NoMemory)),
     };
-    let host = Host { rt, alloc, opener };
-    obey(&host, &request, sink, errors)
+    obey(host, &request, sink, errors)
 }
 
 /// Does what a request says, with the files that it names.
@@ -142,7 +133,8 @@ fn obey<O: Opener, K: Sink, E: Write, T: Threads + Wait + Sync>(
     let bytes = read_document(host.alloc, host.opener, request.config)?;
     let config = read_config(host.alloc, bytes.as_slice())?;
     let Some(name) = request.file else {
-        return serve_alone(host, request, &config, sink, errors);
+        let nothing = MemorySource::new(&[]);
+        return serve(host, request, &config, nothing, sink, errors);
     };
     if name == "-" {
         let input = host.opener.standard_input();
@@ -150,21 +142,6 @@ fn obey<O: Opener, K: Sink, E: Write, T: Threads + Wait + Sync>(
     }
     let file = open_file(host.opener, name)?;
     serve(host, request, &config, file, sink, errors)
-}
-
-/// Does the job of a request that has no other file: there is nothing to read.
-fn serve_alone<O: Opener, K: Sink, E: Write, T: Threads + Wait + Sync>(
-    host: &Host<O, T>,
-    request: &Request,
-    config: &Config,
-    sink: &mut K,
-    errors: &mut E,
-) -> Result<Ending, RunFault>
-    ensures done { JobDoneOn (O.known host.now.opener.now) no_file request.now.job config.now
-        (taken_by K.taken sink.old sink.new) result }
-    ensures writes { K.failures sink.new ≡ K.failures sink.old + failed_writes result }
-{
-    serve(host, request, config, MemorySource::new(&[]), sink, errors)
 }
 
 /// Does the job of a request, from the source of the other file. Where progress is asked for, the lines that are read

@@ -1,12 +1,29 @@
-//! A report that is made as a text, and written.
-ghost use Rattle.std.specs.Prelude.{◌≡◌, ◌+◌};
-ghost use Rattle.streams.specs.Streams.{taken_by};
+//! Reports that are written, of which some are made as a text first.
+ghost use Rattle.std.specs.Prelude.{◌≡◌, ◌+◌, Ok, Err, OnOk, OnErr};
+ghost use Rattle.streams.specs.Streams.{failed, taken_by};
+ghost use Rattle.trace.specs.declared.fault.PlayFault.TheVariants as texts;
 ghost use Rattle.metronome.specs.Faults.{failed_reads, failed_writes};
+ghost use Rattle.metronome.specs.declared.fault.Ending.TheVariants as endings;
+ghost use Rattle.metronome.specs.declared.fault.RunFault.TheVariants as faults;
 ghost use Rattle.metronome.specs.Told.{MadeTextTold};
 
 use crate::fault::{Ending, RunFault};
 use graph_heap::NoMemory;
 use streams::{Sink, write_all};
+use trace::PlayFault;
+
+/// How a run ends that wrote a report.
+pub fn ended<E: Drop>(written: Result<(), E>) -> Result<Ending, RunFault>
+    ensures ok { OnOk written (result ≡ Ok endings.Done) }
+    ensures err { OnErr written (result ≡ Err (faults.Text texts.Write)) }
+    ensures reads { failed_reads result ≡ 0 }
+    ensures writes { failed_writes result ≡ failed written }
+{
+    match written {
+        Ok(()) => Ok(Ending::Done),
+        Err(_) => Err(RunFault::Text(PlayFault::Write)),
+    }
+}
 
 /// Writes the text of a report; nothing where memory was refused for it.
 pub fn tell_text<K: Sink>(text: Result<String, NoMemory>, sink: &mut K) -> Result<Ending, RunFault>
@@ -15,6 +32,5 @@ pub fn tell_text<K: Sink>(text: Result<String, NoMemory>, sink: &mut K) -> Resul
     ensures writes { K.failures sink.new ≡ K.failures sink.old + failed_writes result }
 {
     let text = text?;
-    write_all(sink, text.as_bytes())?;
-    Ok(Ending::Done)
+    ended(write_all(sink, text.as_bytes()))
 }

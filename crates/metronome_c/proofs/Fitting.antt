@@ -1,5 +1,5 @@
 -- A plan of settings is one of each heap that is made of them.
-use Rattle.std.proofs.Common.{Bool, cond, ◌≡◌, ◌∙◌, ℕ, ◌+◌, ◌*◌, ◌/◌, ◌≤◌, ap, sym, subst, arith, refl}
+use Rattle.std.proofs.Common.{Bool, cond, ◌≡◌, ◌∙◌, ℕ, ◌+◌, ◌*◌, ap, sym, subst, arith, refl}
 use Rattle.std.specs.Prelude.{Option, Some, None, length, pos, nat_abs}
 use Rattle.std.proofs.lemmas.List.Folds.{sum_by-replicate}
 use Rattle.std.proofs.Math.Nat.{mul-one}
@@ -15,7 +15,7 @@ use Rattle.heap_model.specs.State.{HeapState}
 use Rattle.fragmentation.specs.Configured.{roots_in, MovesAll, FlowFitsIn}
 use Rattle.fragmentation.specs.Flow.{Flow, FlowFitsOn}
 use Rattle.paced.specs.declared.plan.Plan.{Plan}
-use Rattle.paced.specs.Planning.{IsFastest, IsLeastPages}
+use Rattle.paced.specs.Planning.{IsLeastPages}
 use Rattle.paced.specs.Rooms.{planned_flow}
 use Rattle.metronome_c.specs.declared.held.Held.{Held}
 use Rattle.metronome_c.specs.declared.planning.MetronomeFlow.{MetronomeFlow}

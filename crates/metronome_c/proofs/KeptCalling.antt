@@ -39,7 +39,7 @@ use Rattle.metronome_c.specs.Calls.{Call, Command_called, Begin_called, Quantum_
 use Rattle.metronome_c.specs.Collecting.{BeginsOpen, SpendsOpen}
 use Rattle.metronome_c.specs.Cycles.{no_cycles}
 use Rattle.metronome_c.specs.Keeping.{kept, CanKeep, KeepsHeld, keep_status, Keeps}
-use Rattle.metronome_c.specs.KeptCalls.{KeptCall, Called, List_called, MakeNothing, DoesCommands, DoesKept, KeptCalls, AreWork, WasOne, WasEvents, WereEvents, KeepsRoom}
+use Rattle.metronome_c.specs.KeptCalls.{KeptCall, Called, List_called, MakeNothing, DoesCommands, DoesKept, KeptCalls, AreWork, WasEvents, WereEvents, KeepsRoom}
 use Rattle.metronome_c.specs.Lifetime.{IsMadeOf}
 use Rattle.metronome_c.specs.Planning.{plan_in}
 use Rattle.metronome_c.specs.Status.{status_number}
@@ -92,41 +92,38 @@ module _ (config : Config) (cycles : Cycles) where
   abbrev held : PacerView → HeapState → Held
   held p x = record { heap = x; config = config; pacer = Some p; cycles = cycles }
 
-  -- a call is events that keep the plan
-  record WasKept (p : PacerView) (h : HeapState) (call : KeptCall) (next : Result Held Status) : Type 0 where
+  -- what was done is events that keep the plan, of which something holds
+  pub record KeptBy (p : PacerView) (h : HeapState) (Tells : List Event → Type 0) (next : Result Held Status) : Type 0 where
     pub events : List Event
     pub pacer : PacerView
     pub heap : HeapState
     pub left : next ≡ Ok (held pacer heap)
     pub path : Path KeepsPlan (state_of (paced_by p h)) events (state_of (paced_by pacer heap))
-    pub was : WasEvents events call
+    pub tells : Tells events
+
+  -- nothing was done
+  none_kept : (p : PacerView) (h : HeapState) (Tells : List Event → Type 0) (next : Result Held Status) → next ≡ Ok (held p h) → Tells [] → KeptBy p h Tells next
+  none_kept p h Tells next left tells = record { events = []; pacer = p; heap = h; left = left; path = refl; tells = tells }
+
+  -- a call is events that keep the plan
+  abbrev WasKept : PacerView → HeapState → KeptCall → Result Held Status → Type 0
+  WasKept p h call next = KeptBy p h (λ events. WasEvents events call) next
 
   -- one event alone
-  alone : (e : Event) (call : Call) → TellsEvent e call → WasOne (e ∷ []) call
-  alone e call told = inr ([], e, refl, tt, told)
+  one_kept : (p q : PacerView) (h after : HeapState) (e : Event) (call : Call) (next : Result Held Status) → next ≡ Ok (held q after) → Path KeepsPlan (state_of (paced_by p h)) (e ∷ []) (state_of (paced_by q after)) → TellsEvent e call
+      → WasKept p h (Called call) next
+  one_kept p q h after e call next left path told = record { events = e ∷ []; pacer = q; heap = after; left = left; path = path; tells = inr ([], e, refl, tt, told) }
 
   step_kept : (p : PacerView) (h : HeapState) (m : ℕ) (c : Command) (answer : Answer) (next : Result Held Status) → MakesNothing c → Steps (Ok (held p h)) m c next answer → WasKept p h (Called (Command_called m c answer)) next
   step_kept p h m c answer next none s =
       let asked = s.1 in
-      record {
-        events = Command_done m c asked.0 ∷ [];
-        pacer = p;
-        heap = asked.1.heap;
-        left = asked.3 ∙ ap Ok asked.4.0;
-        path = other_path (state_of (paced_by p h)) m c asked.0 asked.1.heap none asked.4.1;
-        was = alone (Command_done m c asked.0) (Command_called m c answer) (ap (Command_called m c) (s.2 ∙ ap answered asked.2));
-      }
+      one_kept p p h asked.1.heap (Command_done m c asked.0) (Command_called m c answer) next (asked.3 ∙ ap Ok asked.4.0) (other_path (state_of (paced_by p h)) m c asked.0 asked.1.heap none asked.4.1) (ap (Command_called m c) (s.2 ∙ ap answered asked.2))
 
   make_kept : (p : PacerView) (h : HeapState) (m dst : ℕ) (shape : Shape) (answer : Answer) (next : Result Held Status) (reply : Result Reply Status)
       → AsksPaying (words_of (asks (commands.New dst shape))) (λ x a k. calls.Steps x m (commands.New dst shape) a k) (Ok (held p h)) reply next → answer ≡ answered reply → WasKept p h (Called (Command_called m (commands.New dst shape) answer)) next
-  make_kept p h m dst shape answer next (Err why) a told = record {
-    events = [];
-    pacer = p;
-    heap = h;
-    left = a.1 ∙ ap Ok a.2.1.1;
-    path = refl;
-    was = inl (refl, (m, dst, shape, ap (Command_called m (commands.New dst shape)) (told ∙ ap refused a.2.0)));
-  }
+  make_kept p h m dst shape answer next (Err why) a told =
+      let call = Command_called m (commands.New dst shape) in
+      none_kept p h (λ events. WasEvents events (Called (call answer))) next (a.1 ∙ ap Ok a.2.1.1) (inl (refl, (m, dst, shape, ap call (told ∙ ap refused a.2.0))))
   make_kept p h m dst shape answer next (Ok reply) a told =
       let c = commands.New dst shape in
       let paid = a.2.1 in
@@ -140,7 +137,7 @@ module _ (config : Config) (cycles : Cycles) where
         heap = a.0.heap;
         left = a.1 ∙ ap Ok (a.2.2.0 ∙ ap (λ (x : Held). record x { heap = a.0.heap }) same);
         path = call_path (paced_by p h) (paced_by q a.0.heap) m c reply (paid.2, paced_by q a.2.0.heap, paid.3, steps, refl);
-        was = inr (paid.3.work, e, refl, works (words_of (asks c)) paid.3.work (state_of (paced_by p h)) (record { heap = a.2.0.heap; counts = paid.3.before }) paid.3.works, ap (Command_called m c) told);
+        tells = inr (paid.3.work, e, refl, works (words_of (asks c)) paid.3.work (state_of (paced_by p h)) (record { heap = a.2.0.heap; counts = paid.3.before }) paid.3.works, ap (Command_called m c) told);
       }
 
   command_kept : (p : PacerView) (h : HeapState) (m : ℕ) (c : Command) (answer : Answer) (next : Result Held Status) → DoesCommand (Ok (held p h)) m c next answer → WasKept p h (Called (Command_called m c answer)) next
@@ -151,27 +148,13 @@ module _ (config : Config) (cycles : Cycles) where
   begin_kept p h status next d =
       let e = begin_done d.1 in
       let q : PacerView = record p { counts = counted p.counts e } in
-      record {
-        events = e ∷ [];
-        pacer = q;
-        heap = d.0.heap;
-        left = d.2 ∙ ap Ok d.3.0;
-        path = begin_path p q h d.0.heap d.1 d.3.2 refl;
-        was = alone e (Begin_called status) (begin_told d.1 status d.4);
-      }
+      one_kept p q h d.0.heap e (Begin_called status) next (d.2 ∙ ap Ok d.3.0) (begin_path p q h d.0.heap d.1 d.3.2 refl) (begin_told d.1 status d.4)
 
   quantum_kept : (p : PacerView) (h : HeapState) (budget : ℕ) (before after : QuantumSpent) (status : ℕ) (next : Result Held Status) → SpendsOpen (Ok (held p h)) budget next before after status → WasKept p h (Called (Quantum_called budget before after status)) next
   quantum_kept p h budget before after status next d =
       let e = quantum_done budget d.1 in
       let q : PacerView = record p { counts = counted p.counts e } in
-      record {
-        events = e ∷ [];
-        pacer = q;
-        heap = d.0.heap;
-        left = d.2 ∙ ap Ok d.3.0;
-        path = quantum_path p q h d.0.heap budget d.1 d.3.2 refl;
-        was = alone e (Quantum_called budget before after status) (quantum_told budget d.1 before after status d.4 d.5);
-      }
+      one_kept p q h d.0.heap e (Quantum_called budget before after status) next (d.2 ∙ ap Ok d.3.0) (quantum_path p q h d.0.heap budget d.1 d.3.2 refl) (quantum_told budget d.1 before after status d.4 d.5)
 
   list_kept : (p : PacerView) (h : HeapState) (m : ℕ) (cs : List Command) (told : MetronomeProgress) (next : Result Held Status) → MakeNothing cs → DoesList (Ok (held p h)) m cs next told → WasKept p h (List_called m cs told) next
   list_kept p h m cs told next none d =
@@ -183,19 +166,13 @@ module _ (config : Config) (cycles : Cycles) where
         heap = asked.1.heap;
         left = asked.3 ∙ ap Ok asked.4.0;
         path = list_path m cs done.0 asked.0.refused (state_of (paced_by p h)) asked.1.heap none done.1.order;
-        was = inr ([], done.0, asked.0, refl, tt, done.1.done, d.2 ∙ ap progress_told asked.2);
+        tells = inr ([], done.0, asked.0, refl, tt, done.1.done, d.2 ∙ ap progress_told asked.2);
       }
 
   made_kept : (p : PacerView) (h : HeapState) (m dst : ℕ) (shape : Shape) (cs : List Command) (told : MetronomeProgress) (next : Result Held Status) (progress : Result Progress Status) → MakeNothing cs
       → AsksPaying (shape_words shape) (λ x a k. DoesFront x m (commands.New dst shape ∷ cs) a k) (Ok (held p h)) progress next → told ≡ progress_told progress → WasKept p h (List_called m (commands.New dst shape ∷ cs) told) next
-  made_kept p h m dst shape cs told next (Err why) none a is = record {
-    events = [];
-    pacer = p;
-    heap = h;
-    left = a.1 ∙ ap Ok a.2.1.1;
-    path = refl;
-    was = inl (refl, is ∙ ap (λ (w : Status). progress_told (Err w)) a.2.0);
-  }
+  made_kept p h m dst shape cs told next (Err why) none a is =
+      none_kept p h (λ events. WasEvents events (List_called m (commands.New dst shape ∷ cs) told)) next (a.1 ∙ ap Ok a.2.1.1) (inl (refl, is ∙ ap (λ (w : Status). progress_told (Err w)) a.2.0))
   made_kept p h m dst shape cs told next (Ok progress) none a is =
       let c = commands.New dst shape in
       let paid = a.2.1 in
@@ -208,7 +185,7 @@ module _ (config : Config) (cycles : Cycles) where
         heap = a.0.heap;
         left = a.1 ∙ ap Ok (a.2.2.0 ∙ ap (λ (x : Held). record x { heap = a.0.heap }) same);
         path = first_path (paced_by p h) (paced_by q a.2.0.heap) m c cs done.0 progress.refused a.0.heap paid.3 none done.1.order;
-        was = inr (paid.3.work, done.0, progress, refl, works (words_of (asks c)) paid.3.work (state_of (paced_by p h)) (record { heap = a.2.0.heap; counts = paid.3.before }) paid.3.works, done.1.done, is);
+        tells = inr (paid.3.work, done.0, progress, refl, works (words_of (asks c)) paid.3.work (state_of (paced_by p h)) (record { heap = a.2.0.heap; counts = paid.3.before }) paid.3.works, done.1.done, is);
       }
 
   commands_kept : (p : PacerView) (h : HeapState) (m : ℕ) (cs : List Command) (told : MetronomeProgress) (next : Result Held Status) → DoesCommands (Ok (held p h)) m cs next told → WasKept p h (List_called m cs told) next
@@ -222,16 +199,11 @@ module _ (config : Config) (cycles : Cycles) where
   call_kept p h (List_called m cs told) next d = commands_kept p h m cs told next d
 
   -- calls are events that keep the plan, one call after the other
-  pub record WereKept (p : PacerView) (h : HeapState) (calls : List KeptCall) (new : Result Held Status) : Type 0 where
-    pub events : List Event
-    pub pacer : PacerView
-    pub heap : HeapState
-    pub left : new ≡ Ok (held pacer heap)
-    pub path : Path KeepsPlan (state_of (paced_by p h)) events (state_of (paced_by pacer heap))
-    pub were : WereEvents events calls
+  abbrev WereKept : PacerView → HeapState → List KeptCall → Result Held Status → Type 0
+  WereKept p h calls new = KeptBy p h (λ events. WereEvents events calls) new
 
   pub were_kept : (calls : List KeptCall) (p : PacerView) (h : HeapState) (new : Result Held Status) → KeptCalls (Ok (held p h)) calls new → WereKept p h calls new
-  were_kept [] p h new d = record { events = []; pacer = p; heap = h; left = d; path = refl; were = refl }
+  were_kept [] p h new d = none_kept p h (λ events. WereEvents events []) new d refl
   were_kept (call ∷ calls) p h new d =
       let one = call_kept p h call d.0 d.1 in
       let rest = were_kept calls one.pacer one.heap new (subst (λ (x : Result Held Status). KeptCalls x calls new) one.left d.2) in
@@ -241,7 +213,7 @@ module _ (config : Config) (cycles : Cycles) where
         heap = rest.heap;
         left = rest.left;
         path = path_then KeepsPlan one.events rest.events (state_of (paced_by p h)) (state_of (paced_by one.pacer one.heap)) (state_of (paced_by rest.pacer rest.heap)) one.path rest.path;
-        were = (one.events, rest.events, refl, one.was, rest.were);
+        tells = (one.events, rest.events, refl, one.tells, rest.tells);
       }
 
 module _ (s : Settings) (h : Held) (made : IsMadeOf s h) (flow : MetronomeFlow) (calls : List KeptCall) (new : Result Held Status) where
@@ -261,7 +233,7 @@ module _ (s : Settings) (h : Held) (made : IsMadeOf s h) (flow : MetronomeFlow) 
         events = all.events;
         left = held h.config no_cycles all.pacer all.heap;
         is_left = all.left;
-        were = all.were;
+        were = all.tells;
         room = found;
         holds = course_holds found.course (runs_course all.events (opened h.heap) found.course (is_course s h made) found.runs);
       }

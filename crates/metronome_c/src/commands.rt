@@ -19,11 +19,7 @@ pub extern "C" fn metronome_new_plain(
 ) -> Answer
     ensures { Makes (held_in heap.old) mutator (commands.New dst (shapes.Plain refs words)) (held_in heap.new) result }
 {
-    let shape = Shape::Plain { refs, words };
-    if heap.keeps_plan() {
-        return heap.make_kept(mutator, dst, shape);
-    }
-    heap.answer(|inner| inner.make(mutator, dst, shape))
+    heap.make(mutator, dst, Shape::Plain { refs, words })
 }
 
 /// A new array of reference cells, into slot dst.
@@ -36,11 +32,7 @@ pub extern "C" fn metronome_new_refs(
 ) -> Answer
     ensures { Makes (held_in heap.old) mutator (commands.New dst (shapes.RefArray refs)) (held_in heap.new) result }
 {
-    let shape = Shape::RefArray(refs);
-    if heap.keeps_plan() {
-        return heap.make_kept(mutator, dst, shape);
-    }
-    heap.answer(|inner| inner.make(mutator, dst, shape))
+    heap.make(mutator, dst, Shape::RefArray(refs))
 }
 
 /// A new array of word cells, into slot dst.
@@ -53,11 +45,7 @@ pub extern "C" fn metronome_new_words(
 ) -> Answer
     ensures { Makes (held_in heap.old) mutator (commands.New dst (shapes.WordArray words)) (held_in heap.new) result }
 {
-    let shape = Shape::WordArray(words);
-    if heap.keeps_plan() {
-        return heap.make_kept(mutator, dst, shape);
-    }
-    heap.answer(|inner| inner.make(mutator, dst, shape))
+    heap.make(mutator, dst, Shape::WordArray(words))
 }
 
 /// What a reference cell holds into slot dst.

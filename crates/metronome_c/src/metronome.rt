@@ -171,6 +171,17 @@ impl Metronome {
         Answer::from_outcome(self.ask_paying(shape, |inner| inner.make(mutator, dst, shape)))
     }
 
+    /// Makes an object of a shape in the heap, if there is one: once its words were paid for, where a plan is kept.
+    #[inline(always)]
+    pub(crate) fn make(&mut self, mutator: u32, dst: u32, shape: Shape) -> Answer
+        ensures { Makes (held_in self.old) mutator (commands.New dst shape) (held_in self.new) result }
+    {
+        if self.keeps_plan() {
+            return self.make_kept(mutator, dst, shape);
+        }
+        self.answer(|inner| inner.make(mutator, dst, shape))
+    }
+
     /// Asks the heap for a reply, if there is one, and tells it.
     #[inline(always)]
     pub(crate) fn answer<F: FnOnce(&mut Heap) -> Reply + Drop>(&mut self, call: F) -> Answer

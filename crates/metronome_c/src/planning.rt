@@ -53,7 +53,7 @@ impl MetronomeFlow {
     }
 }
 
-/// The plan of the most words for each quantum that fits in a heap of a configuration, where it moves all.
+/// The plan that `paced` finds for a heap of a configuration (`paced::planned`); none where the heap doesn't move all.
 fn planned_in(config: &Config, live_words: u64) -> Option<Plan>
     ensures { IsPlanned config.now live_words result }
 {
@@ -64,8 +64,9 @@ fn planned_in(config: &Config, live_words: u64) -> Option<Plan>
     }
 }
 
-/// Tells the plan of the most words for each quantum that fits in a heap of these settings, where the blocks of live objects
-/// have at most so many words whenever a cycle begins; or that there is none. No heap is made. It takes time by the pages.
+/// Tells a plan for a heap of these settings, where the blocks of live objects have at most so many words whenever a cycle
+/// begins, or that there is none: it has as many words for a cycle as fit, and the most for a quantum with which they last
+/// until a whole cycle has ended. No heap is made. It takes time by the pages.
 #[unsafe(no_mangle)]
 pub extern "C" fn metronome_plan(
     settings: &Settings,

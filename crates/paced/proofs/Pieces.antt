@@ -1,5 +1,7 @@
 -- Pieces of the collector's work: what each does, and that less is left after it.
 use Rattle.std.proofs.Common.{◌≡◌, ◌≢◌, ℕ, ◌+◌, ◌-◌, ◌^◌, ◌<◌, ◌≤◌, ◌⊎◌, inl, inr, Bool, true, false, ◌==◌, if◌then◌else◌, min, Result, Ok, Err, IfOk, List, [], ◌∷◌, ◌++◌, ap, ◌∙◌, sym, subst, arith, refl}
+use Rattle.std.specs.Prelude.{not}
+use Rattle.std.specs.Int.{from_bool}
 use Rattle.heap_model.specs.declared.phase.Phase.{Phase}
 use Rattle.heap_model.specs.declared.phase.Phase.TheVariants as phases
 use Rattle.heap_model.specs.State.{HeapState}
@@ -111,11 +113,11 @@ works_for words v false (Quantum_done budget units phase) i none = (none, i.0, i
 works_for words v false (Quantum_refused budget) i none = absurd i
 
 -- how many quanta and beginnings it is
-abbrev quanta_by : Bool → ℕ
-quanta_by began = if began then 0 else 1
+abbrev pub quanta_by : Bool → ℕ
+quanta_by began = from_bool (not began)
 
-abbrev cycles_by : Bool → ℕ
-cycles_by began = if began then 1 else 0
+abbrev pub cycles_by : Bool → ℕ
+cycles_by began = from_bool began
 
 piece_counts : (v : PacedState) (began : Bool) (e : Event) → IsPiece v began e → (quanta_in (e ∷ []) ≡ quanta_by began) × (cycles_in (e ∷ []) ≡ cycles_by began)
 piece_counts v true (Command_done m c reply) i = absurd i
@@ -151,7 +153,7 @@ pub worked_none : (words : ℕ) (v : PacedState) → HasWorked words v v 0 0
 worked_none words v = record { work = []; path = refl; quanta_done = refl; cycles_begun = refl; plan = refl }
 
 -- a piece more was done
-worked_more : (words : ℕ) (old now new : PacedState) (quanta cycles more begun : ℕ) (began : Bool) → HasWorked words old now quanta cycles → (MayAsk now words → ⊥) → DoesPiece now began new
+pub worked_more : (words : ℕ) (old now new : PacedState) (quanta cycles more begun : ℕ) (began : Bool) → HasWorked words old now quanta cycles → (MayAsk now words → ⊥) → DoesPiece now began new
     → more ≡ min (quanta + quanta_by began) (2 ^ 64 - 1) → begun ≡ min (cycles + cycles_by began) (2 ^ 64 - 1) → HasWorked words old new more begun
 worked_more words old now new quanta cycles more begun began w none p q b = record {
   work = w.work ++ p.event ∷ [];
@@ -160,9 +162,3 @@ worked_more words old now new quanta cycles more begun began w none p q b = reco
   cycles_begun = (let c = counts_more w.work p.event in let n = c.1 in let x = piece_counts now began p.event p.is_piece in let y = x.1 in let v = w.cycles_begun in omega (arith, n, y, v, b));
   plan = ap (λ (t : Counts). t.plan) p.counts ∙ same_plan now.counts p.event ∙ w.plan;
 }
-
-pub worked_cycle : (words : ℕ) (old now new : PacedState) (quanta cycles begun : ℕ) → HasWorked words old now quanta cycles → (MayAsk now words → ⊥) → DoesPiece now true new → begun ≡ min (cycles + 1) (2 ^ 64 - 1) → HasWorked words old new quanta begun
-worked_cycle words old now new quanta cycles begun w none p b = worked_more words old now new quanta cycles quanta begun true w none p (let v = w.quanta_done in omega (arith, v)) b
-
-pub worked_quantum : (words : ℕ) (old now new : PacedState) (quanta cycles more : ℕ) → HasWorked words old now quanta cycles → (MayAsk now words → ⊥) → DoesPiece now false new → more ≡ min (quanta + 1) (2 ^ 64 - 1) → HasWorked words old new more cycles
-worked_quantum words old now new quanta cycles more w none p q = worked_more words old now new quanta cycles more cycles false w none p q (let v = w.cycles_begun in omega (arith, v))

@@ -1,5 +1,5 @@
 -- The plan that is chosen is the one with the most words for each quantum.
-use Rattle.std.proofs.Common.{◌≡◌, ℕ, ◌+◌, ◌-◌, ◌*◌, ◌/◌, ◌<◌, ◌≤◌, ◌⊎◌, inl, inr, Bool, true, false, nat_lt, if◌then◌else◌, ◌∙◌, sym, subst, arith, refl}
+use Rattle.std.proofs.Common.{◌≡◌, ℕ, ◌+◌, ◌-◌, ◌*◌, ◌/◌, ◌<◌, ◌≤◌, ◌⊎◌, inl, inr, Bool, true, false, nat_lt, if◌then◌else◌, ap, ◌∙◌, sym, subst, arith, refl}
 use Rattle.std.specs.Prelude.{min, Option, Some, None, is_some, IsTrue, IfSome}
 use Rattle.std.proofs.lemmas.Nat.{le-div}
 use Rattle.std.proofs.Math.Nat.{div-mul-le_self, mul-le-mul_left, mul-le-mul_right, lt-div-mul-add, le-min, min-le_left, min-le_right}
@@ -101,6 +101,14 @@ flow_more makes live p q roots pages k more some l m =
     let d = div_more (flow_moving (flow_for makes live p) pages) (flow_moving (flow_for makes live q) pages + more) (k - 255) (k - 255) some (omega (arith, o)) (omega arith) in
     let e = div_add (flow_moving (flow_for makes live q) pages) more (k - 255) some in
     omega (arith, s, d, e)
+
+-- the words that are made while a cycle marks and sweeps, at most
+abbrev pub traced_on : (ℕ → Bool) → Config → ℕ → ℕ → Plan → ℕ
+traced_on makes c live pages plan = sweep_quanta (flow_for makes live plan) (roots_in c) pages (c.collector_ticks * c.rate) * plan.quantum_words
+
+pub words_traced : (quanta words : ℕ) (makes : ℕ → Bool) (c : Config) (live pages : ℕ) (plan : Plan) → quanta ≡ sweep_quanta (flow_for makes live plan) (roots_in c) pages (c.collector_ticks * c.rate) → words ≡ plan.quantum_words
+    → quanta * words ≡ traced_on makes c live pages plan
+words_traced quanta words makes c live pages plan q w = ap (λ n. n * words) q ∙ ap (λ n. sweep_quanta (flow_for makes live plan) (roots_in c) pages (c.collector_ticks * c.rate) * n) w
 
 -- the words for which there is room besides what is live, where blocks are made of so many classes
 abbrev pub room_of : ℕ → ℕ → ℕ → ℕ

@@ -185,11 +185,9 @@ impl Pacer {
         let mut quanta = 0u64;
         let mut cycles = 0u64;
         while !self.allows(heap, words) {
-            if self.work(heap) {
-                cycles = cycles.saturating_add(1);
-            } else {
-                quanta = quanta.saturating_add(1);
-            }
+            let began = self.work(heap);
+            cycles = cycles.saturating_add(u64::from(began));
+            quanta = quanta.saturating_add(u64::from(!began));
         }
         self.figures = self.figures.with_work(quanta, cycles);
         self.words += words;

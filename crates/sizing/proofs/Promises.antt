@@ -1,23 +1,21 @@
 -- What is measured of a run promises that it finds room.
-use Rattle.std.proofs.Common.{◌≡◌, ℕ, ◌+◌, ◌*◌, ◌<◌, ◌≤◌, ◌==◌, ◌&&◌, ◌↔◌, ◌⊎◌, inl, inr, Bool, true, false, if◌then◌else◌, nat_lt, nat_le, min, List, [], ◌∷◌, Option, Some, None, ap, ◌∙◌, sym, subst, arith, refl}
+use Rattle.std.proofs.Common.{◌≡◌, ℕ, ◌+◌, ◌*◌, ◌<◌, ◌≤◌, ◌==◌, ◌&&◌, ◌⊎◌, inl, inr, Bool, true, false, if◌then◌else◌, nat_lt, nat_le, min, List, [], ◌∷◌, Option, Some, None, ap, ◌∙◌, sym, subst, arith, refl}
 use Rattle.std.proofs.lemmas.Bool.{cases_lt}
-use Rattle.std.specs.Prelude.{IfSome, MatchOption}
+use Rattle.std.specs.Prelude.{MatchOption}
 use Rattle.graph_heap.specs.declared.command.Limits.{Limits}
 use Rattle.settings.specs.declared.config.Config.{Config}
 use Rattle.settings.specs.declared.config.TheConstants.{LEAST_BUDGET}
 use Rattle.heap_model.specs.State.{HeapState}
-use Rattle.heap_model.specs.Settings.{HeapSettings, settings_of, settings_by}
+use Rattle.heap_model.specs.Settings.{settings_of, settings_by}
 use Rattle.heap_model.specs.Opening.{IsOpening}
 use Rattle.heap_model.specs.Event.{Course, Event, Command_done, Cycle_begun, Begin_refused, Quantum_done, Quantum_refused, Runs, HaveBudgets}
 use Rattle.heap_model.specs.ReachedFrom.{opened}
 use Rattle.size_classes.specs.declared.class.TheConstants.{CLASSES}
-use Rattle.space.specs.declared.pace.Pace.{Pace as PaceTable}
 use Rattle.space.specs.Pace.{Pace, opening_beat, AllKeepPace}
 use Rattle.space.specs.Space.{pages_for}
 use Rattle.space.specs.Fitting.{pace_in, spare_in, below_in, FitsIn}
-use Rattle.space.specs.Room.{AllHaveRoom}
 use Rattle.space.proofs.Fittings.Configured.{pace_configured}
-use Rattle.fragmentation.specs.Season.{Season, opening_season, AllKeep}
+use Rattle.fragmentation.specs.Season.{Season, opening_season}
 use Rattle.fragmentation.specs.Suffice.{WithinPages, sparse_pages}
 use Rattle.fragmentation.specs.Configured.{MovesAll, FitsTogether}
 use Rattle.fragmentation.proofs.Configured.{joint_configured, moving_configured, page_demand_configured}

@@ -1,5 +1,5 @@
 -- What it means that pages suffice.
-use Rattle.std.specs.Prelude.{◌≡◌, ℕ, ◌≤◌, List, Some}
+use Rattle.std.specs.Prelude.{◌≡◌, ◌≤◌, List, Some}
 use Rattle.graph_heap.specs.declared.command.Limits.{Limits}
 use Rattle.settings.specs.declared.config.Config.{Config}
 use Rattle.heap_model.specs.State.{HeapState}

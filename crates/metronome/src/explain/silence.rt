@@ -9,32 +9,21 @@ use trace::PlayFault;
 #[derive(Clone, Copy, Debug, PartialEq, Eq)]
 pub(crate) struct Silence;
 
-impl From<io::Error> for Silence {
-    fn from(_error: io::Error) -> Silence {
-        Silence
-    }
-}
+/// An error of which no more is said.
+trait Unsaid {}
 
-impl From<AllocError> for Silence {
-    fn from(_error: AllocError) -> Silence {
-        Silence
-    }
-}
+impl Unsaid for io::Error {}
 
-impl From<NoMemory> for Silence {
-    fn from(_error: NoMemory) -> Silence {
-        Silence
-    }
-}
+impl Unsaid for AllocError {}
 
-impl From<PlayFault> for Silence {
-    fn from(_fault: PlayFault) -> Silence {
-        Silence
-    }
-}
+impl Unsaid for NoMemory {}
 
-impl From<RunFault> for Silence {
-    fn from(_fault: RunFault) -> Silence {
+impl Unsaid for PlayFault {}
+
+impl Unsaid for RunFault {}
+
+impl<E: Unsaid + Drop> From<E> for Silence {
+    fn from(_error: E) -> Silence {
         Silence
     }
 }

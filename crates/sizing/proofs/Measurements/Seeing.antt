@@ -1,5 +1,5 @@
 -- A run that is measured step by step.
-use Rattle.std.proofs.Common.{◌≡◌, ◌≢◌, ℕ, ◌<◌, ◌≤◌, ◌⊎◌, inl, inr, true, false, List, [], ◌∷◌, ◌++◌, length, map, arith, refl, ap, ◌∙◌, sym, subst}
+use Rattle.std.proofs.Common.{◌≡◌, ◌≢◌, ℕ, inl, inr, true, false, List, [], ◌∷◌, ◌++◌, length, arith, refl, ap, ◌∙◌, sym, subst}
 use Rattle.std.proofs.lemmas.List.{map-append}
 use Rattle.std.specs.Prelude.{Result, Ok, Err, OnErr}
 use Rattle.graph_heap.specs.declared.command.Limits.{Limits}
@@ -10,7 +10,7 @@ use Rattle.settings.specs.declared.config.Config.{Config}
 use Rattle.settings.specs.Config.{limits_of}
 use Rattle.heap_model.specs.State.{HeapState}
 use Rattle.heap_model.specs.Opening.{IsOpening}
-use Rattle.heap_model.specs.Settings.{HeapSettings, settings_of, settings_by}
+use Rattle.heap_model.specs.Settings.{HeapSettings}
 use Rattle.heap_model.specs.ReachedFrom.{opened}
 use Rattle.heap_model.specs.Event.{Course, Event, Command_done, Cycle_begun, Begin_refused, Quantum_done, Does, Runs, Enters, Begins, IsCourse}
 use Rattle.heap_model.proofs.Event.Kept.{runs_course, opening_course}

@@ -7,8 +7,8 @@ use Rattle.heap_model.specs.Event.{Event, HaveBudgets}
 use Rattle.space.specs.declared.pace.Pace.{Pace as PaceTable}
 use Rattle.space.specs.Pace.{Pace, opening_beat, AllKeepPace}
 use Rattle.space.specs.Fitting.{pace_in}
-use Rattle.fragmentation.specs.Season.{Lives, Season, opening_season, AllKeep}
-use Rattle.fragmentation.specs.Suffice.{WithinBlocks, WithinPages, pages_of, PageDemand, WithinPageDemand}
+use Rattle.fragmentation.specs.Season.{opening_season}
+use Rattle.fragmentation.specs.Suffice.{PageDemand, WithinPageDemand}
 use Rattle.sizing.specs.declared.meter.Meter.{Meter}
 use Rattle.sizing.specs.declared.needed.Needed.{Needed}
 use Rattle.sizing.specs.Counts.{MOST, TOO_MANY, AreBlocks, IsTable, HasOver, IsPages}

@@ -1,22 +1,18 @@
 -- The least bounds that a meter holds, after a command.
-use Rattle.std.proofs.Common.{◌≡◌, ℕ, ◌+◌, ◌<◌, ◌≤◌, ◌==◌, Bool, true, false, if◌then◌else◌, List, [], ◌∷◌, ◌++◌, length, drop, max, arith, refl, ap, ◌∙◌, sym, subst}
+use Rattle.std.proofs.Common.{◌≡◌, ℕ, ◌+◌, ◌<◌, ◌≤◌, List, [], ◌∷◌, ◌++◌, max, arith, ap, sym, subst}
 use Rattle.graph_heap.specs.declared.command.Limits.{Limits}
 use Rattle.graph_heap.specs.declared.command.Command.{Command}
 use Rattle.graph_heap.specs.declared.command.Reply.{Reply}
-use Rattle.graph_heap.specs.Graph.{Graph}
 use Rattle.size_classes.specs.declared.class.TheConstants.{CLASSES}
-use Rattle.heap_model.specs.Event.{Event, Command_done, Cycle_begun}
-use Rattle.space.specs.Demand.{LiveWithin, blocks_of, asked_for}
-use Rattle.fragmentation.specs.Season.{Season, Lives, opening_season, made_since, needed_since, season_swept, AllKeep}
-use Rattle.fragmentation.specs.Suffice.{WithinBlocks, WithinPages, pages_of, season_pages, PageDemand, WithinPageDemand}
+use Rattle.heap_model.specs.Event.{Event, Command_done}
+use Rattle.space.specs.Demand.{asked_for}
+use Rattle.fragmentation.specs.Season.{Season, Lives, opening_season, made_since, AllKeep}
+use Rattle.fragmentation.specs.Suffice.{WithinBlocks, WithinPages, pages_of, PageDemand, WithinPageDemand}
 use Rattle.fragmentation.proofs.Suffice.Paging.{pages_more}
 use Rattle.sizing.specs.declared.meter.Meter.{Meter}
-use Rattle.sizing.specs.declared.season.Season.{Season as Counted}
-use Rattle.sizing.specs.declared.most.Most.{Most}
 use Rattle.sizing.specs.Counts.{AreBlocks, IsPages}
-use Rattle.sizing.specs.Season.{AsksMost, LivesMost, IsBegun, IsSwept, pages_gathered}
-use Rattle.sizing.specs.Meter.{season_at, none_live, AgreeTo, Anything, Lived, IsLeastOf, Shifts}
-use Rattle.sizing.proofs.Counts.Counting.{are_sum, are_same}
+use Rattle.sizing.specs.Season.{AsksMost, pages_gathered}
+use Rattle.sizing.specs.Meter.{season_at, none_live, AgreeTo, Anything, Lived, Shifts}
 use Rattle.sizing.proofs.Meters.Seasons.{alike, keep_append, made_alike, stated}
 use Rattle.sizing.proofs.Meters.Leasts.{season, still, goes, least_more, lived_more}
 use Rattle.sizing.proofs.Counts.Paging.{season_more}

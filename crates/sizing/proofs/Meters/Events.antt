@@ -29,7 +29,7 @@ use Rattle.sizing.specs.Season.{IsNothing, AsksMost}
 use Rattle.sizing.specs.Measured.{IsPaceWithin}
 use Rattle.sizing.specs.Meter.{season_at, none_live, beat_after, AllFit, Asks, Allocates, AreOf, Holds, Needs, Shifts, Measures}
 use Rattle.sizing.proofs.Counts.Counting.{are_sum, are_max, are_same}
-use Rattle.sizing.proofs.Measures.Events.{beat_append, pace_more, Least, pace_live, pace_busy, pace_idle, pace_same, budgets_append}
+use Rattle.sizing.proofs.Measures.Events.{beat_append, pace_more, Least, pace_busy, pace_idle, pace_same, budgets_append}
 use Rattle.sizing.proofs.Meters.Seasons.{season_append}
 use Rattle.sizing.proofs.Meters.Shifting.{shifts_still}
 use Rattle.sizing.proofs.Meters.Asking.{shifts_command}
@@ -95,6 +95,11 @@ not_more more a b up off = elim (le_or b a) [
   where
     le_or : (x y : ℕ) → (x ≤ y) ⊎ (y < x)
     le_or x y = grind arith
+
+-- a meter that noted what is asked for steps as its graph did
+pub noted_steps : (old done noted : Meter) (x : Entry) → noted.graph ≡ done.graph → (IsEntryOf old.graph x → done ≡ record old { graph = after_entry old.graph x }) → IsEntryOf old.graph x
+    → noted ≡ record noted { graph = after_entry old.graph x }
+noted_steps old done noted x same stepped is = ap (λ (g : Graph). record noted { graph = g }) (same ∙ ap (λ (y : Meter). y.graph) (stepped is))
 
 -- what is asked for is noted after the entry was done as it would be before
 pub asks_before : (asked : List ℕ) (old done noted : Meter) → done ≡ record old { graph = done.graph } → Asks asked done noted → Asks asked old (record noted { graph = old.graph })

@@ -1,8 +1,7 @@
 -- Seasons of events one after the other, whatever is said to be live.
-use Rattle.std.proofs.Common.{◌≡◌, ℕ, ◌+◌, ◌<◌, ◌≤◌, ◌↔◌, Bool, true, false, if◌then◌else◌, List, [], ◌∷◌, ◌++◌, length, drop, arith, refl, ap, ◌∙◌, sym, subst}
+use Rattle.std.proofs.Common.{◌≡◌, ℕ, ◌+◌, ◌↔◌, Bool, true, false, if◌then◌else◌, List, [], ◌∷◌, ◌++◌, length, drop, refl, ap, ◌∙◌, sym}
 use Rattle.graph_heap.specs.Graph.{Graph}
 use Rattle.graph_heap.specs.History.{after_entry}
-use Rattle.heap_model.specs.declared.phase.Phase.{Phase}
 use Rattle.heap_model.specs.Event.{Course, Event, Command_done, Cycle_begun, Begin_refused, Quantum_done, Quantum_refused, Runs}
 use Rattle.space.specs.Demand.{blocks_of}
 use Rattle.heap_model.specs.Phases.{awaits_sweep_end}

@@ -1,25 +1,21 @@
 -- The least bounds that a meter holds, as events go on.
-use Rattle.std.proofs.Common.{◌≡◌, ℕ, ◌+◌, ◌<◌, ◌≤◌, ◌↔◌, ◌==◌, Bool, true, false, if◌then◌else◌, List, [], ◌∷◌, ◌++◌, length, drop, max, arith, refl, ap, ◌∙◌, sym, subst}
+use Rattle.std.proofs.Common.{◌≡◌, ℕ, ◌+◌, ◌<◌, ◌≤◌, ◌↔◌, ◌==◌, Bool, true, false, if◌then◌else◌, List, [], ◌∷◌, ◌++◌, length, max, arith, refl, ap, ◌∙◌, sym, subst}
 use Rattle.graph_heap.specs.declared.command.Limits.{Limits}
-use Rattle.graph_heap.specs.declared.command.Command.{Command}
-use Rattle.graph_heap.specs.declared.command.Reply.{Reply}
-use Rattle.graph_heap.specs.Graph.{Graph}
 use Rattle.size_classes.specs.declared.class.TheConstants.{CLASSES}
-use Rattle.heap_model.specs.Event.{Event, Command_done, Cycle_begun}
-use Rattle.space.specs.Demand.{LiveWithin, blocks_of, asked_for}
+use Rattle.heap_model.specs.Event.{Event, Cycle_begun}
+use Rattle.space.specs.Demand.{LiveWithin}
 use Rattle.fragmentation.specs.Season.{Season, Lives, opening_season, made_since, needed_since, season_swept, AllKeep}
-use Rattle.fragmentation.specs.Suffice.{WithinBlocks, WithinPages, pages_of, season_pages, PageDemand, WithinPageDemand}
+use Rattle.fragmentation.specs.Suffice.{WithinBlocks, WithinPages, pages_of, PageDemand, WithinPageDemand}
 use Rattle.fragmentation.proofs.Suffice.Paging.{pages_more}
 use Rattle.sizing.specs.declared.meter.Meter.{Meter}
 use Rattle.sizing.specs.declared.season.Season.{Season as Counted}
 use Rattle.sizing.specs.declared.most.Most.{Most}
 use Rattle.sizing.specs.Counts.{AreBlocks, IsPages}
-use Rattle.sizing.specs.Season.{AsksMost, LivesMost, IsBegun, IsSwept, pages_gathered}
+use Rattle.sizing.specs.Season.{LivesMost, IsBegun, IsSwept}
 use Rattle.sizing.specs.Meter.{season_at, none_live, AgreeTo, Anything, Lived, IsLeastOf, Shifts}
-use Rattle.sizing.proofs.Counts.Counting.{are_sum, are_same}
-use Rattle.sizing.proofs.Meters.Seasons.{alike, keep_append, made_alike, stated}
+use Rattle.sizing.proofs.Counts.Counting.{are_sum}
+use Rattle.sizing.proofs.Meters.Seasons.{alike, keep_append, made_alike}
 use Rattle.sizing.proofs.Meters.Leasts.{season, still, goes, least_more, lived_more}
-use Rattle.sizing.proofs.Counts.Paging.{season_more}
 
 module _ (l : Limits) (es : List Event) where
   -- events that are no command and begin no cycle, and after which nothing else is needed of seasons

@@ -1,5 +1,5 @@
 -- What a meter tells of the lines so far, and what checking a text tells of it.
-use Rattle.std.proofs.Common.{◌≡◌, ℕ, ◌-◌, ◌^◌, ◌<◌, min, inl, inr, List, [], ◌∷◌, ◌++◌, length, Option, Some, None, Ok, get_or, replicate, ap, ◌∙◌, sym, subst, append-nil, arith, refl}
+use Rattle.std.proofs.Common.{◌≡◌, ℕ, ◌-◌, ◌^◌, ◌<◌, min, inl, inr, List, [], ◌∷◌, ◌++◌, Option, Some, None, Ok, get_or, replicate, ap, ◌∙◌, sym, subst, append-nil, arith, refl}
 use Rattle.std.proofs.lemmas.List.{get_or-replicate}
 use Rattle.std.specs.Prelude.{Result}
 use Rattle.size_classes.specs.declared.class.TheConstants.{CLASSES}

@@ -1,5 +1,5 @@
 -- A text says one list of lines.
-use Rattle.std.proofs.Common.{◌≡◌, ℕ, ◌+◌, inl, inr, List, [], ◌∷◌, ◌++◌, length, Some, ap, ◌∙◌, sym, subst, refl}
+use Rattle.std.proofs.Common.{◌≡◌, ℕ, inl, inr, List, [], ◌∷◌, ◌++◌, Some, ap, ◌∙◌, sym, subst, refl}
 use Rattle.trace.specs.declared.line.Line.{Line}
 use Rattle.trace.specs.declared.version.Version.{Version}
 use Rattle.trace.specs.LinesProcessed.{LinesDone, No_lines, One_line_more}

@@ -1,15 +1,16 @@
 use Rattle.std.proofs.Common.{◌∙◌, sym, arith}
 use Rattle.graph_heap.specs.declared.command.Command.TheVariants as commands
 use Rattle.bulk.specs.Lists.{stores, puts}
-use Rattle.bulk.proofs.InOrder.{none_done, stops}
+use Rattle.bulk.proofs.InOrder.{none_done, stops, told_as}
 use Rattle.bulk.proofs.Filling.{stores_within, puts_within, filled_by_part, filled}
 use Rattle.std.proofs.Common.{[], ◌++◌}
 use Rattle.bulk.proofs.making.new_with.Goals as goal
 
 pub returns-in-Some : goal.returns-in-Some
 returns-in-Some c =
-    stops c.args.heap.now c.args.heap.now c.make.new.self c.args.mutator [] 0 (commands.New c.args.dst c.args.shape) c.make.result c.in-Some.refusal (stores c.args.dst c.args.refs.now ++ puts c.args.dst 0 c.args.words.now)
-    (none_done c.args.heap.now c.args.mutator) c.make.ensures (sym c.refusal_in.ensures ∙ c.in-Some.is)
+    told_as _ _ _ _ _ _ c.stopped.ensures
+    (stops c.args.heap.now c.args.heap.now c.make.new.self c.args.mutator [] 0 (commands.New c.args.dst c.args.shape) c.make.result c.in-Some.refusal (stores c.args.dst c.args.refs.now ++ puts c.args.dst 0 c.args.words.now)
+    (none_done c.args.heap.now c.args.mutator) c.make.ensures (sym c.refusal_in.ensures ∙ c.in-Some.is))
 
 pub behind-requires : goal.behind-requires
 behind-requires c =

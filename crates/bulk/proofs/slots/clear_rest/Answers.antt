@@ -1,9 +1,10 @@
-use Rattle.std.proofs.Common.{◌≡◌, ◌∙◌, ◌+◌, ◌^◌, ◌<◌, ap, refl, subst, arith}
+use Rattle.std.proofs.Common.{◌≡◌, ◌+◌, ap, refl, subst, arith}
 use Rattle.std.specs.Prelude.{None}
 use Rattle.graph_heap.specs.declared.command.Command.TheVariants as commands
 use Rattle.graph_heap.specs.declared.command.Reply.TheVariants as replies
 use Rattle.bulk.specs.InOrder.{DoesFront}
-use Rattle.bulk.specs.Lists.{clears, number_after}
+use Rattle.bulk.specs.Lists.{clears}
+use Rattle.bulk.proofs.InOrder.{told_as}
 use Rattle.bulk.proofs.Lists.{clear_at}
 use Rattle.bulk.proofs.Rows.{ends}
 use Rattle.bulk.proofs.Runs.{number_in, number_first, does_on}
@@ -14,23 +15,23 @@ loop-done-init c = (c.requires, λ h w. w)
 
 pub loop-done-preserved : goal.loop-done-preserved
 loop-done-preserved c =
-    let i = c.loop-done.done in let n = c.in-Ok.more in
-    let fits = c.in-Ok.ensures.numbers in let sum = c.saturating_add.ensures in
-    let few : number_after c.args.first i + n < 2 ^ 32 = omega (arith, fits, sum) in (
+    let i = c.loop-done.done in let fits = c.in-Ok.ensures.numbers in (
       omega (arith, fits),
       λ h w.
-          does_on (clear_at c.args.first) h c.loop-done.heap c.args.mutator i (λ k. commands.Clear (c.saturating_add.result + k)) n c.clear_run.new.self
-          (λ k b. ap (λ z. commands.Clear z) (ap (λ z. z + k) sum ∙ number_in c.args.first i n k few b)) (c.loop-done.invariant.1 h w) c.in-Ok.ensures.clears,
+          does_on (clear_at c.args.first) h c.loop-done.heap c.args.mutator i (λ k. commands.Clear (c.saturating_add.result + k)) c.in-Ok.more c.clear_run.new.self
+          (λ k b. ap (λ z. commands.Clear z) (number_in c.args.first i c.in-Ok.more k c.saturating_add.result c.saturating_add.ensures fits.2 b)) (c.loop-done.invariant.1 h w) c.in-Ok.ensures.clears,
     )
 
 pub returns-in-Err : goal.returns-in-Err
 returns-in-Err c h w =
     let i = c.loop-done.done in
-    ends (clear_at c.args.first) h c.loop-done.heap c.clear_run.new.self c.args.mutator i (commands.Clear (c.saturating_add.result + 0)) (replies.Refused c.in-Err.refusal)
-    (ap (λ z. commands.Clear z) (ap (λ z. z + 0) c.saturating_add.ensures ∙ number_first c.args.first i)) c.in-Err.ensures.clears c.args.count c.in-Err.refusal (omega arith) (c.loop-done.invariant.1 h w) refl
+    told_as _ _ _ _ _ _ c.stopped.ensures
+    (ends (clear_at c.args.first) h c.loop-done.heap c.clear_run.new.self c.args.mutator i (commands.Clear (c.saturating_add.result + 0)) (replies.Refused c.in-Err.refusal)
+    (ap (λ z. commands.Clear z) (number_first c.args.first i c.saturating_add.result c.saturating_add.ensures)) c.in-Err.ensures.clears c.args.count c.in-Err.refusal (omega arith) (c.loop-done.invariant.1 h w) refl)
 
 pub returns : goal.returns
 returns c h w =
     let least = c.loop-done.invariant.0 in
     let all : c.loop-done.done ≡ c.args.count = omega (arith, least) in
-    subst (λ n. DoesFront h c.args.mutator (clears c.args.first n) (record { done = n; refused = None }) c.loop-done.heap) all (c.loop-done.invariant.1 h w)
+    told_as _ _ _ _ _ _ c.whole.ensures
+    (subst (λ n. DoesFront h c.args.mutator (clears c.args.first n) (record { done = n; refused = None }) c.loop-done.heap) all (c.loop-done.invariant.1 h w))

@@ -1,11 +1,12 @@
-use Rattle.std.proofs.Common.{Err, Ok, inl, inr, refl, subst, sym, arith}
-use Rattle.documents.specs.ConfigFile.{IsRead}
+use Rattle.std.proofs.Common.{Err, Ok, Some, inl, inr, ap, take, refl, subst, sym, rules, arith}
 use Rattle.streams.specs.Streams.{taken_by}
 use Rattle.metronome.specs.Faults.{IsUnreadable}
+use Rattle.metronome.specs.Files.{no_file}
 use Rattle.metronome.specs.Run.{other_file}
 use Rattle.metronome.proofs.Finishing.{failed_so}
 use Rattle.metronome.proofs.Failing.{unreadable_unwritten, settings_unwritten}
-use Rattle.metronome.proofs.Obeying.{config_read, job_from, job_of, other_input, other_named, other_none, unreadable_so, or_left, or_right}
+use Rattle.metronome.proofs.Obeying.{config_seen, job_from, job_of, job_on, reads_told, other_input, other_named, other_none, unreadable_so, or_left, or_right}
+use Rattle.metronome.proofs.Reading.{none_taken}
 use Rattle.metronome.proofs.run.obey.Goals as goal
 
 pub returns-in_err-bytes : goal.returns-in_err-bytes
@@ -22,8 +23,7 @@ returns-in_err-bytes g c =
 pub returns-in_err-config : goal.returns-in_err-config
 returns-in_err-config g c =
     let why = c.in_err-config.field-0.0 in
-    let known = ((g.O.Opener.known c.args.host.now.opener.now).named c.args.request.now.config.now).bytes in
-    let read = config_read known c.in_ok-bytes.bytes.items (Err why) c.in_ok-bytes.ensures.bytes (subst (λ bytes. IsRead bytes (Err why)) c.as_slice.ensures.value c.in_err-config.ensures) in
+    let read = config_seen ((g.O.Opener.known c.args.host.now.opener.now).named c.args.request.now.config.now).bytes c.in_ok-bytes.bytes.items c.as_slice.result.now (Err why) c.in_ok-bytes.ensures.bytes c.as_slice.ensures.value c.in_err-config.ensures in
     record {
       done = inr (inl (why, read, (failed_so c.from_residual-in_err-config.result _ c.from_residual-in_err-config.ensures.1, refl)));
       writes = omega (arith, settings_unwritten c.from_residual-in_err-config.result why c.from_residual-in_err-config.ensures.1);
@@ -44,33 +44,41 @@ returns-in_err-file g c =
 
 pub returns-then-eq-clause-done : goal.returns-then-eq-clause-done
 returns-then-eq-clause-done g c =
-    let request = c.args.request.now in
-    let config = c.in_ok-config.config in
     let files = g.O.Opener.known c.args.host.now.opener.now in
-    let taken = taken_by g.K.Sink.taken c.args.sink.now c.serve.new.sink in
-    let read = config_read (files.named request.config.now).bytes c.in_ok-bytes.bytes.items (Ok config) c.in_ok-bytes.ensures.bytes (subst (λ bytes. IsRead bytes (Ok config)) c.as_slice.ensures.value c.in_ok-config.ensures) in
-    let served = c.serve.ensures.done in
-    let done = job_from files files.input g.O.Input.Source.given g.O.Input.Source.ended g.O.Input.Source.failures g.O.Input.Source.input c.standard_input-input.result served.0 request.job config taken c.serve.result c.standard_input-input.ensures served.1 served.2 served.3 in
-    inl (config, read, job_of files files.input _ request.job config taken c.serve.result (other_input files request.file c.in-Some.name c.in-Some.is c.if-eq.ensures) done)
+    let request = c.args.request.now in
+    let taken = taken_by g.K.Sink.taken c.args.sink.now c.serve-then-eq.new.sink in
+    let served = c.serve-then-eq.ensures.done in
+    let done = job_from files files.input g.O.Input.Source.given g.O.Input.Source.ended g.O.Input.Source.failures g.O.Input.Source.input c.standard_input-input.result served.0 request.job c.in_ok-config.config taken c.serve-then-eq.result c.standard_input-input.ensures served.1 served.2 served.3 in
+    inl (
+      c.in_ok-config.config,
+      config_seen (files.named request.config.now).bytes c.in_ok-bytes.bytes.items c.as_slice.result.now (Ok c.in_ok-config.config) c.in_ok-bytes.ensures.bytes c.as_slice.ensures.value c.in_ok-config.ensures,
+      job_of files files.input _ request.job c.in_ok-config.config taken c.serve-then-eq.result (other_input files request.file c.in-Some.name c.in-Some.is c.if-eq.ensures) done,
+    )
 
 pub returns-clause-done : goal.returns-clause-done
 returns-clause-done g c =
-    let request = c.args.request.now in
-    let config = c.in_ok-config.config in
     let files = g.O.Opener.known c.args.host.now.opener.now in
+    let named = files.named c.in-Some.name.now in
+    let request = c.args.request.now in
     let taken = taken_by g.K.Sink.taken c.args.sink.now c.serve-2.new.sink in
-    let read = config_read (files.named request.config.now).bytes c.in_ok-bytes.bytes.items (Ok config) c.in_ok-bytes.ensures.bytes (subst (λ bytes. IsRead bytes (Ok config)) c.as_slice.ensures.value c.in_ok-config.ensures) in
-    let name = c.in-Some.name in
-    let named = files.named name.now in
     let served = c.serve-2.ensures.done in
-    let done = job_from files named g.O.File.Source.given g.O.File.Source.ended g.O.File.Source.failures g.O.File.Source.input c.in_ok-file.file served.0 request.job config taken c.serve-2.result c.in_ok-file.ensures.opened served.1 served.2 served.3 in
-    inl (config, read, job_of files named _ request.job config taken c.serve-2.result (other_named files request.file name c.in-Some.is c.if-eq.ensures) done)
+    let done = job_from files named g.O.File.Source.given g.O.File.Source.ended g.O.File.Source.failures g.O.File.Source.input c.in_ok-file.file served.0 request.job c.in_ok-config.config taken c.serve-2.result c.in_ok-file.ensures.opened served.1 served.2 served.3 in
+    let seen = config_seen (files.named request.config.now).bytes c.in_ok-bytes.bytes.items c.as_slice.result.now (Ok c.in_ok-config.config) c.in_ok-bytes.ensures.bytes c.as_slice.ensures.value c.in_ok-config.ensures in
+    inl (c.in_ok-config.config, seen, job_of files named _ request.job c.in_ok-config.config taken c.serve-2.result (other_named files request.file c.in-Some.name c.in-Some.is c.if-eq.ensures) done)
+
+pub serve-requires : goal.serve-requires
+serve-requires g c = search (rules, none_taken c.new-nothing.result c.new-nothing.ensures.place)
 
 pub returns-in_default-clause-done : goal.returns-in_default-clause-done
 returns-in_default-clause-done g c =
-    let request = c.args.request.now in
-    let config = c.in_ok-config.config in
     let files = g.O.Opener.known c.args.host.now.opener.now in
-    let taken = taken_by g.K.Sink.taken c.args.sink.now c.serve_alone.new.sink in
-    let read = config_read (files.named request.config.now).bytes c.in_ok-bytes.bytes.items (Ok config) c.in_ok-bytes.ensures.bytes (subst (λ bytes. IsRead bytes (Ok config)) c.as_slice.ensures.value c.in_ok-config.ensures) in
-    inl (config, read, job_of files _ _ request.job config taken c.serve_alone.result (other_none files request.file c.in_default.is) c.serve_alone.ensures.done)
+    let job = c.args.request.now.job in
+    let config = c.in_ok-config.config in
+    let taken = taken_by g.K.Sink.taken c.args.sink.now c.serve.new.sink in
+    let none = c.new-nothing.result in
+    let read = config_seen (files.named c.args.request.now.config.now).bytes c.in_ok-bytes.bytes.items c.as_slice.result.now (Ok config) c.in_ok-bytes.ensures.bytes c.as_slice.ensures.value c.in_ok-config.ensures in
+    let served = c.serve.ensures.done in
+    let first = ap (λ n. take n none.bytes.now) c.new-nothing.ensures.place in
+    let reads = reads_told files no_file (λ _. 0) none served.0 refl (λ later few. absurd (omega (arith, few))) job c.serve.result served.2 in
+    let done = job_on files _ no_file (Some none.bytes.now) job config taken c.serve.result first (ap Some c.new-nothing.ensures.bytes) served.1 served.3 reads in
+    inl (config, read, job_of files no_file _ job config taken c.serve.result (other_none files c.args.request.now.file c.in_default.is) done)

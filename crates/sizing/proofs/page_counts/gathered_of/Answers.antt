@@ -1,5 +1,4 @@
-use Rattle.std.proofs.Common.{◌≡◌, ◌≤◌, ◌<◌, Bool, true, false, ℕ, ap, ◌∙◌, arith, sym}
-use Rattle.std.specs.Prelude.{nat_lt}
+use Rattle.std.proofs.Common.{◌≡◌, ap, ◌∙◌, arith}
 use Rattle.size_classes.specs.Sizes.{blocks_in}
 use Rattle.space.specs.Space.{class_pages}
 use Rattle.sizing.proofs.Counts.Paging.{gathered_spared}

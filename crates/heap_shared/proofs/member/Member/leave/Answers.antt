@@ -1,9 +1,8 @@
 use Rattle.std.proofs.Common.{rules, ◌≡◌, ◌<◌, true, sym, ap, ◌∙◌, subst}
 use Rattle.std.specs.Arc.{arc_value}
 use Rattle.heap_shared.proofs.Turns.{leaves}
-use Rattle.atomic_table.specs.Seated.{TableId}
-use Rattle.heap_shared.specs.Members.{MemberView, Leaves, shown_by}
-use Rattle.heap_shared.proofs.Members.{carries_one, leaves_so}
+use Rattle.heap_shared.specs.Members.{Leaves}
+use Rattle.heap_shared.proofs.Members.{carries_one, leaves_so, shown_so}
 use Rattle.heap_shared.proofs.member.Member.leave.Goals as goal
 
 pub store-requires : goal.store-requires
@@ -25,10 +24,7 @@ store-requires c =
 pub returns-clause-leaves : goal.returns-clause-leaves
 returns-clause-leaves c =
     let key = (arc_value c.self.inside.table).shared.key in
-    let table = c.self.inside.seat.table_id in
-    let me = c.self.inside.seat.me in
-    let seat = c.store.new.seat in
-    let did = c.store.ensures in
+    let old = c.self.inside.seat in
+    let new = c.store.new.seat in
     let has : c.self.inside.inside ≡ true = search rules in
-    subst (λ (v : MemberView). Leaves v true (shown_by seat.table_id key seat.me)) c.self.view_is
-    (subst (λ (t : TableId). Leaves (shown_by table key me) true (shown_by t key seat.me)) (sym did.0) (leaves_so table key _ _ me seat.me has c.self.invariant.5 did.2))
+    shown_so (λ v w. Leaves v true w) old.table_id new.table_id key old.me new.me _ c.store.ensures.0 c.self.view_is (leaves_so old.table_id key _ _ old.me new.me has c.self.invariant.5 c.store.ensures.2)

@@ -1,9 +1,8 @@
 use Rattle.std.proofs.Common.{◌<◌, ◌/◌, Some, sym, ap, ◌∙◌, subst}
 use Rattle.std.specs.Arc.{arc_value}
-use Rattle.atomic_table.specs.Seated.{TableId}
-use Rattle.heap_shared.specs.Members.{MemberView, Places, shown_by}
+use Rattle.heap_shared.specs.Members.{Places}
 use Rattle.heap_shared.proofs.Turns.{looks}
-use Rattle.heap_shared.proofs.Members.{carries_none, places_so}
+use Rattle.heap_shared.proofs.Members.{carries_none, places_so, shown_so}
 use Rattle.heap_shared.proofs.member.Member.place.Goals as goal
 
 pub load-requires : goal.load-requires
@@ -22,10 +21,7 @@ load-requires c =
 pub returns-clause-places : goal.returns-clause-places
 returns-clause-places c =
     let key = (arc_value c.self.inside.table).shared.key in
-    let table = c.self.inside.seat.table_id in
-    let me = c.self.inside.seat.me in
-    let seat = c.load.new.seat in
-    let did = c.load.ensures in
-    subst (λ (v : MemberView). Places v (Some (c.load.result / 2)) (shown_by seat.table_id key seat.me)) c.self.view_is
-    (subst (λ (t : TableId). Places (shown_by table key me) (Some (c.load.result / 2)) (shown_by t key seat.me)) (sym did.0)
-    (places_so table key _ _ me seat.me (c.load.result / 2) c.if-self.false c.self.invariant.5 c.self.invariant.2 did.2))
+    let old = c.self.inside.seat in
+    let new = c.load.new.seat in
+    shown_so (λ v w. Places v (Some (c.load.result / 2)) w) old.table_id new.table_id key old.me new.me _ c.load.ensures.0 c.self.view_is
+    (places_so old.table_id key _ _ old.me new.me (c.load.result / 2) c.if-self.false c.self.invariant.5 c.self.invariant.2 c.load.ensures.2)

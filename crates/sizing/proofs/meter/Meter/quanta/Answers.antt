@@ -3,7 +3,6 @@ use Rattle.std.specs.Prelude.{IfSome}
 use Rattle.heap_model.specs.Phases.{awaits_sweep_end}
 use Rattle.space.specs.Pace.{in_cycle}
 use Rattle.sizing.specs.declared.meter.Meter.{Meter}
-use Rattle.sizing.specs.declared.season.Season.{Season}
 use Rattle.sizing.specs.Season.{IsSwept}
 use Rattle.sizing.proofs.Meters.Cycles.{quanta_measure}
 use Rattle.sizing.proofs.meter.Meter.quanta.Goals as goal

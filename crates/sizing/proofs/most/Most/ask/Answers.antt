@@ -1,4 +1,4 @@
-use Rattle.std.proofs.Common.{◌+◌, max, refl}
+use Rattle.std.proofs.Common.{◌+◌, refl}
 use Rattle.fragmentation.specs.Suffice.{pages_of}
 use Rattle.sizing.specs.Season.{pages_gathered}
 use Rattle.sizing.proofs.Counts.Counting.{are_sum, are_max}

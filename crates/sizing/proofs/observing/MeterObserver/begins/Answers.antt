@@ -1,5 +1,4 @@
 use Rattle.std.proofs.Common.{◌∙◌, sym, refl}
-use Rattle.heap_model.specs.Event.{Course}
 use Rattle.std.proofs.lemmas.Result.{on_ok_weaker}
 use Rattle.sizing.proofs.Measurements.Seeing.{on_err, begin_measured, on_measured}
 use Rattle.sizing.proofs.observing.MeterObserver.begins.Goals as goal

@@ -109,12 +109,13 @@ live_most f = PAGE_WORDS * (f.live_words / LEAST_PAGE_FILL + 1)
 abbrev pub sweep_units : ℕ → ℕ → ℕ → ℕ
 sweep_units roots pages marking = roots + marking + (MOST_BLOCKS + 1) * pages + (MOST_BLOCKS + 4)
 
--- the quanta of at least k units that these are, where marking takes the words of all pages
+-- the quanta of at least k units that a cycle takes at most up to its sweep's end, where marking takes the words of all
+-- pages
 abbrev pub full_quanta : ℕ → ℕ → ℕ → ℕ
 full_quanta roots pages k = sweep_units roots pages (PAGE_WORDS * pages) / k + 1
 
--- Those that these are where marking takes the words of what is live, and of what is made by then: a quantum spends k
--- units, and lets so many words be made that each may be marked.
+-- The quanta of at least k units that a cycle takes at most up to its sweep's end, where marking takes the words of what
+-- is live and of what is made by then: a quantum spends k units, and each word that is made at it may be marked too.
 abbrev pub marked_quanta : Flow → ℕ → ℕ → ℕ → ℕ
 marked_quanta f roots pages k =
     sweep_units roots pages (live_most f + (f.quantum_words + f.burst)) / (k - f.quantum_words) + 1
@@ -125,8 +126,8 @@ sweep_quanta f roots pages k = if nat_lt f.quantum_words k
     then min (full_quanta roots pages k) (marked_quanta f roots pages k) else full_quanta roots pages k
 
 -- The units that moving spends at most on so many pages: a look at every page for each class, and once more; and for each
--- page either as many looks, if it is chosen, or the words that are moved to it. These are no more than what is live has,
--- and what is made until the next cycle begins.
+-- page either as many looks, if it is chosen, or the words that are moved to it. No more words are moved than what is live
+-- has, and what is made until the next cycle begins.
 abbrev pub flow_moving : Flow → ℕ → ℕ
 flow_moving f pages = (CLASSES + 1 + pages) * pages
     + min (PAGE_WORDS * pages) (live_most f + f.cycle_words) * (PAGE_WORDS - pages) / PAGE_WORDS + 1

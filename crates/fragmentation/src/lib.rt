@@ -121,7 +121,7 @@ pub fn flow_suffices()
 /// How long a cycle lasts in a run that keeps to a flow, with quanta of at least k units: `sweep_quanta` up to its
 /// sweep's end, and `flow_quanta` as a whole, where up to its sweep's end a cycle makes no more than may be made until
 /// the next one. Marking and moving take no more words than what is live and what is made have, however many pages
-/// there are; and moving looks at all pages for none to which it moves words.
+/// there are; and moving spends on a page either a look at every page, if it is chosen, or the words that go there.
 pub fn flow_cycles_end()
     ensures sweep { (h : HeapState) (es : List Event) (new : Course) (f : Flow) (k : ℕ) → LEAST_BUDGET ≤ k → IsOpening h
         → 0 < length h.store.pages → Runs (opened h) es new

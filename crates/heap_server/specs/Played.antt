@@ -69,7 +69,7 @@ pub record IsOutcome (settings : HeapSettings) (scripts : List (List Command)) (
   pub counted : length o.recorded.course.history ≡ sum o.done.items
   pub within : AllZip (λ n most. n ≤ most) o.done.items (map length scripts)
   pub fronts : o.torn ≡ false → HasFronts o.recorded.course.history scripts o.done.items
-  pub reached_from : IsReachedFrom o.recorded.course o.tally.numbers.begun o.tally.numbers.quanta o.tally.numbers.spent
-  pub collected : IsCollected budgets o.used o.tally.numbers
+  pub reached_from : IsReachedFrom o.recorded.course o.tally.value.begun o.tally.value.quanta o.tally.value.spent
+  pub collected : IsCollected budgets o.used o.tally.value
   pub all : o.all ≡ true ↔ (o.torn ≡ false) × (o.done.items ≡ map length scripts) × (o.used ≡ length budgets)
   pub merge : o.all ≡ true → IsMerge o.recorded.course.history scripts

@@ -9,7 +9,6 @@ mod naming;
 mod place;
 mod play;
 mod server;
-mod tally;
 mod workers;
 
 pub use fault::ServerFault;
@@ -19,4 +18,3 @@ pub use naming::{Begun, Calls, Ended, Naming, Opening, Units};
 pub use place::{Front, HistoryLength, Opened};
 pub use play::{Outcome, play_threads};
 pub use server::Server;
-pub use tally::Tally;

@@ -11,8 +11,8 @@ use crate::gate::Gate;
 use crate::locked::{Pacer, Seat};
 use crate::naming::{Naming, Opening};
 use crate::server::Server;
-use crate::tally::Tally;
 use crate::workers::{collect, play_seats};
+use ghosts::Ghost;
 use graph_heap::{Command, NoMemory};
 use machine::Recorded;
 use settings::Config;
@@ -32,7 +32,7 @@ pub struct Outcome {
     /// How many budgets were used.
     pub used: usize,
     /// How many cycles were begun and how many units spent, for proofs alone.
-    pub tally: Tally,
+    pub tally: Ghost<Pacer<Brand>>,
     /// Whether the place word had another number in the end than the length of the history.
     pub torn: bool,
     /// Whether all commands were done and all budgets used, and the place word isn't torn.
@@ -138,7 +138,7 @@ fn settled<N: Naming>(
         recorded,
         done,
         used,
-        tally: Tally::new(),
+        tally: Ghost::new(),
         torn,
         all,
     }

@@ -8,6 +8,5 @@ pub mod Splitting
 pub mod Charting
 pub mod Members
 pub mod Merging
-pub mod Histories
 pub mod Sending
 pub mod Tables

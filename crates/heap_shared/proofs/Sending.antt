@@ -15,11 +15,10 @@ use Rattle.atomic_table.proofs.Sent.{seat_keyless, owns_keyless, shares_keyless}
 use Rattle.circular_buffer.specs.contracts.cells.Deed as deed
 use Rattle.circular_buffer.specs.contracts.heap.HeapCircularBuffer as buffer
 use Rattle.circular_buffer.proofs.Crosses.{Cells-send, Deed-send}
-use Rattle.nodes.proofs.Sent.{records_send}
+use Rattle.ghosts.proofs.Sent.{ghost_sends}
 use Rattle.heap_shared.specs.contracts.member.Member.{the_row}
 use Rattle.heap_shared.specs.contracts.rule.Known as known
 use Rattle.heap_shared.specs.contracts.shared_heap.SharedHeap as heap
-use Rattle.heap_shared.proofs.Histories.{history_sends}
 
 -- each as in `atomic_table`
 seat_send : (S V : RattleType) → IsSend S → IsSend (seat.the_row S V)
@@ -47,7 +46,7 @@ buffer_send T s = search (sendable, crossing.crosses, Cells-send, deed_send) dep
 
 -- a heap with its history
 heap_sends : IsSend heap.the_row
-heap_sends = search (sendable, crossing.crosses, history_sends, records_send, buffer_send) depth 40 fits 20000
+heap_sends = search (sendable, crossing.crosses, ghost_sends, buffer_send) depth 40 fits 20000
 
 seat_sends : IsSend (seat.the_row heap.the_row known.the_row)
 seat_sends = seat_send heap.the_row known.the_row heap_sends

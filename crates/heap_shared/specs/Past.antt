@@ -7,18 +7,18 @@ use Rattle.heap_model.specs.Event.{Course}
 use Rattle.heap_model.specs.State.{HeapState}
 
 -- its history, and that place
-pub record Past : Type 0 where
+pub record PastView : Type 0 where
   pub history : List Entry
   pub place : ℕ
 
 -- a heap with its past
-abbrev pub course_of : HeapState → Past → Course
+abbrev pub course_of : HeapState → PastView → Course
 course_of h p = record { heap = h; history = p.history; place = p.place }
 
 -- a command was done, with this reply
-abbrev pub with_entry : Past → ℕ → Command → Reply → Past
+abbrev pub with_entry : PastView → ℕ → Command → Reply → PastView
 with_entry p m c told = record { history = p.history ++ (record { mutator = m; command = c; reply = told }) ∷ []; place = p.place }
 
 -- a cycle began
-abbrev pub begun_here : Past → Past
+abbrev pub begun_here : PastView → PastView
 begun_here p = record { history = p.history; place = length p.history }

@@ -5,17 +5,17 @@
 
 mod crossing;
 mod fitting;
-mod ghost_history;
 mod laws;
 mod member;
+mod past;
 mod ring;
 mod rule;
 mod shared_heap;
 
 pub use crossing::members_cross;
-pub use ghost_history::GhostHistory;
 pub use laws::histories_merge;
 pub use member::{Member, NoEntry, NoMember, NoTurn, NotDone};
+pub use past::Past;
 pub use ring::Ring;
 pub use rule::{Account, Known, TurnRule};
 pub use shared_heap::{SharedConfig, SharedHeap};

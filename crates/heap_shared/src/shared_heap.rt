@@ -10,8 +10,9 @@ ghost use Rattle.machine.specs.Recorded.{begin_done, quantum_done};
 ghost use Rattle.heap_shared.specs.Methods.{IsMethodOf};
 ghost use Rattle.heap_shared.specs.Ring.{IsAsAsked, entry_ago};
 
-use crate::ghost_history::GhostHistory;
+use crate::past::{Past, begun, entered, no_past};
 use crate::ring::Ring;
+use ghosts::Ghost;
 use graph_heap::{Command, Entry, NoMemory, Reply};
 use machine::{BudgetOutOfRange, Busy, Heap, Spent};
 use settings::Config;
@@ -29,7 +30,7 @@ pub struct SharedConfig {
 /// always legal, and of which the ring is the end; and with the capacity of the ring.
 pub struct SharedHeap {
     heap: Heap,
-    history: GhostHistory,
+    history: Ghost<Past>,
     ring: Ring,
 }
 
@@ -53,10 +54,10 @@ impl Model for SharedHeap {
 
     ghost Value = { Ringed };
 
-    ghost view = { λ a. record { course = course_of a.heap a.history.past; ring = a.ring.entries.capacity } };
+    ghost view = { λ a. record { course = course_of a.heap a.history.value; ring = a.ring.entries.capacity } };
 
-    ghost invariant = { λ a. IsCourse (course_of a.heap a.history.past)
-        × (a.ring.entries.items ≡ keep_last a.ring.entries.capacity a.history.past.history) };
+    ghost invariant = { λ a. IsCourse (course_of a.heap a.history.value)
+        × (a.ring.entries.items ≡ keep_last a.ring.entries.capacity a.history.value.history) };
 }
 
 impl SharedHeap {
@@ -70,7 +71,7 @@ impl SharedHeap {
         let ring = Ring::new(alloc, asked.ring)?;
         Ok(SharedHeap {
             heap,
-            history: GhostHistory::empty(),
+            history: no_past(),
             ring,
         })
     }
@@ -89,7 +90,7 @@ impl SharedHeap {
         ensures ring { self.new.ring ≡ self.old.ring }
     {
         let reply = method(&mut self.heap);
-        self.history.enter(mutator, command, reply);
+        self.history = entered(&self.history, mutator, command, reply);
         self.ring.enter(mutator, command, reply);
         reply
     }
@@ -117,7 +118,7 @@ impl SharedHeap {
         ensures ring { self.new.ring ≡ self.old.ring }
     {
         self.heap.begin()?;
-        self.history.begin();
+        self.history = begun(&self.history);
         Ok(())
     }
 

@@ -18,11 +18,13 @@ mod unread;
 
 use crate::fault::{Ending, RunFault};
 use crate::files::Opener;
-use command_line::{Job, Request, Sizing, read_words};
-use config::explain_config;
+use command_line::{Request, read_words};
+use config::tell_config;
+use document::{read_refused, tell_not_toml, tell_too_long};
 use lines::explain_line;
 use load::explain_load;
 use reply::explain_reply;
+use settings::ConfigFault;
 use silence::Silence;
 use std::alloc::Global;
 use std::convert::AsStr;
@@ -42,7 +44,7 @@ pub fn explain<S: AsStr, O: Opener, E: Write>(
         return;
     }
     if let Ok(request) = read_words(alloc, words) {
-        explain_request(alloc, &request, opener, errors, how);
+        let _ = explain_request(alloc, &request, opener, errors, how);
     }
 }
 
@@ -53,34 +55,27 @@ fn explain_request<O: Opener, E: Write>(
     opener: &O,
     errors: &mut E,
     how: &Result<Ending, RunFault>,
-)
+) -> Result<(), Silence>
     ensures { request.now.explain ≡ false → errors.new ≡ errors.old }
 {
-    if request.explain {
-        let _ = explain_ending(alloc, request, opener, errors, how);
+    if !request.explain {
+        return Ok(());
     }
-}
-
-/// Tells more of how a run ended.
-fn explain_ending<O: Opener, E: Write>(
-    alloc: Global,
-    request: &Request,
-    opener: &O,
-    errors: &mut E,
-    how: &Result<Ending, RunFault>,
-) -> Result<(), Silence> {
     match how {
         Ok(Ending::Done) => Ok(()),
         Ok(Ending::WrongReply) => explain_reply(alloc, request, opener, errors),
-        Err(RunFault::Config(fault)) => {
-            explain_config(alloc, opener, request.config, errors, *fault)
+        Err(RunFault::Config(ConfigFault::TooLong)) => tell_too_long(request.config, errors),
+        Err(RunFault::Config(ConfigFault::NotToml)) => {
+            tell_not_toml(alloc, opener, request.config, errors)
         }
-        Err(RunFault::Load(fault)) => match &request.job {
-            Job::Pages {
-                by: Sizing::Load(name),
-            } => explain_load(alloc, opener, name, errors, *fault),
-            _ => Ok(()),
-        },
+        Err(RunFault::Config(fault)) => {
+            tell_config(
+                &read_refused(alloc, opener, request.config, errors)?,
+                errors,
+                *fault,
+            )
+        }
+        Err(RunFault::Load(fault)) => explain_load(alloc, request, opener, errors, *fault),
         Err(RunFault::Text(PlayFault::Line(number, fault))) => {
             explain_line(alloc, request, opener, errors, *number, *fault)
         }

@@ -106,7 +106,7 @@ impl Held {
         if !self.is_unused()
             || flow.budget != self.config.budget()
             || !moves_all(&self.config)
-            || !flow_fits(&self.config, flow.live_words, &plan)
+            || !flow_fits(&self.config, flow.live_words, &plan, None)
         {
             return false;
         }

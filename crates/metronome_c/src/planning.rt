@@ -25,7 +25,7 @@ impl MetronomeFlow {
         ensures { (least : Option ℕ) × IsLeastPages config.now live_words least
             × (result ≡ flow_told config.now live_words least plan) }
     {
-        let least = match least_pages(config, live_words) {
+        let least = match least_pages(config, live_words, None) {
             Some(pages) => u64::from(pages),
             None => 0,
         };
@@ -58,7 +58,7 @@ fn planned_in(config: &Config, live_words: u64) -> Option<Plan>
     ensures { IsPlanned config.now live_words result }
 {
     if moves_all(config) {
-        planned(config, live_words)
+        planned(config, live_words, None)
     } else {
         None
     }

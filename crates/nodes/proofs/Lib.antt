@@ -18,7 +18,6 @@ pub mod Moved
 pub mod Moving
 pub mod Opening
 pub mod Places
-pub mod Sent
 pub mod Sorting
 pub mod Representing
 pub mod Seeing

@@ -1,11 +1,23 @@
 //! The buffer of a mutator.
-ghost use Rattle.std.specs.Prelude.{◌≡◌, ◌<◌, ◌≤◌, ◌-◌, [], ◌∷◌, ◌++◌, ◌==◌, length, slice_get, slice_index};
+ghost use Rattle.std.specs.Prelude.{◌≡◌, ◌<◌, ◌≤◌, ◌-◌, ℕ, List, [], ◌∷◌, ◌++◌, ◌==◌, length, slice_get, slice_index};
 
-use crate::ghost_records::GhostRecords;
+use ghosts::Ghost;
 use std::marker::Model;
 
 /// How many records a buffer has room for.
 const ROOM: u32 = 64;
+
+/// Records as a list, in the order in which they came. None is ever made: proofs alone speak of it.
+#[derive(Drop)]
+pub(crate) struct Records {
+    items: Vec<u64>,
+}
+
+impl Model for Records {
+    ghost Value = { List ℕ };
+
+    ghost view = { λ r. r.items.items };
+}
 
 /// The records of a mutator: the parts that it shaded since they were last put into the list. The
 /// link in the header of each names the next, so the buffer keeps the first and the last, and how
@@ -15,7 +27,7 @@ pub(crate) struct Buffer {
     first: u64,
     last: u64,
     count: u32,
-    records: GhostRecords,
+    records: Ghost<Records>,
 }
 
 impl Model for Buffer {
@@ -24,11 +36,11 @@ impl Model for Buffer {
 
     ghost Value = { MutatorRecords };
 
-    ghost view = { λ b. record { items = b.records.items } };
+    ghost view = { λ b. record { items = b.records.value } };
 
-    ghost invariant = { λ b. (b.count ≡ length b.records.items)
+    ghost invariant = { λ b. (b.count ≡ length b.records.value)
         × (b.count ≤ 64)
-        × (0 < b.count → (b.first ≡ slice_index b.records.items 0) × (b.last ≡ slice_index b.records.items (b.count - 1))) };
+        × (0 < b.count → (b.first ≡ slice_index b.records.value 0) × (b.last ≡ slice_index b.records.value (b.count - 1))) };
 }
 
 impl Buffer {
@@ -40,7 +52,7 @@ impl Buffer {
             first: 0,
             last: 0,
             count: 0,
-            records: GhostRecords::none(),
+            records: no_records(),
         }
     }
 
@@ -77,7 +89,7 @@ impl Buffer {
         }
         self.last = part;
         self.count += 1;
-        self.records = self.records.with(part);
+        self.records = with_record(&self.records, part);
     }
 
     /// Takes out all records.
@@ -85,6 +97,23 @@ impl Buffer {
         ensures { self.new.items ≡ [] }
     {
         self.count = 0;
-        self.records = GhostRecords::none();
+        self.records = no_records();
     }
+}
+
+/// No records, for proofs alone.
+fn no_records() -> Ghost<Records>
+    ensures { result.value ≡ [] }
+{
+    Ghost::new()
+}
+
+/// These records and behind them another one, for proofs alone.
+#[inline(always)]
+fn with_record(records: &Ghost<Records>, _part: u64) -> Ghost<Records>
+    ghost all: { List ℕ }
+    requires { all ≡ records.now.value ++ _part ∷ [] }
+    ensures { result.value ≡ records.now.value ++ _part ∷ [] }
+{
+    Ghost::new()
 }

@@ -4,7 +4,6 @@
 #![tactic(auto)]
 
 mod buffer;
-mod ghost_records;
 pub mod grey;
 pub mod heap_fields;
 pub mod nodes;

@@ -1,5 +1,5 @@
 -- What is promised of a heap that was paced since it was made.
-use Rattle.std.specs.Prelude.{◌≡◌, ℕ, ◌*◌, Bool, true, ◌==◌, List}
+use Rattle.std.specs.Prelude.{◌≡◌, ℕ, ◌*◌, Bool, true, ◌==◌, List, Option, Some, None}
 use Rattle.std.specs.List.{list_any}
 use Rattle.settings.specs.declared.config.Config.{Config}
 use Rattle.settings.specs.Config.{limits_of}
@@ -31,6 +31,11 @@ flow_for makes live plan = record (planned_flow live plan) { makes = makes }
 -- a class is one of these
 abbrev pub among : List ℕ → ℕ → Bool
 among used class = list_any (λ k. k == class) used
+
+-- the size classes of which blocks are made: these, or all where none are said
+abbrev pub made_of : Option (List ℕ) → ℕ → Bool
+made_of None = λ class. true
+made_of (Some used) = among used
 
 -- a command asks for blocks of no class of which the flow makes none
 abbrev pub AsksOnly : Flow → Event → Type 0

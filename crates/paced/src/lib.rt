@@ -18,7 +18,4 @@ pub use laws::{
 };
 pub use paced::PacedHeap;
 pub use pacer::{AbovePlan, Pacer};
-pub use plan::{
-    Plan, classes_in, cycle_quanta, flow_fits, flow_fits_for, least_pages, least_pages_for,
-    moves_all, planned, planned_for,
-};
+pub use plan::{Plan, classes_in, cycle_quanta, flow_fits, least_pages, moves_all, planned};

@@ -1,10 +1,10 @@
 //! Plans, and whether the flow of one fits in a configuration.
-ghost use Rattle.std.specs.Prelude.{◌≡◌, ℕ, ◌+◌, ◌-◌, ◌*◌, ◌/◌, ◌^◌, ◌<◌, ◌≤◌, ◌↔◌, Bool, IsTrue, IfSome, Option, None};
+ghost use Rattle.std.specs.Prelude.{◌≡◌, ℕ, ◌+◌, ◌-◌, ◌*◌, ◌/◌, ◌^◌, ◌<◌, ◌≤◌, ◌↔◌, Bool, IsTrue, IfSome, Option, None, option_map};
 ghost use Rattle.settings.specs.declared.config.TheConstants.{MOST_HEAP_PAGES};
 ghost use Rattle.fragmentation.specs.Configured.{roots_in, MovesAll, FlowFitsIn};
 ghost use Rattle.fragmentation.specs.Flow.{classes_made, FlowFitsOn};
-ghost use Rattle.paced.specs.Rooms.{planned_flow, flow_for, among};
-ghost use Rattle.paced.specs.Planning.{quanta_on, LastsOn, IsFullestOn, FillsPages, IsFastest, IsFastestFor, HasPlanOn, IsLeastPages, IsLeastPagesFor};
+ghost use Rattle.paced.specs.Rooms.{flow_for, among, made_of};
+ghost use Rattle.paced.specs.Planning.{quanta_on, LastsOn, IsFullestOn, FillsPages, IsFastestFor, HasPlanOn, IsLeastPagesFor};
 ghost use Rattle.paced.specs.declared.plan.Plan.{Plan as PlanView};
 
 use crate::quanta::{quanta_on, sweep_quanta};
@@ -33,6 +33,18 @@ pub fn classes_in(used: &[Class]) -> u64
         }
     }
     count
+}
+
+/// Of how many size classes blocks are made: of these alone, or of all.
+#[inline(always)]
+fn count_made(classes: Option<&[Class]>) -> u64
+    ensures count { result ≡ classes_made (made_of (option_map (λ used. used.now) classes.entry)) }
+    ensures within { result ≤ CLASSES }
+{
+    match classes {
+        Some(used) => classes_in(used),
+        None => CLASSES as u64,
+    }
 }
 
 /// The pages that suffice for blocks of this many words and of so many classes, with those of each class that may be
@@ -68,18 +80,14 @@ fn fits_on(config: &Config, pages: u32, live_words: u64, plan: &Plan, classes: u
 }
 
 /// Whether the flow of a plan fits in a configuration, where the blocks of live objects have at most so many words
-/// whenever a cycle begins, or `LEAST_PAGE_FILL` for each whole page that they take.
-pub fn flow_fits(config: &Config, live_words: u64, plan: &Plan) -> bool
-    ensures { IsTrue result ↔ FlowFitsIn config.now (planned_flow live_words plan.now) }
+/// whenever a cycle begins, or `LEAST_PAGE_FILL` for each whole page that they take, and blocks are made of these classes
+/// alone, or of all. Of fewer classes fewer pages may be filled in part.
+#[inline(always)]
+pub fn flow_fits(config: &Config, live_words: u64, plan: &Plan, classes: Option<&[Class]>) -> bool
+    ensures { IsTrue result ↔ FlowFitsIn config.now
+        (flow_for (made_of (option_map (λ used. used.now) classes.entry)) live_words plan.now) }
 {
-    fits_on(config, config.pages, live_words, plan, CLASSES as u64)
-}
-
-/// Whether it fits (`flow_fits`) where blocks are made of these classes alone.
-pub fn flow_fits_for(config: &Config, live_words: u64, plan: &Plan, used: &[Class]) -> bool
-    ensures { IsTrue result ↔ FlowFitsIn config.now (flow_for (among used.now) live_words plan.now) }
-{
-    fits_on(config, config.pages, live_words, plan, classes_in(used))
+    fits_on(config, config.pages, live_words, plan, count_made(classes))
 }
 
 /// The quanta of the configuration's budget that a whole cycle takes at most, where so many words are live when it begins
@@ -194,19 +202,12 @@ fn fastest(config: &Config, live_words: u64, classes: u64) -> Option<Plan>
 
 /// The plan with the most words for each quantum whose flow fits in a configuration, of those that have as many words for a
 /// cycle as fit, and as many for each quantum that a whole cycle takes at most: so the words of a cycle aren't spent before
-/// it has ended. None where there is no plan with a word for each quantum. `live_words` is as of `flow_fits`.
-pub fn planned(config: &Config, live_words: u64) -> Option<Plan>
-    ensures { IsFastest config.now live_words result }
+/// it has ended. None where there is no plan with a word for each quantum. `live_words` and `classes` are as of `flow_fits`:
+/// a plan for some classes is for a program that asks for no block of another one.
+pub fn planned(config: &Config, live_words: u64, classes: Option<&[Class]>) -> Option<Plan>
+    ensures { IsFastestFor (made_of (option_map (λ used. used.now) classes.entry)) config.now live_words result }
 {
-    fastest(config, live_words, CLASSES as u64)
-}
-
-/// That plan (`planned`) where blocks are made of these classes alone: fewer pages may be filled in part. It is for a
-/// program that asks for no block of another class.
-pub fn planned_for(config: &Config, live_words: u64, used: &[Class]) -> Option<Plan>
-    ensures { IsFastestFor (among used.now) config.now live_words result }
-{
-    fastest(config, live_words, classes_in(used))
+    fastest(config, live_words, count_made(classes))
 }
 
 /// Whether there is a plan on this many pages, where blocks are made of so many classes: that with one word for each
@@ -235,16 +236,9 @@ fn fewest(config: &Config, live_words: u64, classes: u64) -> Option<u32>
 
 /// The least number of pages, of those that a heap may have, on which there is a plan (`planned`), where every cycle moves
 /// and may empty all pages, with all else as the configuration has it; None where there is a plan on no number of them: a
-/// cycle on more pages takes more quanta. `live_words` is as of `flow_fits`.
-pub fn least_pages(config: &Config, live_words: u64) -> Option<u32>
-    ensures { IsLeastPages config.now live_words result }
+/// cycle on more pages takes more quanta. `live_words` and `classes` are as of `flow_fits`.
+pub fn least_pages(config: &Config, live_words: u64, classes: Option<&[Class]>) -> Option<u32>
+    ensures { IsLeastPagesFor (made_of (option_map (λ used. used.now) classes.entry)) config.now live_words result }
 {
-    fewest(config, live_words, CLASSES as u64)
-}
-
-/// That number (`least_pages`) where blocks are made of these classes alone.
-pub fn least_pages_for(config: &Config, live_words: u64, used: &[Class]) -> Option<u32>
-    ensures { IsLeastPagesFor (among used.now) config.now live_words result }
-{
-    fewest(config, live_words, classes_in(used))
+    fewest(config, live_words, count_made(classes))
 }

@@ -251,6 +251,7 @@ pub fn sweep(
 const GROUP: usize = 8;
 
 /// Whether some block of a group is allocated, by one test of the words of all.
+#[tactic(auto, using(crate::proofs::Threading::blocks_few))]
 #[inline(always)]
 fn some_taken(words: &[u64], page: usize, class: Class, from: usize) -> bool
     requires page { page < 1048576 }

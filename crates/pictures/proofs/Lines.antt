@@ -36,8 +36,14 @@ present_cons : {A : Type 0} (x : Option A) (xs : List (Option A)) → present (x
 present_cons None xs = refl
 present_cons (Some x) xs = refl
 
-pub present_on : {A : Type 0} (xs : List (Option A)) (d x : Option A) (k : ℕ) → k < length xs → x ≡ get_or xs k d → present (drop k xs) ≡ present (x ∷ []) ++ present (drop (k + 1) xs)
+present_on : {A : Type 0} (xs : List (Option A)) (d x : Option A) (k : ℕ) → k < length xs → x ≡ get_or xs k d → present (drop k xs) ≡ present (x ∷ []) ++ present (drop (k + 1) xs)
 present_on xs d x k l is = ap present (next_on xs d x k l is) ∙ present_cons x (drop (k + 1) xs)
+
+pub present_some : {A : Type 0} (xs : List (Option A)) (d o : Option A) (x : A) (k : ℕ) → k < length xs → o ≡ get_or xs k d → o ≡ Some x → present (drop k xs) ≡ (x ∷ []) ++ present (drop (k + 1) xs)
+present_some xs d o x k l is some = present_on xs d o k l is ∙ ap (λ z. present (z ∷ []) ++ present (drop (k + 1) xs)) some
+
+pub present_none : {A : Type 0} (xs : List (Option A)) (d o : Option A) (k : ℕ) → k < length xs → o ≡ get_or xs k d → o ≡ None → present (drop k xs) ≡ present (drop (k + 1) xs)
+present_none xs d o k l is none = present_on xs d o k l is ∙ ap (λ z. present (z ∷ []) ++ present (drop (k + 1) xs)) none
 
 -- what is put behind a name and its number, of which all three are put one behind the other
 pub put_behind : (t1 t2 t3 x y n z : List ℕ) → t1 ≡ x → t2 ≡ t1 ++ (y ++ n) → t3 ≡ t2 ++ z → t3 ≡ x ++ y ++ n ++ z

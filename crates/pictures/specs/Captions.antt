@@ -1,9 +1,8 @@
 -- The words of pictures, as text.
 use Rattle.std.specs.Prelude.{ℕ, ◌/◌, ◌%◌, List, [], ◌++◌, ◌==◌, codes, decimal, if◌then◌else◌}
 use Rattle.size_classes.specs.Sizes.{size_of, blocks_in}
-use Rattle.heap_model.specs.declared.phase.Phase.{Phase}
-use Rattle.heap_model.specs.declared.phase.Phase.TheVariants as phases
 use Rattle.pages.specs.declared.view.PageView.{PageView}
+use Rattle.player.specs.declared.start.PhaseName.TheVariants as names
 use Rattle.pictures.specs.declared.caption.Words.{Words}
 use Rattle.pictures.specs.declared.caption.Words.TheVariants as words
 use Rattle.pictures.specs.declared.caption.Caption.{Caption}
@@ -30,29 +29,17 @@ words_text words.LeastPages = codes "least pages"
 words_text words.MostPages = codes "most pages"
 words_text words.Objects = codes "objects"
 words_text words.LinesOfTrace = codes "lines of the trace"
-words_text words.PhaseName = codes "phase"
-words_text words.Idle = codes "idle"
-words_text words.Roots = codes "roots"
-words_text words.Marking = codes "marking"
-words_text words.Sweeping = codes "sweeping"
-words_text words.Moving = codes "moving"
+words_text words.PhaseRow = codes "phase"
+words_text (words.Phase names.Idle) = codes "idle"
+words_text (words.Phase names.Roots) = codes "roots"
+words_text (words.Phase names.Marking) = codes "marking"
+words_text (words.Phase names.Sweeping) = codes "sweeping"
+words_text (words.Phase names.Moving) = codes "moving"
 words_text words.PlansOfAHeap = codes "Plans of a heap that paces itself"
 words_text words.WordsForAQuantum = codes "words for a quantum"
 words_text words.UnitsForAWord = codes "number above: units for a word"
 words_text words.NumberOfPages = codes "number of pages"
 words_text words.NoPlan = codes "no plan"
-
--- of five values, that of a phase
-abbrev pub by_phase : {A : Type 0} → A → A → A → A → A → Phase → A
-by_phase idle roots marking sweeping moving phases.Idle = idle
-by_phase idle roots marking sweeping moving (phases.Roots next) = roots
-by_phase idle roots marking sweeping moving (phases.Marking part cell) = marking
-by_phase idle roots marking sweeping moving (phases.Sweeping page block) = sweeping
-by_phase idle roots marking sweeping moving (phases.Moving m) = moving
-
--- the name of a phase
-abbrev pub phase_words : Phase → Words
-phase_words phase = by_phase words.Idle words.Roots words.Marking words.Sweeping words.Moving phase
 
 -- the marks of a page in use
 abbrev pub marks_text : PageView → List ℕ

@@ -1,18 +1,20 @@
 -- Samples of several moments.
-use Rattle.std.specs.Prelude.{true, false, ◌||◌, min, max}
+use Rattle.std.specs.Prelude.{◌||◌, min, max}
 use Rattle.std.specs.Option.{option_or}
 use Rattle.heap_model.specs.declared.phase.Phase.{Phase}
+use Rattle.player.specs.declared.start.PhaseName.TheVariants as names
+use Rattle.player.specs.Starts.{name_of}
 use Rattle.pictures.specs.declared.sample.Phases.{Phases}
 use Rattle.pictures.specs.declared.sample.Sample.{Sample}
-use Rattle.pictures.specs.Captions.{by_phase}
+use Rattle.pictures.specs.CycleSpans.{is_name}
 
 -- of the phases of a cycle the one that this is, if it is one
 abbrev pub phases_of : Phase → Phases
 phases_of phase = record {
-  roots = by_phase false true false false false phase;
-  marking = by_phase false false true false false phase;
-  sweeping = by_phase false false false true false phase;
-  moving = by_phase false false false false true phase;
+  roots = is_name names.Roots (name_of phase);
+  marking = is_name names.Marking (name_of phase);
+  sweeping = is_name names.Sweeping (name_of phase);
+  moving = is_name names.Moving (name_of phase);
 }
 
 -- the phases that are among these or those

@@ -8,6 +8,7 @@ pub mod Utilisation
 pub mod PlanBars
 pub mod OverTime
 pub mod Squares
+pub mod CycleSpans
 pub mod Joining
 pub mod Samples
 pub mod Sampler
@@ -20,5 +21,4 @@ pub mod Distance
 pub mod Search
 pub mod Route
 pub mod PathText
-pub mod CycleSpans
 pub mod Events

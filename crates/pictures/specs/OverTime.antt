@@ -4,10 +4,11 @@ use Rattle.std.specs.List.{list_any}
 use Rattle.heap_model.specs.Pages.{free_pages}
 use Rattle.heap_model.specs.State.{HeapState}
 use Rattle.nodes.specs.Copies.{copies_in}
+use Rattle.player.specs.declared.start.PhaseName.TheVariants as names
 use Rattle.pictures.specs.declared.axis.Axis.TheVariants.{Lines, Pages, Objects as Objects_axis}
 use Rattle.pictures.specs.declared.colour.Colour.{Colour}
 use Rattle.pictures.specs.declared.colour.Colour.TheVariants.{Sky, Blue, Green, Yellow, Orange, Purple}
-use Rattle.pictures.specs.declared.caption.Words.TheVariants.{HeapOverTime, PagesInUse, LeastPages, MostPages, Objects, LinesOfTrace, PhaseName, Roots, Marking, Sweeping, Moving}
+use Rattle.pictures.specs.declared.caption.Words.TheVariants.{HeapOverTime, PagesInUse, LeastPages, MostPages, Objects, LinesOfTrace, PhaseRow, Phase}
 use Rattle.pictures.specs.declared.caption.Caption.TheVariants.{Words}
 use Rattle.pictures.specs.declared.element.Anchor.TheVariants.{Start, Middle, End}
 use Rattle.pictures.specs.declared.element.Element.{Element}
@@ -87,10 +88,10 @@ legend_of most counted phases =
     Some (swatch 0 Sky) ∷ Some (meaning 0 LeastPages)
     ∷ told_if most (Veil 150 48 14 14 23 Blue) ∷ told_if most (meaning 1 MostPages)
     ∷ told_if counted (Rectangle 280 54 14 3 Blue) ∷ told_if counted (meaning 2 Objects)
-    ∷ told_if phases.roots (swatch 3 Yellow) ∷ told_if phases.roots (meaning 3 Roots)
-    ∷ told_if phases.marking (swatch 4 Orange) ∷ told_if phases.marking (meaning 4 Marking)
-    ∷ told_if phases.sweeping (swatch 5 Green) ∷ told_if phases.sweeping (meaning 5 Sweeping)
-    ∷ told_if phases.moving (swatch 6 Purple) ∷ told_if phases.moving (meaning 6 Moving) ∷ []
+    ∷ told_if phases.roots (swatch 3 Yellow) ∷ told_if phases.roots (meaning 3 (Phase names.Roots))
+    ∷ told_if phases.marking (swatch 4 Orange) ∷ told_if phases.marking (meaning 4 (Phase names.Marking))
+    ∷ told_if phases.sweeping (swatch 5 Green) ∷ told_if phases.sweeping (meaning 5 (Phase names.Sweeping))
+    ∷ told_if phases.moving (swatch 6 Purple) ∷ told_if phases.moving (meaning 6 (Phase names.Moving)) ∷ []
 
 -- what the colours mean that are drawn of samples
 abbrev pub time_legend : Scale → List Sample → List (Option Element)
@@ -111,7 +112,7 @@ time_drawn scale samples = present (time_legend scale samples) ++ time_shown sca
 abbrev pub time_axes : List Element
 time_axes =
     Text 20 86 11 Start (Words PagesInUse) ∷ Text 20 276 11 Start (Words Objects)
-    ∷ Text 72 465 11 End (Words PhaseName) ∷ Text 620 514 11 Middle (Words LinesOfTrace)
+    ∷ Text 72 465 11 End (Words PhaseRow) ∷ Text 620 514 11 Middle (Words LinesOfTrace)
     ∷ []
 
 -- the elements of the picture of a heap over time

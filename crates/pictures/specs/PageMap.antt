@@ -11,7 +11,7 @@ use Rattle.pages.specs.declared.view.PageView.{PageView}
 use Rattle.pictures.specs.declared.colour.Colour.{Colour}
 use Rattle.pictures.specs.declared.colour.Colour.TheVariants.{Pale, Blue, Yellow, Orange}
 use Rattle.pictures.specs.declared.caption.Words.{Words}
-use Rattle.pictures.specs.declared.caption.Words.TheVariants.{PagesOfTheHeap, EvacuatingPage, TargetPage, FreePage, FewAllocated, AllAllocated, NumberOfWords, NoNumbers}
+use Rattle.pictures.specs.declared.caption.Words.TheVariants.{PagesOfTheHeap, EvacuatingPage, TargetPage, FreePage, FewAllocated, AllAllocated, NumberOfWords, NoNumbers, Phase}
 use Rattle.pictures.specs.declared.caption.Caption.TheVariants.{Number, OldCopies, Heap, Free, Page as Page_caption}
 use Rattle.pictures.specs.declared.element.Anchor.TheVariants.{Start, End}
 use Rattle.pictures.specs.declared.element.Element.{Element}
@@ -21,7 +21,7 @@ use Rattle.pictures.specs.declared.layers.Layer.TheVariants.{Free as Free_layer,
 use Rattle.pictures.specs.declared.layers.TheConstants.{LAYERS}
 use Rattle.pictures.specs.declared.squares.Squares.{Squares}
 use Rattle.pictures.specs.declared.squares.Squares.TheVariants.{Small}
-use Rattle.pictures.specs.Captions.{phase_words}
+use Rattle.player.specs.Starts.{name_of}
 use Rattle.pictures.specs.Elements.{svg_text}
 use Rattle.pictures.specs.Frame.{chart_of, swatch, meaning, told_if}
 use Rattle.pictures.specs.Lines.{each_from, present}
@@ -162,7 +162,7 @@ number_words squares = NumberOfWords
 -- the phase, the units spent in the cycle that runs, or else in the last one, all pages, and the free ones
 abbrev pub map_told : HeapState → List Element
 map_told h =
-    Text 1180 30 13 End (Heap (phase_words h.phase) h.units (length h.store.pages) (free_pages h.store.pages)) ∷ []
+    Text 1180 30 13 End (Heap (Phase (name_of h.phase)) h.units (length h.store.pages) (free_pages h.store.pages)) ∷ []
 
 -- whether a page in use has the mark of a layer
 abbrev pub is_marked : Layer → Option PageView → Bool

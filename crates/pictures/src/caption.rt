@@ -3,6 +3,7 @@ ghost use Rattle.std.specs.Prelude.{◌≡◌, ◌≤◌, ◌+◌, ◌++◌, len
 ghost use Rattle.pictures.specs.Captions.{words_text, marks_text, page_text, free_text, caption_text};
 
 use pages::PageView;
+use player::PhaseName;
 use trace::{put, put_named};
 
 /// Fixed words.
@@ -27,12 +28,8 @@ pub enum Words {
     MostPages,
     Objects,
     LinesOfTrace,
-    PhaseName,
-    Idle,
-    Roots,
-    Marking,
-    Sweeping,
-    Moving,
+    PhaseRow,
+    Phase(PhaseName),
     PlansOfAHeap,
     WordsForAQuantum,
     UnitsForAWord,
@@ -66,12 +63,12 @@ impl Words {
             Words::MostPages => b"most pages",
             Words::Objects => b"objects",
             Words::LinesOfTrace => b"lines of the trace",
-            Words::PhaseName => b"phase",
-            Words::Idle => b"idle",
-            Words::Roots => b"roots",
-            Words::Marking => b"marking",
-            Words::Sweeping => b"sweeping",
-            Words::Moving => b"moving",
+            Words::PhaseRow => b"phase",
+            Words::Phase(PhaseName::Idle) => b"idle",
+            Words::Phase(PhaseName::Roots) => b"roots",
+            Words::Phase(PhaseName::Marking) => b"marking",
+            Words::Phase(PhaseName::Sweeping) => b"sweeping",
+            Words::Phase(PhaseName::Moving) => b"moving",
             Words::PlansOfAHeap => b"Plans of a heap that paces itself",
             Words::WordsForAQuantum => b"words for a quantum",
             Words::UnitsForAWord => b"number above: units for a word",

@@ -12,7 +12,6 @@ mod frame;
 pub mod graph;
 pub mod laws;
 mod layers;
-mod look;
 mod measuring;
 mod over_time;
 mod page_map;

@@ -14,6 +14,7 @@ use crate::element::{Anchor, Element};
 use crate::frame::{Shown, meaning, swatch, told_if, write_chart};
 use crate::sample::{Phases, Sample};
 use crate::writing::write_present;
+use player::PhaseName;
 use streams::{Sink, WriteFailed};
 
 /// How many samples a picture has at most.
@@ -188,13 +189,16 @@ fn legend(scale: &Scale, samples: &[Sample]) -> [Option<Element>; 14]
         told_if(counted, Element::Rectangle(280, 54, 14, 3, Colour::Blue)),
         told_if(counted, meaning(2, Words::Objects)),
         told_if(phases.roots, swatch(3, Colour::Yellow)),
-        told_if(phases.roots, meaning(3, Words::Roots)),
+        told_if(phases.roots, meaning(3, Words::Phase(PhaseName::Roots))),
         told_if(phases.marking, swatch(4, Colour::Orange)),
-        told_if(phases.marking, meaning(4, Words::Marking)),
+        told_if(phases.marking, meaning(4, Words::Phase(PhaseName::Marking))),
         told_if(phases.sweeping, swatch(5, Colour::Green)),
-        told_if(phases.sweeping, meaning(5, Words::Sweeping)),
+        told_if(
+            phases.sweeping,
+            meaning(5, Words::Phase(PhaseName::Sweeping)),
+        ),
         told_if(phases.moving, swatch(6, Colour::Purple)),
-        told_if(phases.moving, meaning(6, Words::Moving)),
+        told_if(phases.moving, meaning(6, Words::Phase(PhaseName::Moving))),
     ]
 }
 
@@ -235,7 +239,7 @@ fn axes() -> [Element; 4]
     [
         Element::Text(20, 86, 11, Anchor::Start, Caption::Words(Words::PagesInUse)),
         Element::Text(20, 276, 11, Anchor::Start, Caption::Words(Words::Objects)),
-        Element::Text(72, 465, 11, Anchor::End, Caption::Words(Words::PhaseName)),
+        Element::Text(72, 465, 11, Anchor::End, Caption::Words(Words::PhaseRow)),
         Element::Text(
             620,
             514,

@@ -12,11 +12,11 @@ use crate::each_page::{PageDrawing, write_pages};
 use crate::element::{Anchor, Element};
 use crate::frame::{Shown, meaning, swatch, told_if, write_chart};
 use crate::layers::{Layer, has_mark, write_small};
-use crate::look::name_of;
 use crate::squares::{Squares, height};
 use crate::writing::{write_lines, write_present};
 use machine::Heap;
 use pages::PageView;
+use player::PhaseName;
 use streams::{Sink, WriteFailed};
 
 /// Writes the number of a page that is the first of a row.
@@ -238,7 +238,7 @@ fn summary(heap: &Heap) -> [Element; 1]
     ensures { result ≡ map_told heap.now }
 {
     let summary = Caption::Heap {
-        phase: name_of(heap.phase()),
+        phase: Words::Phase(PhaseName::of(heap.phase())),
         units: heap.units(),
         pages: heap.pages() as u64,
         free: heap.free_pages() as u64,

@@ -45,19 +45,6 @@ pub(crate) fn write_lines<K: Sink, L: DocumentLine>(
     Ok(())
 }
 
-/// Writes a line, if there is one.
-fn write_if<K: Sink, L: DocumentLine>(sink: &mut K, line: Option<L>) -> Result<(), WriteFailed>
-    ensures ok { OnOk result (K.taken sink.new ≡ K.taken sink.old ++ lines_text L.line (present (line ∷ []))) }
-    ensures err { OnErr result (GrowsByPart (K.taken sink.old) (K.taken sink.new)
-        (lines_text L.line (present (line ∷ [])))) }
-    ensures cause { K.failures sink.new ≡ K.failures sink.old + failed result }
-{
-    match line {
-        Some(line) => write_line(sink, line),
-        None => Ok(()),
-    }
-}
-
 /// Writes those of some lines that are there, one after the other.
 pub(crate) fn write_present<K: Sink, L: DocumentLine>(
     sink: &mut K,
@@ -69,7 +56,9 @@ pub(crate) fn write_present<K: Sink, L: DocumentLine>(
     ensures cause { K.failures sink.new ≡ K.failures sink.old + failed result }
 {
     for line in lines {
-        write_if(sink, *line)?;
+        if let Some(line) = line {
+            write_line(sink, *line)?;
+        }
     }
     Ok(())
 }

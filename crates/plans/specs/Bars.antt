@@ -3,10 +3,11 @@ use Rattle.std.specs.Prelude.{◌≡◌, ℕ, ◌*◌, List, Bool, Option, Some,
 use Rattle.settings.specs.declared.config.Config.{Config}
 use Rattle.paced.specs.declared.plan.Plan.{Plan}
 use Rattle.paced.specs.Planning.{IsLeastPagesFor}
+use Rattle.paced.specs.Rooms.{made_of}
 use Rattle.pictures.specs.declared.plan_bars.PlanBar.{PlanBar}
 use Rattle.pictures.specs.declared.plan_bars.PlanFigures.{PlanFigures}
 use Rattle.plans.specs.Order.{OneForEach}
-use Rattle.plans.specs.Report.{made_of, tenths_of, numbers_told, FastestOn}
+use Rattle.plans.specs.Report.{tenths_of, numbers_told, FastestOn}
 
 -- the words for a quantum of a configuration's plan, and the tenths of a unit that the collector spends for each
 abbrev pub figures_of : Config → Option Plan → Option PlanFigures

@@ -1,20 +1,15 @@
 -- What is told of the plans for a number of live words: lines of text.
-use Rattle.std.specs.Prelude.{◌≡◌, ℕ, ◌+◌, ◌*◌, ◌/◌, nat_lt, if◌then◌else◌, Bool, true, List, [], ◌∷◌, ◌++◌, Option, Some, None, codes, decimal}
+use Rattle.std.specs.Prelude.{◌≡◌, ℕ, ◌+◌, ◌*◌, ◌/◌, nat_lt, if◌then◌else◌, Bool, List, [], ◌∷◌, ◌++◌, Option, Some, None, codes, decimal}
 use Rattle.std.specs.Int.{div_ceil}
 use Rattle.std.specs.List.{concat}
 use Rattle.settings.specs.declared.config.Config.{Config}
 use Rattle.settings.specs.declared.config.TheConstants.{MOST_PAGES}
 use Rattle.paced.specs.declared.plan.Plan.{Plan}
 use Rattle.fragmentation.specs.Flow.{classes_made}
-use Rattle.paced.specs.Rooms.{among, planned_flow}
+use Rattle.paced.specs.Rooms.{among, made_of, planned_flow}
 use Rattle.paced.specs.Planning.{quanta_on, IsFastestFor, IsLeastPagesFor}
 use Rattle.plans.specs.OnPages.{IsOnPages}
 use Rattle.plans.specs.Order.{OneForEach}
-
--- the size classes of which blocks are made: all, where none are said
-abbrev pub made_of : Option (List ℕ) → ℕ → Bool
-made_of None class = true
-made_of (Some used) class = among used class
 
 -- how many words are live, the units of a quantum, and for how many size classes the plans are, where some are said
 abbrev pub live_line : Config → ℕ → Option (List ℕ) → List ℕ

@@ -2,13 +2,13 @@
 ghost use Rattle.std.specs.Prelude.{◌≡◌, ◌≤◌, IfOk, IfSome, option_map};
 ghost use Rattle.settings.specs.declared.config.TheConstants.{MOST_HEAP_PAGES};
 ghost use Rattle.plans.specs.Bars.{figures_of, IsBar, AreBars, ArePlanBars};
-ghost use Rattle.plans.specs.Report.{made_of};
+ghost use Rattle.paced.specs.Rooms.{made_of};
 
 use crate::on_pages::on_pages;
 use crate::order::next_of;
-use crate::report::{fewest, numbers_told};
-use crate::row::{fastest, tenths};
-use paced::Plan;
+use crate::report::numbers_told;
+use crate::row::tenths;
+use paced::{Plan, least_pages, planned};
 use pictures::{PlanBar, PlanFigures};
 use settings::Config;
 use size_classes::Class;
@@ -32,7 +32,7 @@ fn bar(config: &Config, live_words: u64, classes: Option<&[Class]>, pages: u32) 
     ensures { IsBar (made_of (option_map (λ used. used.now) classes.entry)) config.now live_words pages result }
 {
     let on = on_pages(config, pages);
-    let plan = fastest(&on, live_words, classes);
+    let plan = planned(&on, live_words, classes);
     PlanBar {
         pages,
         plan: figures(&on, plan),
@@ -68,7 +68,7 @@ pub fn plan_bars(
 ) -> Result<Vec<PlanBar>, AllocError>
     ensures { IfOk result (λ bars. ArePlanBars (option_map (λ used. used.now) classes.entry) config.now live_words bars.items) }
 {
-    let least = fewest(config, live_words, classes);
+    let least = least_pages(config, live_words, classes);
     let (numbers, count) = numbers_told(config, least);
     bars(alloc, config, live_words, classes, &numbers[..count])
 }

@@ -1,11 +1,11 @@
 //! What is told of the plans for a number of live words.
 ghost use Rattle.std.specs.Prelude.{◌≡◌, ◌≤◌, IfOk, IfSome, option_map, string_bytes, take};
 ghost use Rattle.settings.specs.declared.config.TheConstants.{MOST_HEAP_PAGES};
-ghost use Rattle.paced.specs.Planning.{IsLeastPagesFor};
-ghost use Rattle.plans.specs.Report.{made_of, live_line, fewest_line, numbers_told, IsClassesLine, IsTable, IsPlansReport};
+ghost use Rattle.paced.specs.Rooms.{made_of};
+ghost use Rattle.plans.specs.Report.{live_line, fewest_line, numbers_told, IsClassesLine, IsTable, IsPlansReport};
 
 use crate::table::table;
-use paced::{classes_in, least_pages, least_pages_for};
+use paced::{classes_in, least_pages};
 use settings::{Config, MOST_PAGES};
 use size_classes::Class;
 use std::alloc::{AllocError, Global};
@@ -27,16 +27,6 @@ fn live_line(
             format!(in alloc; "live {live_words} units {units} classes {count}\n")
         }
         None => format!(in alloc; "live {live_words} units {units}\n"),
-    }
-}
-
-/// The fewest pages on which there is a plan, where blocks are made of these size classes alone, or of all.
-pub(crate) fn fewest(config: &Config, live_words: u64, classes: Option<&[Class]>) -> Option<u32>
-    ensures { IsLeastPagesFor (made_of (option_map (λ used. used.now) classes.entry)) config.now live_words result }
-{
-    match classes {
-        Some(used) => least_pages_for(config, live_words, used),
-        None => least_pages(config, live_words),
     }
 }
 
@@ -69,7 +59,7 @@ pub(crate) fn classes_line(
     ensures { IfOk result (λ line. IsClassesLine config.now live_words used.now (string_bytes line)) }
 {
     let count = classes_in(used);
-    let fewest = fewest_line(alloc, least_pages_for(config, live_words, used))?;
+    let fewest = fewest_line(alloc, least_pages(config, live_words, Some(used)))?;
     format!(in alloc; "classes {count}: {fewest}")
 }
 
@@ -121,7 +111,7 @@ pub fn plans_report(
     ensures { IfOk result (λ text. IsPlansReport (option_map (λ used. used.now) classes.entry) config.now live_words
         (string_bytes text)) }
 {
-    let least = fewest(config, live_words, classes);
+    let least = least_pages(config, live_words, classes);
     [
         live_line(alloc, config, live_words, classes)?,
         fewest_line(alloc, least)?,

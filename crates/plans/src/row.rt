@@ -1,11 +1,11 @@
 //! The plan on a number of pages, as a line.
 ghost use Rattle.std.specs.Prelude.{◌≡◌, ◌≤◌, IfOk, IfSome, option_map, string_bytes};
 ghost use Rattle.settings.specs.declared.config.TheConstants.{MOST_HEAP_PAGES};
-ghost use Rattle.paced.specs.Planning.{IsFastestFor};
-ghost use Rattle.plans.specs.Report.{made_of, tenths_of, plan_line, IsRow};
+ghost use Rattle.paced.specs.Rooms.{made_of};
+ghost use Rattle.plans.specs.Report.{tenths_of, plan_line, IsRow};
 
 use crate::on_pages::on_pages;
-use paced::{Plan, cycle_quanta, planned, planned_for};
+use paced::{Plan, cycle_quanta, planned};
 use settings::Config;
 use size_classes::Class;
 use std::alloc::{AllocError, Global};
@@ -38,16 +38,6 @@ fn plan_line(
     format!(in alloc; "pages {pages} quanta {quanta} words {words} cycle {cycle} tenths {tenths}\n")
 }
 
-/// The fastest plan of a configuration, where blocks are made of these size classes alone, or of all.
-pub(crate) fn fastest(config: &Config, live_words: u64, classes: Option<&[Class]>) -> Option<Plan>
-    ensures { IsFastestFor (made_of (option_map (λ used. used.now) classes.entry)) config.now live_words result }
-{
-    match classes {
-        Some(used) => planned_for(config, live_words, used),
-        None => planned(config, live_words),
-    }
-}
-
 /// The line of the plan on this many pages, where moving follows each sweep and may empty all of them: the number of
 /// pages, the quanta that a cycle takes at most, the words of a quantum and of a cycle, and tenths of a unit for each
 /// word; or that there is no plan.
@@ -63,5 +53,5 @@ pub(crate) fn row(
         (string_bytes line)) }
 {
     let on = on_pages(config, pages);
-    plan_line(alloc, &on, live_words, fastest(&on, live_words, classes))
+    plan_line(alloc, &on, live_words, planned(&on, live_words, classes))
 }

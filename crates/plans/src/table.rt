@@ -1,6 +1,7 @@
 //! A line for each of some numbers of pages.
 ghost use Rattle.std.specs.Prelude.{IfOk, option_map, string_bytes};
-ghost use Rattle.plans.specs.Report.{made_of, IsTable};
+ghost use Rattle.paced.specs.Rooms.{made_of};
+ghost use Rattle.plans.specs.Report.{IsTable};
 
 use crate::order::next_of;
 use crate::row::row;

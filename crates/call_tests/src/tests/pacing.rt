@@ -2,8 +2,8 @@
 use super::*;
 use graph_heap::Reply;
 use paced::{
-    AbovePlan, Figures, PacedHeap, Pacer, Plan, classes_in, flow_fits, flow_fits_for, least_pages,
-    least_pages_for, moves_all, planned, planned_for,
+    AbovePlan, Figures, PacedHeap, Pacer, Plan, classes_in, flow_fits, least_pages, moves_all,
+    planned,
 };
 use size_classes::Class;
 use std::alloc::Global;
@@ -35,13 +35,13 @@ fn paced_heap(rt: &impl Abort, alloc: Global, config: &Config, plan: Plan) -> Pa
 #[test]
 fn a_paced_heap_is_made_and_asked(rt: HostRuntime) {
     let config = moving_all(&rt, 50);
-    let Some(plan) = planned(&config, 183200) else {
+    let Some(plan) = planned(&config, 183200, None) else {
         panic!(rt; "a flow fits");
     };
     assert!(rt; plan.quantum_words == 421 && plan.cycle_words == 63062);
     assert!(rt; moves_all(&config));
     // A word for each quantum adds less than a page to the 100 that are live and three of each class.
-    assert!(rt; least_pages(&config, 183200) == Some(214));
+    assert!(rt; least_pages(&config, 183200, None) == Some(214));
     let mut heap = paced_heap(&rt, rt.alloc(), &config, plan);
     for n in 0..100u32 {
         let shape = Shape::WordArray(20000);
@@ -63,14 +63,15 @@ fn a_plan_is_made_for_some_classes(rt: HostRuntime) {
     let config = moving_all(&rt, 50);
     let used = [Class::new(37), Class::new(0), Class::new(37)];
     assert!(rt; classes_in(&used) == 2);
-    assert!(rt; least_pages_for(&config, 183200, &used) == Some(106));
-    let Some(plan) = planned_for(&config, 183200, &used) else {
+    assert!(rt; least_pages(&config, 183200, Some(&used)) == Some(106));
+    let Some(plan) = planned(&config, 183200, Some(&used)) else {
         panic!(rt; "a flow fits");
     };
     assert!(rt; plan.quantum_words == 828 && plan.cycle_words == 142601);
-    assert!(rt; flow_fits_for(&config, 183200, &plan, &used));
-    assert!(rt; !flow_fits(&config, 183200, &plan));
-    assert!(rt; !flow_fits_for(&config, 183200, &plan, &[Class::new(9), used[0], used[1]]));
+    assert!(rt; flow_fits(&config, 183200, &plan, Some(&used)));
+    assert!(rt; !flow_fits(&config, 183200, &plan, None));
+    let more = [Class::new(9), used[0], used[1]];
+    assert!(rt; !flow_fits(&config, 183200, &plan, Some(&more)));
 }
 
 /// A program begins a cycle and spends quanta of its own: they aren't in the figures.

@@ -29,6 +29,28 @@ impl fmt::Display for Told<'_> {
     }
 }
 
+/// Values as a list, with commas between them.
+#[derive(Clone, Copy)]
+pub(crate) struct Listed<'a, T>(pub(crate) &'a [T]);
+
+impl<T: fmt::Display> fmt::Display for Listed<'_, T> {
+    fn fmt<W: fmt::Write>(&self, f: &mut fmt::Formatter<W>) -> fmt::Result {
+        let mut between = "";
+        for value in self.0 {
+            write!(f, "{between}{value}")?;
+            between = ", ";
+        }
+        Ok(())
+    }
+}
+
+/// What stands in a document that was refused, by the document's name.
+#[derive(Drop)]
+pub(crate) struct Refused<'a> {
+    pub(crate) name: Quoted<'a>,
+    pub(crate) table: Table,
+}
+
 /// The bytes of a document that was refused. A pipe or a device isn't read once more, and that is told.
 fn refused_bytes<O: Opener, E: Write>(
     alloc: Global,
@@ -44,20 +66,17 @@ fn refused_bytes<O: Opener, E: Write>(
     Ok(read_document(alloc, opener, name)?)
 }
 
-/// The table of a document that was refused for what stands in it. Where it isn't TOML there is none, and that is told.
-pub(crate) fn refused_table<O: Opener, E: Write>(
+/// What stands in a document that was refused for its keys.
+pub(crate) fn read_refused<'a, O: Opener, E: Write>(
     alloc: Global,
     opener: &O,
-    name: &str,
+    name: &'a str,
     errors: &mut E,
-    is_toml: bool,
-) -> Result<Table, Silence> {
+) -> Result<Refused<'a>, Silence> {
     let bytes = refused_bytes(alloc, opener, name, errors)?;
-    if !is_toml {
-        tell_not_toml(alloc, name, bytes.as_slice(), errors)?;
-        return Err(Silence);
-    }
-    open_document(alloc, bytes.as_slice(), Silence, Silence).map_err(|_| Silence)
+    let table = open_document(alloc, bytes.as_slice(), Silence, Silence).map_err(|_| Silence)?;
+    let name = Quoted(name.as_bytes());
+    Ok(Refused { name, table })
 }
 
 /// Tells how long a document may be.
@@ -72,14 +91,15 @@ pub(crate) fn tell_too_long<E: Write>(name: &str, errors: &mut E) -> Result<(), 
 }
 
 /// Tells why a document isn't TOML, in the words of its reader.
-fn tell_not_toml<E: Write>(
+pub(crate) fn tell_not_toml<O: Opener, E: Write>(
     alloc: Global,
+    opener: &O,
     name: &str,
-    bytes: &[u8],
     errors: &mut E,
 ) -> Result<(), Silence> {
+    let bytes = refused_bytes(alloc, opener, name, errors)?;
     let quoted = Quoted(name.as_bytes());
-    let text = match std::str::from_utf8(bytes) {
+    let text = match std::str::from_utf8(bytes.as_slice()) {
         Ok(text) => text,
         Err(error) => {
             let before = error.valid_up_to();

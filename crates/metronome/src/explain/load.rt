@@ -1,47 +1,58 @@
 //! What is wrong with a load.
-use crate::explain::document::{Told, refused_table, tell_too_long};
+use crate::explain::document::{Listed, Refused, Told, read_refused, tell_not_toml, tell_too_long};
 use crate::explain::quoted::Quoted;
 use crate::explain::silence::Silence;
 use crate::files::Opener;
+use command_line::{Job, Request, Sizing};
 use size_classes::{CLASSES, Class};
 use sizing::{DocumentFault, Field, FieldPath};
 use std::alloc::Global;
 use std::io::Write;
 use toml::{Table, Value};
 
-/// Tells what stands in a load that is refused, and what may.
+/// Tells what is wrong with the load of a request that is refused.
 pub(crate) fn explain_load<O: Opener, E: Write>(
     alloc: Global,
+    request: &Request,
     opener: &O,
-    name: &str,
     errors: &mut E,
     fault: DocumentFault,
 ) -> Result<(), Silence> {
-    if fault == DocumentFault::TooLong {
-        return tell_too_long(name, errors);
+    let Job::Pages {
+        by: Sizing::Load(name),
+    } = &request.job
+    else {
+        return Ok(());
+    };
+    match fault {
+        DocumentFault::TooLong => tell_too_long(name, errors),
+        DocumentFault::NotToml => tell_not_toml(alloc, opener, name, errors),
+        _ => tell_load(
+            alloc,
+            &read_refused(alloc, opener, name, errors)?,
+            errors,
+            fault,
+        ),
     }
-    let is_toml = fault != DocumentFault::NotToml;
-    let table = refused_table(alloc, opener, name, errors, is_toml)?;
-    tell_fault(alloc, name, &table, errors, fault)
 }
 
-/// Tells what is wrong with the keys of a load.
-fn tell_fault<E: Write>(
+/// Tells what is wrong with the keys of a load that is refused.
+fn tell_load<E: Write>(
     alloc: Global,
-    name: &str,
-    table: &Table,
+    refused: &Refused<'_>,
     errors: &mut E,
     fault: DocumentFault,
 ) -> Result<(), Silence> {
-    let quoted = Quoted(name.as_bytes());
+    let name = refused.name;
+    let table = &refused.table;
     match fault {
         DocumentFault::TooLong | DocumentFault::NotToml => {}
-        DocumentFault::UnknownKey => return tell_unknown(alloc, name, table, errors),
+        DocumentFault::UnknownKey => return tell_unknown(alloc, refused, errors),
         DocumentFault::GapMissing => {
             let most = u32::MAX;
             writeln!(
                 errors,
-                "metronome: {quoted}: gap has to be set, to a whole number from 0 to {most}"
+                "metronome: {name}: gap has to be set, to a whole number from 0 to {most}"
             )?;
         }
         DocumentFault::NotTable(size) => {
@@ -49,7 +60,7 @@ fn tell_fault<E: Write>(
                 let told = Told(value);
                 writeln!(
                     errors,
-                    "metronome: {quoted}: size {size} is {told}, and may be a table of live, rate and burst"
+                    "metronome: {name}: size {size} is {told}, and may be a table of live, rate and burst"
                 )?;
             }
         }
@@ -59,7 +70,7 @@ fn tell_fault<E: Write>(
                 let most = u32::MAX;
                 writeln!(
                     errors,
-                    "metronome: {quoted}: {path} is {told}, and may be a whole number from 0 to {most}"
+                    "metronome: {name}: {path} is {told}, and may be a whole number from 0 to {most}"
                 )?;
             }
         }
@@ -99,18 +110,17 @@ fn is_size(alloc: Global, key: &str) -> Result<bool, Silence> {
 /// Tells of the first key that isn't known, in the order of names, and which there are at its place.
 fn tell_unknown<E: Write>(
     alloc: Global,
-    name: &str,
-    table: &Table,
+    refused: &Refused<'_>,
     errors: &mut E,
 ) -> Result<(), Silence> {
-    for (key, value) in table.iter() {
+    for (key, value) in refused.table.iter() {
         if !is_size(alloc, key.as_str())? {
             if key.as_str() != "gap" {
-                return tell_no_size(name, key.as_str(), errors);
+                return tell_no_size(refused.name, key.as_str(), errors);
             }
         } else if let Value::Table(class) = value {
             if let Some(unknown) = unknown_field(class) {
-                return tell_no_field(name, key.as_str(), unknown, errors);
+                return tell_no_field(refused.name, key.as_str(), unknown, errors);
             }
         }
     }
@@ -128,44 +138,37 @@ fn unknown_field(class: &Table) -> Option<&str> {
 }
 
 /// Tells that a key of a load isn't known, and which there are.
-fn tell_no_size<E: Write>(name: &str, key: &str, errors: &mut E) -> Result<(), Silence> {
-    let (quoted, unknown) = (Quoted(name.as_bytes()), Quoted(key.as_bytes()));
+fn tell_no_size<E: Write>(name: Quoted<'_>, key: &str, errors: &mut E) -> Result<(), Silence> {
+    let unknown = Quoted(key.as_bytes());
     writeln!(
         errors,
-        "metronome: {quoted}: {unknown} is the first key, by name, that isn't known"
+        "metronome: {name}: {unknown} is the first key, by name, that isn't known"
     )?;
-    write!(
-        errors,
-        "metronome: the keys are gap and the sizes of blocks, which are"
-    )?;
-    let mut between = " ";
+    let mut sizes = [0; CLASSES];
     for number in 0..CLASSES {
-        let size = Class::new(number as u8).size();
-        write!(errors, "{between}{size}")?;
-        between = ", ";
+        sizes[number] = Class::new(number as u8).size();
     }
-    writeln!(errors, "")?;
+    let sizes = Listed(&sizes);
+    writeln!(
+        errors,
+        "metronome: the keys are gap and the sizes of blocks, which are {sizes}"
+    )?;
     Ok(())
 }
 
 /// Tells that a key of a class's table isn't known, and which there are.
 fn tell_no_field<E: Write>(
-    name: &str,
+    name: Quoted<'_>,
     size: &str,
     key: &str,
     errors: &mut E,
 ) -> Result<(), Silence> {
-    let (quoted, unknown) = (Quoted(name.as_bytes()), Quoted(key.as_bytes()));
+    let unknown = Quoted(key.as_bytes());
     writeln!(
         errors,
-        "metronome: {quoted}: in the table of size {size}, {unknown} is the first key, by name, that isn't known"
+        "metronome: {name}: in the table of size {size}, {unknown} is the first key, by name, that isn't known"
     )?;
-    write!(errors, "metronome: the keys there are")?;
-    let mut between = " ";
-    for field in Field::ALL {
-        write!(errors, "{between}{field}")?;
-        between = ", ";
-    }
-    writeln!(errors, "")?;
+    let known = Listed(&Field::ALL);
+    writeln!(errors, "metronome: the keys there are {known}")?;
     Ok(())
 }

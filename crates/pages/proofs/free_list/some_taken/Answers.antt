@@ -1,28 +1,6 @@
 use Rattle.std.proofs.Common.{◌+◌, ◌*◌, arith, refl}
 use Rattle.pages.proofs.Marks.{in_both, is_mark, none_yet, one_more}
-use Rattle.pages.proofs.Threading.{blocks_few}
 use Rattle.pages.proofs.free_list.some_taken.Goals as goal
-
-pub overflow_add-from : goal.overflow_add-from
-overflow_add-from c = let f = blocks_few c.args.class in omega (arith, c.requires.group, f)
-
-pub overflow_add-from-2 : goal.overflow_add-from-2
-overflow_add-from-2 c = let f = blocks_few c.args.class in omega (arith, c.requires.group, f)
-
-pub overflow_add-from-3 : goal.overflow_add-from-3
-overflow_add-from-3 c = let f = blocks_few c.args.class in omega (arith, c.requires.group, f)
-
-pub overflow_add-from-4 : goal.overflow_add-from-4
-overflow_add-from-4 c = let f = blocks_few c.args.class in omega (arith, c.requires.group, f)
-
-pub overflow_add-from-5 : goal.overflow_add-from-5
-overflow_add-from-5 c = let f = blocks_few c.args.class in omega (arith, c.requires.group, f)
-
-pub overflow_add-from-6 : goal.overflow_add-from-6
-overflow_add-from-6 c = let f = blocks_few c.args.class in omega (arith, c.requires.group, f)
-
-pub overflow_add-from-7 : goal.overflow_add-from-7
-overflow_add-from-7 c = let f = blocks_few c.args.class in omega (arith, c.requires.group, f)
 
 pub returns : goal.returns
 returns c none =

@@ -2,14 +2,14 @@ use Rattle.std.proofs.Common.{ap}
 use Rattle.std.specs.Prelude.{option_map, Option}
 use Rattle.pictures.specs.declared.plan_bars.PlanBar.{PlanBar}
 use Rattle.pictures.specs.declared.plan_bars.PlanFigures.{PlanFigures}
-use Rattle.plans.specs.Report.{made_of}
+use Rattle.paced.specs.Rooms.{made_of}
 use Rattle.plans.proofs.Rows.{fastest_words}
 use Rattle.plans.proofs.bars.bar.Goals as goal
 
 pub figures-requires : goal.figures-requires
-figures-requires c = fastest_words (made_of (option_map (λ used. used.now) c.args.classes)) c.on_pages-on.result c.args.live_words c.fastest-plan.result c.fastest-plan.ensures
+figures-requires c = fastest_words (made_of (option_map (λ used. used.now) c.args.classes)) c.on_pages-on.result c.args.live_words c.planned-plan.result c.planned-plan.ensures
 
 pub returns : goal.returns
 returns c =
     let bar : Option PlanFigures → PlanBar = λ plan. record { pages = c.args.pages; plan = plan } in
-    (record { on = c.on_pages-on.result; is_on = c.on_pages-on.ensures; plan = c.fastest-plan.result; fastest = c.fastest-plan.ensures }, ap bar c.figures.ensures)
+    (record { on = c.on_pages-on.result; is_on = c.on_pages-on.ensures; plan = c.planned-plan.result; fastest = c.planned-plan.ensures }, ap bar c.figures.ensures)

@@ -1,7 +1,7 @@
 use Rattle.std.proofs.Common.{sym, subst}
 use Rattle.std.specs.Prelude.{option_map}
 use Rattle.plans.specs.Bars.{IsBar}
-use Rattle.plans.specs.Report.{made_of}
+use Rattle.paced.specs.Rooms.{made_of}
 use Rattle.plans.proofs.Rows.{HasItems, no_items, one_item, all_items}
 use Rattle.plans.proofs.bars.bars.Goals as goal
 

@@ -2,7 +2,7 @@ use Rattle.std.proofs.Common.{◌-◌}
 use Rattle.std.specs.Prelude.{option_map}
 use Rattle.settings.specs.declared.config.TheConstants.{MOST_HEAP_PAGES}
 use Rattle.plans.specs.Bars.{IsBar}
-use Rattle.plans.specs.Report.{made_of}
+use Rattle.paced.specs.Rooms.{made_of}
 use Rattle.plans.proofs.Rows.{HasItems}
 use Rattle.plans.proofs.bars.bars.Given as goal
 

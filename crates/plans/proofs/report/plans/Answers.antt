@@ -1,6 +1,7 @@
 use Rattle.std.proofs.Common.{ℕ, List, subst}
 use Rattle.std.specs.Prelude.{IfOk, option_map, string_bytes}
-use Rattle.plans.specs.Report.{made_of, IsTable}
+use Rattle.paced.specs.Rooms.{made_of}
+use Rattle.plans.specs.Report.{IsTable}
 use Rattle.plans.proofs.report.plans.Goals as goal
 
 pub returns : goal.returns

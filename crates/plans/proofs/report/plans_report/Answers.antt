@@ -1,10 +1,10 @@
 use Rattle.std.specs.Prelude.{option_map}
-use Rattle.plans.specs.Report.{made_of}
+use Rattle.paced.specs.Rooms.{made_of}
 use Rattle.plans.proofs.Rows.{least_within}
 use Rattle.plans.proofs.report.plans_report.Goals as goal
 
 pub fewest_line-requires : goal.fewest_line-requires
-fewest_line-requires c = least_within (made_of (option_map (λ used. used.now) c.args.classes)) c.args.config.now c.args.live_words c.fewest-least.result c.fewest-least.ensures
+fewest_line-requires c = least_within (made_of (option_map (λ used. used.now) c.args.classes)) c.args.config.now c.args.live_words c.least_pages-least.result c.least_pages-least.ensures
 
 pub plans-requires : goal.plans-requires
-plans-requires c = least_within (made_of (option_map (λ used. used.now) c.args.classes)) c.args.config.now c.args.live_words c.fewest-least.result c.fewest-least.ensures
+plans-requires c = least_within (made_of (option_map (λ used. used.now) c.args.classes)) c.args.config.now c.args.live_words c.least_pages-least.result c.least_pages-least.ensures

@@ -1,6 +1,6 @@
 use Rattle.std.proofs.Common.{◌++◌, ap, ◌∙◌}
 use Rattle.std.specs.Prelude.{option_map, string_bytes}
-use Rattle.plans.specs.Report.{made_of}
+use Rattle.paced.specs.Rooms.{made_of}
 use Rattle.plans.proofs.Rows.{no_rows, one_row, all_rows}
 use Rattle.plans.proofs.table.table.Goals as goal
 

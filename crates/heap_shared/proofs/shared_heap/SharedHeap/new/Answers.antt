@@ -5,7 +5,7 @@ use Rattle.graph_heap.specs.declared.command.Entry.{Entry}
 use Rattle.heap_model.specs.Settings.{HeapSettings}
 use Rattle.heap_model.specs.Event.{IsCourse}
 use Rattle.heap_model.proofs.Event.Kept.{opening_course}
-use Rattle.heap_shared.specs.Past.{Past, course_of}
+use Rattle.heap_shared.specs.Past.{PastView, course_of}
 use Rattle.heap_shared.proofs.shared_heap.SharedHeap.new.Goals as goal
 
 pub invariant_of-result : goal.invariant_of-result
@@ -14,4 +14,4 @@ invariant_of-result c =
     let made = c.in_ok-ring.ensures in
     let ring = c.in_ok-ring.ring.entries in
     let empty : ring.items ≡ keep_last ring.capacity [] = ap (λ (b : Buffer Entry). b.items) made ∙ sym (drop-nil (0 - ring.capacity)) in
-    subst (λ (p : Past). IsCourse (course_of c.in_ok-heap.heap p) × (ring.items ≡ keep_last ring.capacity p.history)) (sym c.empty.ensures) (opening_course c.in_ok-heap.heap c.in_ok-heap.ensures.opening some, empty)
+    subst (λ (p : PastView). IsCourse (course_of c.in_ok-heap.heap p) × (ring.items ≡ keep_last ring.capacity p.history)) (sym c.no_past.ensures) (opening_course c.in_ok-heap.heap c.in_ok-heap.ensures.opening some, empty)

@@ -2,14 +2,14 @@
 use denote.Param.Send.{IsSend, owning_send, struct_send, sendable}
 use denote.Struct.Struct.{exits_of}
 use denote.Struct.Owning.{shape, fields, to}
-use Rattle.nodes.proofs.Sent.{records_send}
+use Rattle.ghosts.proofs.Sent.{ghost_sends}
 use Rattle.metronome_c.specs.contracts.held.Held as held
 use Rattle.std.proofs.Crossing as crossing
 use Rattle.metronome_c.specs.contracts.handle.Handle.{the_row, the_type}
 use Rattle.metronome_c.proofs.Crossing.{quiet, global_sends, pointer_sends, box_crosses}
 
 held_sends : IsSend held.the_row
-held_sends = search (sendable, crossing.crosses, records_send) depth 40 fits 20000
+held_sends = search (sendable, crossing.crosses, ghost_sends) depth 40 fits 20000
 
 pub send : IsSend the_row
 send = let O = the_type in

@@ -44,7 +44,7 @@ impl<T: fmt::Display> fmt::Display for Listed<'_, T> {
     }
 }
 
-/// What stands in a document that was refused, by the document's name.
+/// A document that was refused: its name, and what stands in it.
 #[derive(Drop)]
 pub(crate) struct Refused<'a> {
     pub(crate) name: Quoted<'a>,
@@ -66,7 +66,7 @@ fn refused_bytes<O: Opener, E: Write>(
     Ok(read_document(alloc, opener, name)?)
 }
 
-/// What stands in a document that was refused for its keys.
+/// A document that was refused for its keys, read once more.
 pub(crate) fn read_refused<'a, O: Opener, E: Write>(
     alloc: Global,
     opener: &O,

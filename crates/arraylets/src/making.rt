@@ -1,5 +1,5 @@
 //! How objects are made.
-ghost use Rattle.std.specs.Prelude.{◌≡◌, ◌≢◌, ◌+◌, ◌/◌, ◌<◌, ◌≤◌, ℕ, Bool, true, length, slice_index, Some};
+ghost use Rattle.std.specs.Prelude.{◌≡◌, ◌≢◌, ◌+◌, ◌/◌, ◌<◌, ◌≤◌, ℕ, true, length, slice_index, Some};
 ghost use Rattle.graph_heap.specs.declared.command.Shape.{Shape};
 ghost use Rattle.graph_heap.specs.declared.command.TheConstants.{ARRAY_CELLS};
 ghost use Rattle.graph_heap.specs.Shape.{fits};
@@ -9,7 +9,7 @@ ghost use Rattle.size_classes.specs.Need.{needed};
 ghost use Rattle.heap_model.specs.Block.{new_record};
 ghost use Rattle.heap_model.specs.Pages.{has_room, TakesBlock};
 ghost use Rattle.heap_model.specs.Room.{needed_from};
-ghost use Rattle.heap_model.specs.Store.{Store, is_allocated, record_of, Adds};
+ghost use Rattle.heap_model.specs.Store.{is_allocated, record_of, Adds};
 ghost use Rattle.heap_model.specs.Making.{MakesObject};
 ghost use Rattle.heap_model.specs.Taking.{Takes};
 ghost use Rattle.nodes.specs.Links.{KeepsLinks};

@@ -1,5 +1,5 @@
 //! The objects of the slow heap.
-ghost use Rattle.std.specs.Prelude.{◌≡◌, map, slice_get, slice_index, slice_set, length, nat_lt, if◌then◌else◌, IfOk, Ok, Err};
+ghost use Rattle.std.specs.Prelude.{◌≡◌, map, slice_index, slice_set, length, nat_lt, if◌then◌else◌, IfOk, Ok, Err};
 ghost use Rattle.graph_heap.specs.Shape as shapes;
 ghost use Rattle.graph_heap.specs.Graph.{new_object, put_ref, put_word};
 ghost use Rattle.graph_heap.specs.Effect.{object_at, ref_at, word_at, Sees};

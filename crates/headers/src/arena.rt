@@ -1,6 +1,6 @@
 //! The arena of words, block by block.
 ghost use Rattle.std.specs.Prelude.{◌≡◌, ◌+◌, ◌-◌, ◌<◌, ◌≤◌, ◌*◌, ◌/◌, ◌∷◌, ◌++◌, [], IfOk, length, min, replicate, slice_index, slice_set, vec_capacity};
-ghost use Rattle.heap_model.specs.Header.{Header, header_in, header_word, shape_in, recoloured, ShapeFits};
+ghost use Rattle.heap_model.specs.Header.{header_in, header_word, recoloured, ShapeFits};
 ghost use Rattle.heap_model.specs.Block.{spliced, words_at};
 ghost use Rattle.heap_model.specs.State.{same_colour};
 

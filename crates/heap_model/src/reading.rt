@@ -1,6 +1,6 @@
 //! The laws of reading: what a heap that agrees with a graph heap shows. Each function does nothing:
 //! its contract is the law.
-ghost use Rattle.std.specs.Prelude.{◌≡◌, ◌≢◌, ◌↔◌, ℕ, ◌+◌, ◌-◌, ◌<◌, length, slice_index};
+ghost use Rattle.std.specs.Prelude.{◌≡◌, ◌≢◌, ◌↔◌, ℕ, ◌+◌, ◌<◌, length, slice_index};
 ghost use Rattle.graph_heap.specs.Graph.{Graph, object_of};
 ghost use Rattle.graph_heap.specs.Reach.{Reaches};
 ghost use Rattle.size_classes.specs.Parts.{cells_of, spine_of, spine_cell_of, column_in};

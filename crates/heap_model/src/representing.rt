@@ -1,11 +1,10 @@
 //! The laws of a heap that represents two graph heaps, that at present and that when the last cycle
 //! began. Each function does nothing: its contract is the law.
-ghost use Rattle.std.specs.Prelude.{◌≡◌, ◌⊎◌, ℕ, ◌+◌, ◌-◌, ◌*◌, ◌<◌, ◌≤◌, true, false, length};
+ghost use Rattle.std.specs.Prelude.{◌≡◌, ◌⊎◌, ℕ, ◌+◌, ◌<◌, ◌≤◌, true, false, length};
 ghost use Rattle.graph_heap.specs.Graph.{Graph, opening};
 ghost use Rattle.heap_model.specs.declared.phase.Phase.TheVariants as phases;
 ghost use Rattle.heap_model.specs.Pages.{page_at};
-ghost use Rattle.heap_model.specs.State.{HeapState, seen};
-ghost use Rattle.heap_model.specs.Store.{is_allocated};
+ghost use Rattle.heap_model.specs.State.{HeapState};
 ghost use Rattle.heap_model.specs.Written.{records};
 ghost use Rattle.heap_model.specs.Agreement.{Agrees};
 ghost use Rattle.heap_model.specs.Opening.{IsOpening};

@@ -1,7 +1,6 @@
 //! The workers of a play: one for each script, and the collector's.
 ghost use Rattle.std.specs.Prelude.{◌≡◌, ◌<◌, ◌≤◌, length, map, slice_index_or, vec_len, All};
 ghost use Rattle.std.specs.List.{AllZip};
-ghost use denote.Param.Send.{IsSync, IsSend};
 ghost use Rattle.heap_server.specs.Seats.{new_seats, mutators_of};
 ghost use Rattle.heap_server.specs.Played.{IsPlayed, HasPlayed, HavePlayed, IsCollected};
 

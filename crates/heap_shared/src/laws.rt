@@ -1,5 +1,5 @@
 //! The law of histories that members share. The function does nothing: its contract is the law.
-ghost use Rattle.std.specs.Prelude.{◌≡◌, ℕ, List};
+ghost use Rattle.std.specs.Prelude.{ℕ, List};
 ghost use Rattle.std.specs.List.{All};
 ghost use Rattle.graph_heap.specs.declared.command.Entry.{Entry};
 ghost use Rattle.heap_server.specs.Played.{IsMerge};

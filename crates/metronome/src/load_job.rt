@@ -1,5 +1,5 @@
 //! Telling what a load needs, and whether a trace keeps to it.
-ghost use Rattle.std.specs.Prelude.{◌≡◌, ◌+◌, IfOk};
+ghost use Rattle.std.specs.Prelude.{◌≡◌, ◌+◌};
 ghost use Rattle.trace.specs.LinesProcessed.{reads_failed};
 ghost use Rattle.streams.specs.Streams.{given_by, taken_by, Stays};
 ghost use Rattle.sizing.specs.Fitting.{load_in};

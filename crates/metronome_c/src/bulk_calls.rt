@@ -1,6 +1,5 @@
 //! Calls that do a list of commands, one after the other.
 ghost use Rattle.std.specs.Prelude.{◌≡◌, ◌+◌, ◌<◌, ◌≤◌, length};
-ghost use Rattle.std.specs.Fn.{FnOnceReturnsAtMut};
 ghost use Rattle.graph_heap.specs.declared.command.TheConstants.{PLAIN_CELLS as most_cells};
 ghost use Rattle.graph_heap.specs.declared.command.Shape.TheVariants as shapes;
 ghost use Rattle.paced.specs.Pacing.{shape_words};

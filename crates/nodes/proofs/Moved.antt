@@ -1,6 +1,6 @@
 -- A block moved, with the records: the words may have changed in free blocks when a place was received, and
 -- both writes are of allocated blocks.
-use Rattle.std.proofs.Common.{◌≡◌, ◌≢◌, ℕ, ◌+◌, ◌*◌, ◌/◌, ◌<◌, ◌≤◌, refl, true, false, List, Option, Some, length, get_or, set, drop, ap, ◌∙◌, sym, subst, arith, length-set}
+use Rattle.std.proofs.Common.{◌≡◌, ◌≢◌, ℕ, ◌+◌, ◌*◌, ◌/◌, ◌<◌, ◌≤◌, true, false, List, Option, Some, length, get_or, set, drop, ap, ◌∙◌, sym, subst, arith, length-set}
 use Rattle.std.specs.Prelude.{IfSome, IsSomeAnd}
 use Rattle.std.proofs.lemmas.List.{get_or-set_same, get_or-set_other, get_or-take, get_or-drop}
 use Rattle.std.proofs.lemmas.Option.{slice_get_within}

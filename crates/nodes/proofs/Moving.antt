@@ -16,7 +16,6 @@ use Rattle.nodes.proofs.Places.{allocated_place, apart}
 use Rattle.nodes.proofs.Freeing.{same_or, page_here, page_other, allocated_change, store_change}
 use Rattle.nodes.proofs.Making.{other_flag}
 use Rattle.nodes.proofs.Blocks as blocks
-use Rattle.nodes.proofs.Blocks.{block_by}
 
 pub clash : {b : Bool} → b ≡ true → b ≡ false → ⊥
 clash x y = cc

@@ -1,6 +1,6 @@
 //! One page's list of free blocks: word 0 of a free block says that it is one, and word 3 names the next. Loops over
 //! blocks are lent the arena's words once, as one row.
-ghost use Rattle.std.specs.Prelude.{◌≡◌, ℕ, ◌+◌, ◌-◌, ◌<◌, ◌≤◌, ◌*◌, List, Option, length, slice_get, slice_set, slice_index, replicate, true, false, not, ◌==◌, Some, IfSome, IsNone};
+ghost use Rattle.std.specs.Prelude.{◌≡◌, ◌+◌, ◌-◌, ◌<◌, ◌≤◌, ◌*◌, List, Option, length, slice_get, slice_set, replicate, true, false, not, ◌==◌, Some, IfSome, IsNone};
 ghost use Rattle.size_classes.specs.declared.class.TheConstants.{CLASSES};
 ghost use Rattle.size_classes.specs.Sizes.{size_of, blocks_in};
 ghost use Rattle.heap_model.specs.Store.{address_of};

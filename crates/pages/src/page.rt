@@ -1,6 +1,6 @@
 //! The record of one page.
-ghost use Rattle.std.specs.Prelude.{◌≡◌, ◌≤◌, ◌+◌};
-ghost use Rattle.pages.specs.Index.{OfClass, row_usable, row_free_on, row_choosable, bit};
+ghost use Rattle.std.specs.Prelude.{◌≡◌, ◌≤◌};
+ghost use Rattle.pages.specs.Index.{OfClass, row_usable, row_free_on, row_choosable};
 
 use size_classes::Class;
 

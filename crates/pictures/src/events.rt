@@ -3,7 +3,7 @@ ghost use Rattle.std.specs.Prelude.{◌≡◌, ◌≤◌, ◌<◌, ◌+◌, ◌-
 ghost use Rattle.streams.specs.Streams.{GrowsByPart, failed};
 ghost use Rattle.quanta.specs.Intervals.{IsRising};
 ghost use Rattle.quanta.specs.Timetable.{last_end};
-ghost use Rattle.pictures.specs.Events.{process_line, row_number, row_text, row_line, length_text, ticks_text, ticks_line, span_line, share_line, event_line, quantum_events, quanta_events, cycles_events, events_head, events_tail, json_text, events_picture};
+ghost use Rattle.pictures.specs.Events.{row_number, row_text, row_line, length_text, ticks_text, ticks_line, span_line, share_line, event_line, quantum_events, quanta_events, events_head, events_tail, json_text, events_picture};
 
 use crate::cycle_spans::write_cycles;
 use crate::writing::{DocumentLine, write_lines};

@@ -1,5 +1,5 @@
 //! The shares that the mutators had, and those that the schedule promises.
-ghost use Rattle.std.specs.Prelude.{◌≡◌, ◌<◌, ◌≤◌, ◌↔◌, ◌⊎◌, IsNone, IfSome, take, length, slice_index};
+ghost use Rattle.std.specs.Prelude.{◌≡◌, ◌<◌, ◌≤◌, ◌↔◌, ◌⊎◌, IsNone, IfSome, take, slice_index};
 ghost use Rattle.std.specs.List.{AllZip};
 ghost use Rattle.pictures.specs.Utilisation.{span_of, IsShare};
 

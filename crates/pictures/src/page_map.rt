@@ -4,7 +4,6 @@ ghost use Rattle.streams.specs.Streams.{GrowsByPart, failed};
 ghost use Rattle.pictures.specs.Elements.{svg_text};
 ghost use Rattle.pictures.specs.PageMap as maps;
 ghost use Rattle.pictures.specs.PageMap.{row_number, free_from, free_bar, density_of, mark_of, used_square, page_square, drawn_of, map_legend, map_squares, map_shown, map_told, pages_picture};
-ghost use Rattle.pictures.specs.Lines.{present};
 
 use crate::caption::{Caption, Words};
 use crate::colour::Colour;

@@ -3,7 +3,7 @@ ghost use Rattle.std.specs.Prelude.{◌≡◌, ◌≤◌, ◌+◌, ◌++◌, OnO
 ghost use Rattle.streams.specs.Streams.{GrowsByPart, failed};
 ghost use Rattle.pictures.specs.Elements.{svg_text};
 ghost use Rattle.pictures.specs.PlanBars as plan_bars;
-ghost use Rattle.pictures.specs.PlanBars.{words_in, pages_x, bar_height, cost_caption, bars_drawn, plans_shown, plans_told, bars_picture};
+ghost use Rattle.pictures.specs.PlanBars.{words_in, pages_x, cost_caption, bars_drawn, plans_shown, plans_told, bars_picture};
 
 use crate::axis::{Axis, height, write_axis};
 use crate::caption::{Caption, Words};

@@ -1,5 +1,5 @@
 //! How many words live objects have at most in a run, and of which size classes blocks are made.
-ghost use Rattle.std.specs.Prelude.{◌≡◌, ◌<◌, length, IfOk, OnOk};
+ghost use Rattle.std.specs.Prelude.{◌≡◌, ◌<◌, IfOk, OnOk};
 ghost use Rattle.graph_heap.specs.Graph.{opening};
 ghost use Rattle.graph_heap.specs.History.{IsEntryOf, after_entry};
 ghost use Rattle.space.specs.Demand.{blocks_of};

@@ -1,5 +1,5 @@
 -- How far all that lines wrote was written: what comes behind waited in the reader's buffer.
-use Rattle.std.proofs.Common.{◌≡◌, ℕ, ◌+◌, ◌≤◌, ◌⊎◌, inl, inr, Bool, true, List, [], ◌∷◌, ◌++◌, length, arith, length-append, append_assoc, append-nil, ap, ◌∙◌, sym, subst, refl, Ok}
+use Rattle.std.proofs.Common.{◌≡◌, ℕ, ◌+◌, ◌≤◌, ◌⊎◌, inl, inr, Bool, List, [], ◌∷◌, ◌++◌, length, arith, length-append, append_assoc, append-nil, ap, ◌∙◌, sym, subst, refl, Ok}
 use Rattle.heap_model.specs.Event.{Event}
 use Rattle.trace.specs.declared.version.Version.{Version}
 use Rattle.trace.specs.declared.version.Version.TheVariants.{First}

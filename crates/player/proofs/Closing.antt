@@ -1,6 +1,6 @@
 -- How plays end where what is written waits.
-use Rattle.std.proofs.Common.{◌≡◌, ℕ, ◌+◌, ◌-◌, ◌<◌, ◌≤◌, Bool, true, inl, inr, List, [], ◌++◌, length, take, arith, length-append, ap, ◌∙◌, sym, subst, refl}
-use Rattle.std.specs.Prelude.{◌⊎◌, Option, Some, None, Result, Ok, Err}
+use Rattle.std.proofs.Common.{◌≡◌, ℕ, ◌+◌, ◌-◌, ◌≤◌, Bool, inl, inr, List, [], ◌++◌, length, take, arith, length-append, ap, ◌∙◌, sym, subst, refl}
+use Rattle.std.specs.Prelude.{◌⊎◌, Option, Result, Ok, Err}
 use Rattle.std.proofs.Math.Seq.{take-append-add}
 use Rattle.heap_model.specs.Event.{Event}
 use Rattle.trace.specs.declared.line.Line.{Line}
@@ -8,7 +8,6 @@ use Rattle.trace.specs.declared.line.Line.TheVariants as lines
 use Rattle.trace.specs.declared.fault.LineFault.TheVariants.{TooLong, NotEnded, NotAnEvent, NotACommand, NoSuchMutator, NotAnEntry, ClockSpent}
 use Rattle.trace.specs.declared.fault.PlayFault.{PlayFault}
 use Rattle.trace.specs.declared.fault.PlayFault.TheVariants.{Line as At_line, Read, Write, NoMemory}
-use Rattle.trace.specs.declared.version.Version.{Version}
 use Rattle.trace.specs.LinesProcessed.{Reached, NextThere, LinesDone, LinesProcessed, ProcessingEnds, writes_failed}
 use Rattle.trace.specs.LineReader.{Lines}
 use Rattle.streams.specs.Streams.{Given, GrowsByPart}

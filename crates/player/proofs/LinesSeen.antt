@@ -13,8 +13,8 @@ use Rattle.trace.specs.Handling.{LinesHandled}
 use Rattle.trace.specs.LinesProcessed.{LinesDone, No_lines, One_line_more}
 use Rattle.trace.specs.Numbered.{LineRead}
 use Rattle.streams.specs.Streams.{Given}
-use Rattle.trace.specs.TextLine.{Text, text_after, IsVersionLine}
-use Rattle.trace.proofs.Handling.{Follows, AllMoved, all_moved, over_all, over_stopped}
+use Rattle.trace.specs.TextLine.{Text, text_after}
+use Rattle.trace.proofs.Handling.{Follows, all_moved, over_all, over_stopped}
 use Rattle.player.specs.declared.observed.Observed.{Observed}
 use Rattle.player.specs.declared.style.Style.TheVariants.{Nothing}
 use Rattle.player.specs.New.{IsNew}

@@ -1,5 +1,5 @@
 -- What is promised of a heap with its history is promised of what a play leaves.
-use Rattle.std.proofs.Common.{◌≡◌, ◌<◌, ℕ, ◌+◌, ◌⊎◌, inl, inr, true, List, [], ◌++◌, length, arith, ap, ◌∙◌, sym, subst, refl}
+use Rattle.std.proofs.Common.{◌≡◌, ◌<◌, ℕ, ◌+◌, inl, inr, true, List, [], ◌++◌, length, arith, ap, ◌∙◌, sym, subst, refl}
 use Rattle.std.specs.Prelude.{Option, None, Some, Result}
 use Rattle.graph_heap.specs.declared.command.Entry.{Entry}
 use Rattle.settings.specs.declared.config.Config.{Config}
@@ -22,7 +22,7 @@ use Rattle.streams.specs.Streams.{Given}
 use Rattle.player.specs.declared.style.Style.{Style}
 use Rattle.player.specs.New.{IsNew, StartsWithSpace}
 use Rattle.player.specs.Player.{PlayerState}
-use Rattle.player.specs.Playing.{Session, session, Stops, Played, PlayedFirst, PlayedUpTo}
+use Rattle.player.specs.Playing.{Session, session, Stops, Played, PlayedUpTo}
 use Rattle.player.proofs.Closing.{LeftBehind, left_behind}
 use Rattle.player.proofs.Lines.{due_runs}
 

@@ -1,5 +1,5 @@
 -- What an observer sees of lines.
-use Rattle.std.proofs.Common.{◌≡◌, ◌≢◌, ℕ, ◌+◌, ◌<◌, ◌≤◌, ◌⊎◌, inl, inr, Bool, true, false, List, [], ◌∷◌, ◌++◌, Ok, Err, refl, ap, ◌∙◌, sym, subst, append_assoc, append-nil}
+use Rattle.std.proofs.Common.{◌≡◌, ◌≢◌, ℕ, ◌+◌, ◌<◌, ◌≤◌, ◌⊎◌, inl, inr, true, List, [], ◌∷◌, ◌++◌, Ok, Err, refl, ap, ◌∙◌, sym, subst, append_assoc, append-nil}
 use Rattle.std.specs.Prelude.{Some, None, Result}
 use Rattle.graph_heap.specs.declared.command.Command.{Command}
 use Rattle.graph_heap.specs.declared.command.Entry.{Entry}
@@ -12,10 +12,10 @@ use Rattle.trace.specs.declared.line.Line.TheVariants as lines
 use Rattle.player.specs.declared.observed.Observed.{Observed}
 use Rattle.player.specs.declared.player.TickFault.{TickFault}
 use Rattle.player.specs.declared.player.TickFault.TheVariants as faults
-use Rattle.player.specs.Observing.{Run, after_steps, observed, SeesSteps, SeesStep, SeesQuantum, SeesDue, LineSeen, TicksSeen}
-use Rattle.player.specs.Player.{PlayerState, QuantaDue, None_yet, One_more, DoesLine, Skips, Commands, Goes_on, Spends, Ticks, entries_in}
+use Rattle.player.specs.Observing.{Run, after_steps, SeesSteps, SeesStep, SeesQuantum, LineSeen, TicksSeen}
+use Rattle.player.specs.Player.{PlayerState, QuantaDue, None_yet, One_more, DoesLine, Skips, Commands, Goes_on, Spends, Ticks}
 use Rattle.player.specs.Player as players
-use Rattle.player.specs.Steps.{Step, step, IsDone, IsCommand, IsBegin, IsQuantum, steps_due, steps_of}
+use Rattle.player.specs.Steps.{Step, step, IsCommand, IsBegin, steps_due, steps_of}
 use Rattle.player.specs.Ticking.{Begun, Spent, DueDone}
 
 -- a run with no steps more

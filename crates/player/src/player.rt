@@ -1,6 +1,6 @@
 //! A player: a heap with its history, and the schedule of its collector.
 ghost use Rattle.std.specs.Prelude.{◌≡◌, ◌≤◌, [], ◌∷◌, length, IfOk, IfErr, OnErr, OnOk};
-ghost use Rattle.heap_model.specs.Event.{IsBudget, Command_done, Does};
+ghost use Rattle.heap_model.specs.Event.{IsBudget, Command_done};
 ghost use Rattle.quanta.specs.Timetable as timetables;
 ghost use Rattle.trace.specs.declared.line.Line.{Line};
 ghost use Rattle.trace.specs.declared.line.Line.TheVariants as lines;

@@ -1,5 +1,5 @@
 //! Playing a trace.
-ghost use Rattle.std.specs.Prelude.{◌≡◌, ◌≢◌, ℕ, ◌+◌, ◌-◌, ◌<◌, ◌≤◌, ◌++◌, List, [], length, false, Some, Err, IsTrue, option_map, if◌then◌else◌};
+ghost use Rattle.std.specs.Prelude.{◌≡◌, ◌≢◌, ℕ, ◌+◌, ◌-◌, ◌<◌, ◌++◌, List, [], false, Some, Err, IsTrue, option_map, if◌then◌else◌};
 ghost use Rattle.trace.specs.LinesProcessed.{reads_failed, writes_failed};
 ghost use Rattle.streams.specs.Streams.{Stays, GrowsByPart, given_by};
 ghost use Rattle.machine.specs.Headline.{Holds, Follows};

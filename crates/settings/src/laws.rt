@@ -2,7 +2,6 @@
 //! contract is the law.
 ghost use Rattle.std.specs.Prelude.{◌≡◌, [], ◌∷◌};
 ghost use Rattle.settings.specs.declared.config.TheConstants.{LEAST_BUDGET, MOST_BUDGET, MOST_HEAP_PAGES, MOST_PAGES};
-ghost use Rattle.settings.specs.declared.key.Key.{Key};
 ghost use Rattle.settings.specs.declared.key.Key.TheVariants.{Pages, Mutators, Slots, Statics, Identities, DefragBelow, DefragPages, CollectorTicks, MutatorTicks, Rate, Live};
 ghost use Rattle.settings.specs.declared.key.TheConstants.Key.{ALL};
 

@@ -1,5 +1,5 @@
 //! The blocks that an object needs, by class.
-ghost use Rattle.std.specs.Prelude.{◌≡◌, ◌+◌, ◌*◌, ◌<◌, ◌≤◌, ◌^◌, ℕ, length, replicate, slice_index};
+ghost use Rattle.std.specs.Prelude.{◌≡◌, ◌+◌, ◌*◌, ◌<◌, ◌≤◌, ◌^◌, ℕ, replicate, slice_index};
 ghost use Rattle.size_classes.specs.Need.{blocks_needed, counts_at};
 ghost use Rattle.size_classes.specs.Parts.{parts_in};
 

@@ -1,5 +1,5 @@
 //! Counts of blocks, by size class.
-ghost use Rattle.std.specs.Prelude.{◌≡◌, ℕ, ◌+◌, ◌<◌, ◌≤◌, ◌^◌, true, max, min, slice_index, IfSome, IsNone};
+ghost use Rattle.std.specs.Prelude.{◌≡◌, ℕ, ◌+◌, ◌<◌, ◌^◌, true, max, min, slice_index, IfSome, IsNone};
 ghost use Rattle.graph_heap.specs.Shape.{fits};
 ghost use Rattle.size_classes.specs.Need.{needed};
 ghost use Rattle.sizing.specs.Counts.{MOST, AreBlocks, IsTable, HasOver};

@@ -1,5 +1,5 @@
 //! What objects need from one cycle to the next.
-ghost use Rattle.std.specs.Prelude.{◌≡◌, ◌⊎◌, false, true};
+ghost use Rattle.std.specs.Prelude.{◌≡◌, false, true};
 ghost use Rattle.heap_model.specs.Phases.{awaits_sweep_end};
 ghost use Rattle.sizing.specs.Counts.{AreNone};
 ghost use Rattle.sizing.specs.Season.{AddsBlocks, IsBegun, IsSwept};

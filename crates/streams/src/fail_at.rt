@@ -1,5 +1,5 @@
 //! Sources and sinks that fail on purpose.
-ghost use Rattle.std.specs.Prelude.{◌≡◌, ◌↔◌, ℕ, ◌+◌, ◌-◌, ◌<◌, ◌≤◌, ◌++◌, true, if◌then◌else◌, length, take, IsTrue, IsErr, IfOk, IfSome, OnOk, OnErr, Some};
+ghost use Rattle.std.specs.Prelude.{◌≡◌, ◌↔◌, ◌+◌, ◌-◌, ◌<◌, true, if◌then◌else◌, IsTrue};
 ghost use Rattle.streams.specs.Streams.{failed};
 
 use crate::fault::{ReadFailed, WriteFailed};

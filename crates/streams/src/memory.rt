@@ -1,5 +1,5 @@
 //! Readers and writers over memory.
-ghost use Rattle.std.specs.Prelude.{◌≡◌, ℕ, ◌<◌, ◌≤◌, ◌^◌, ◌++◌, List, [], Some, take, length, nat_le, min};
+ghost use Rattle.std.specs.Prelude.{◌≡◌, ◌<◌, ◌≤◌, ◌^◌, [], Some, take, length, nat_le, min};
 ghost use Rattle.streams.specs.Memory.{take_few, take_begins};
 
 use crate::fault::{ReadFailed, WriteFailed};

@@ -1,5 +1,5 @@
 //! A line of an input as text.
-ghost use Rattle.std.specs.Prelude.{◌≡◌, ◌↔◌, IsTrue};
+ghost use Rattle.std.specs.Prelude.{◌↔◌, IsTrue};
 ghost use Rattle.trace.specs.TextLine.{text_in, IsVersionLine, IsNextVersion};
 
 use crate::version::{Version, tells_version};

@@ -1,6 +1,5 @@
 //! Writing words with numbers, replies and entries.
-ghost use Rattle.std.specs.Prelude.{◌≡◌, ◌≤◌, ◌+◌, ◌++◌, ◌∷◌, codes, decimal, length, take, slice_index};
-ghost use Rattle.graph_heap.specs.Refusal.{refusal_number};
+ghost use Rattle.std.specs.Prelude.{◌≡◌, ◌≤◌, ◌+◌, ◌++◌, ◌∷◌, decimal, length, take, slice_index};
 ghost use Rattle.trace.specs.Spelling.{two, three, four, shape_text, command_line, reply_text, entry_line};
 
 use crate::commands::put_command;

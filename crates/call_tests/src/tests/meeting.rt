@@ -1,6 +1,6 @@
 //! A gate that holds two workers and the collector until all three have come: before each command and budget, and
 //! after the last.
-ghost use Rattle.std.specs.Prelude.{◌≡◌, ◌<◌, ◌≤◌};
+ghost use Rattle.std.specs.Prelude.{◌<◌};
 
 use super::*;
 use graph_heap::NoMemory;

@@ -1,10 +1,10 @@
 -- A log that sees the steps of a run.
-use Rattle.std.proofs.Common.{◌≡◌, ◌≢◌, ℕ, inl, inr, true, false, List, [], ◌∷◌, ◌++◌, refl, ap, ◌∙◌, sym, subst}
+use Rattle.std.proofs.Common.{◌≡◌, ◌≢◌, ℕ, inl, inr, true, false, List, [], ◌∷◌, ◌++◌, ap, ◌∙◌, sym, subst}
 use Rattle.std.specs.Prelude.{Result, Ok, Err, OnErr}
 use Rattle.graph_heap.specs.declared.command.Entry.{Entry}
 use Rattle.heap_model.specs.declared.phase.Phase.{Phase}
 use Rattle.heap_model.specs.declared.phase.Phase.TheVariants as phases
-use Rattle.heap_model.specs.Event.{Course, Event, Cycle_begun, Begin_refused, Quantum_done, Does}
+use Rattle.heap_model.specs.Event.{Course, Does}
 use Rattle.space.specs.Pace.{in_cycle}
 use Rattle.space.proofs.Paces.Pacing.{idle_phase}
 use Rattle.player.specs.Observing.{Run, after_steps}

@@ -1,6 +1,5 @@
 //! The text of a log of cycles.
-ghost use Rattle.std.specs.Prelude.{◌≡◌, ◌++◌, ◌∷◌, [], Some, IfOk, OnOk, string_bytes, decimal};
-ghost use Rattle.std.specs.List.{flat_map};
+ghost use Rattle.std.specs.Prelude.{◌≡◌, Some, IfOk, string_bytes, decimal};
 ghost use Rattle.inspector.specs.CyclesText.{header, in_column, figure, figures, separator, cycle_line, cycles_told};
 
 use crate::cycles::cycle::Cycle;

@@ -1,5 +1,4 @@
 //! From how many pages on a pace fits.
-ghost use Rattle.std.specs.Prelude.{◌≤◌};
 ghost use Rattle.space.specs.Fitting.{pace_in};
 ghost use Rattle.inspector.specs.NeededReport.{IsFrom};
 

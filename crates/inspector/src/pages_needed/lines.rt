@@ -1,5 +1,5 @@
 //! Lines that all reports of pages share.
-ghost use Rattle.std.specs.Prelude.{◌≡◌, ◌++◌, IfOk, string_bytes, codes, decimal};
+ghost use Rattle.std.specs.Prelude.{◌≡◌, IfOk, string_bytes};
 ghost use Rattle.inspector.specs.NeededReport.{verdict, pages_line, too_many};
 
 use std::alloc::{AllocError, Global};

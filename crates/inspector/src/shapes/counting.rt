@@ -1,5 +1,5 @@
 //! A heap's blocks, counted by the shapes of their objects.
-ghost use Rattle.std.specs.Prelude.{◌≡◌, ◌+◌, ◌<◌, ◌≤◌, length, Some, IfOk, IfSome, OnOk, unwrap_or, if◌then◌else◌};
+ghost use Rattle.std.specs.Prelude.{◌≡◌, ◌+◌, ◌<◌, ◌≤◌, Some, IfOk, IfSome, OnOk, unwrap_or, if◌then◌else◌};
 ghost use Rattle.std.specs.BTreeMap.{IsOrdered, get};
 ghost use Rattle.std.specs.Ordering.{is_eq};
 ghost use Rattle.heap_model.specs.Pages.{page_at};

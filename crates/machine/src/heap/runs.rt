@@ -1,7 +1,6 @@
 //! Runs: words of an object that stand in one part, read or written at once, and slots in a row, cleared at once.
-ghost use Rattle.std.specs.Prelude.{◌≡◌, ◌+◌, ◌<◌, ◌≤◌, ◌*◌, ◌^◌, ℕ, true, length, drop, min, slice_index, IfOk};
+ghost use Rattle.std.specs.Prelude.{◌≡◌, ◌+◌, ◌<◌, ◌≤◌, ◌^◌, ℕ, true, length, drop, min, slice_index, IfOk};
 ghost use Rattle.graph_heap.specs.Graph.{Graph};
-ghost use Rattle.graph_heap.specs.Shape.{fits};
 ghost use Rattle.heap_model.specs.Agreement.{Agrees};
 ghost use Rattle.heap_model.specs.Store.{is_allocated, record_of};
 ghost use Rattle.nodes.specs.HeapFields.{state_of, AreHeapFields};

@@ -1,11 +1,10 @@
 //! What is read of the pages: by the records alone where they tell it, else with the words.
-ghost use Rattle.std.specs.Prelude.{◌≡◌, ◌-◌, ◌^◌, ◌<◌, ◌≤◌, ◌↔◌, IsTrue, slice_get, slice_index, position, length, IfSome, IsSomeAnd, Some, true, option_map, count_by, sum_by};
+ghost use Rattle.std.specs.Prelude.{◌≡◌, ◌-◌, ◌^◌, ◌<◌, ◌≤◌, ◌↔◌, IsTrue, slice_get, slice_index, position, length, IfSome, IsSomeAnd, Some, true, option_map};
 ghost use Rattle.size_classes.specs.Need.{blocks_needed};
 ghost use Rattle.size_classes.specs.Parts.{parts_in};
 ghost use Rattle.heap_model.specs.Pages.{page_at, is_usable, free_on, free_blocks, has_room, whole_pages};
 ghost use Rattle.heap_model.specs.Pages as page_list;
 ghost use Rattle.heap_model.specs.Action.{allocated_on, is_choosable};
-ghost use Rattle.pages.specs.Index.{row_free, row_free_on};
 ghost use Rattle.pages.specs.Places.{FindsAllocated};
 ghost use Rattle.pages.specs.Together.{pages_in, Together, Tells};
 ghost use Rattle.pages.specs.View.{view_of};

@@ -1,5 +1,5 @@
 //! Samples of a heap along a run.
-ghost use Rattle.std.specs.Prelude.{◌≡◌, ◌*◌, ◌<◌, ◌^◌, List, length};
+ghost use Rattle.std.specs.Prelude.{◌≡◌, ◌*◌, ◌<◌, ◌^◌};
 ghost use Rattle.pictures.specs.Sampler.{ArePairs};
 ghost use Rattle.pictures.specs.Samples.{greatest_objects};
 

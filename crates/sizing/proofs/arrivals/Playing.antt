@@ -4,7 +4,7 @@ use Rattle.std.specs.List.{last_or}
 use Rattle.graph_heap.specs.Graph.{opening}
 use Rattle.heap_model.specs.Opening.{IsOpening}
 use Rattle.heap_model.specs.Event.{Event}
-use Rattle.quanta.specs.Timetable.{Timetable, first_due, start_after, due_below}
+use Rattle.quanta.specs.Timetable.{Timetable, start_after}
 use Rattle.quanta.specs.Timetable as timetables
 use Rattle.trace.specs.declared.line.Line.{Line}
 use Rattle.player.specs.Player.{PlayerState, DoesLine}

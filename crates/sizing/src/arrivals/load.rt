@@ -1,5 +1,5 @@
 //! What a program asks for by the clock, and the pace that this makes.
-ghost use Rattle.std.specs.Prelude.{◌≡◌, ℕ, ◌+◌, ◌*◌, ◌<◌, ◌^◌, slice_index};
+ghost use Rattle.std.specs.Prelude.{◌≡◌, ℕ, ◌+◌, ◌*◌, ◌<◌, slice_index};
 ghost use Rattle.space.specs.Fitting.{pace_in};
 ghost use Rattle.sizing.specs.AllocationProfile.{pace_of};
 ghost use Rattle.sizing.specs.Fitting.{load_in, IsSamePace};

@@ -1,7 +1,6 @@
-use Rattle.std.proofs.Common.{◌≡◌, ◌≢◌, ◌+◌, ◌++◌, ◌∷◌, [], inl, inr, length, append-nil, arith, length-append, sym, subst, ap, ◌∙◌, refl, Ok, Err, Some, true, false}
+use Rattle.std.proofs.Common.{◌+◌, ◌++◌, ◌∷◌, [], inl, inr, append-nil, arith, sym, ap, ◌∙◌, refl, Ok, Err, true, false}
 use Rattle.std.proofs.lemmas.Result.{err_from_is_err_and}
 use Rattle.std.specs.List.{count_by}
-use Rattle.streams.specs.Streams.{given_by}
 use Rattle.trace.specs.TextLine.{Text}
 use Rattle.trace.proofs.LinesProcessed.{at_first, goes_on, ends_without, ends_over, ends_at}
 use Rattle.trace.proofs.Reading.{reading_at_first, reading_on}

@@ -1,4 +1,4 @@
-use Rattle.std.proofs.Common.{◌+◌, drop, arith}
+use Rattle.std.proofs.Common.{◌+◌, drop}
 use Rattle.streams.proofs.Cuts.{rest_of}
 use Rattle.trace.proofs.Fronts.{field_is, narrow_is}
 use Rattle.trace.proofs.field.digits_before_blank.Goals as goal

@@ -1,4 +1,4 @@
-use Rattle.std.proofs.Common.{sym, arith}
+use Rattle.std.proofs.Common.{arith}
 use Rattle.trace.proofs.Fronts.{whole_number}
 use Rattle.trace.proofs.field.short_number.Goals as goal
 

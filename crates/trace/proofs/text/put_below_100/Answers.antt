@@ -1,4 +1,4 @@
-use Rattle.std.proofs.Common.{◌/◌, ◌%◌, ap, ◌∙◌, sym, arith, take, ◌++◌}
+use Rattle.std.proofs.Common.{◌/◌, ap, ◌∙◌, sym, arith, take, ◌++◌}
 use Rattle.std.proofs.lemmas.Fmt.{decimal_digit}
 use Rattle.trace.proofs.Numbers.{one_digit_more}
 use Rattle.trace.proofs.text.put_below_100.Goals as goal

@@ -1,4 +1,4 @@
-use Rattle.std.proofs.Common.{ℕ, ◌<◌, ◌≤◌, ◌≡◌, [], length, ap, ◌∙◌, subst, sym, refl, rules, arith}
+use Rattle.std.proofs.Common.{◌<◌, ◌≤◌, ◌≡◌, [], length, ap, ◌∙◌, subst, sym, refl, rules, arith}
 use Rattle.std.proofs.lemmas.List.{length-replicate}
 use Rattle.graph_heap.specs.declared.command.Limits.{Limits}
 use Rattle.roots.specs.RootTable.{RootTable}

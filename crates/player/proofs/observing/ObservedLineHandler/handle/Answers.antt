@@ -1,10 +1,10 @@
-use Rattle.std.proofs.Common.{Ok, Option, ◌∙◌, ap, sym, subst}
+use Rattle.std.proofs.Common.{Ok, Option, ◌∙◌, sym, subst}
 use Rattle.std.proofs.lemmas.Result.{err_from_is_err_and}
 use Rattle.trace.specs.declared.line.Line.{Line}
 use Rattle.trace.specs.Numbered.{LineRead}
 use Rattle.trace.specs.TextLine.{text_in}
 use Rattle.player.specs.Observing.{observed}
-use Rattle.player.proofs.LinesSeen.{text_stops, refused_after, version_observed, skip_observed, event_observed, ready_within, ready_next}
+use Rattle.player.proofs.LinesSeen.{text_stops, refused_after, version_observed, skip_observed, event_observed}
 use Rattle.player.proofs.observing.ObservedLineHandler.handle.Goals as goal
 
 pub returns-in_default-clause-handles : goal.returns-in_default-clause-handles

@@ -1,4 +1,4 @@
-use Rattle.std.proofs.Common.{◌≡◌, true, ap, ◌∙◌, sym, subst}
+use Rattle.std.proofs.Common.{true, ap, ◌∙◌, sym, subst}
 use Rattle.quanta.specs.Timetable.{Timetable, with_reserved}
 use Rattle.trace.specs.declared.line.Line.TheVariants as lines
 use Rattle.player.specs.Observing.{observed, LineSeen}

@@ -1,6 +1,5 @@
 use Rattle.std.proofs.Common.{◌≡◌, false, true, refl, sym, ap, ◌∙◌}
 use Rattle.std.proofs.lemmas.Result.{on_ok_weaker}
-use Rattle.heap_model.specs.Event.{Course}
 use Rattle.heap_model.specs.State.{HeapState}
 use Rattle.space.specs.Pace.{in_cycle}
 use Rattle.inspector.proofs.cycles.Seeing.{on_logged, begin_logged, on_err}

@@ -2,7 +2,7 @@
 import os
 import tempfile
 
-from finders import lengths, names, paths, sentences, standing
+from finders import imports, lengths, names, paths, sentences, standing
 
 DOCUMENT = """# A document
 
@@ -14,13 +14,14 @@ README = "# `heap`\n\n`step` and `heap` are there, `walk` isn't. specs/Heap.antt
 SHORT = "    /// A step_of the heap, and `a_name`.\n    pub fn step(&self) -> u32 {\n        1\n    }\n"
 LINES = "        let it = 1;\n"
 SPECS = """-- What a heap is.
-use Prim.{ℕ}
+use Prim.{ℕ, List, ◌+◌, ◌-◌, Gone as ℕ-gone, Left as kept}
+use Prim.Maps as maps
 
--- a step
+-- a step of List and kept
 step : ℕ
 
 -- the same of two steps
-two : ℕ
+two : maps.two (ℕ + ℕ)
 
 -- a heap;
 -- they are steps
@@ -38,7 +39,7 @@ def fake():
     return {
         "README.md": DOCUMENT,
         "crates/heap/README.md": README,
-        "crates/heap/src/lib.rt": f"pub struct Heap;\n\nimpl Heap {{\n{SHORT}{long}}}\n",
+        "crates/heap/src/lib.rt": f"pub use heap::Made;\nuse heap::{{Heaped, Read}};\nuse std::io;\n\npub trait Read {{}}\n\npub struct Heap;\n\nimpl Heap {{\n{SHORT}{long}}}\n",
         "crates/heap/specs/Heap.antt": SPECS,
         "crates/heap/proofs/Fits.antt": "x\n" * lengths.MOST_OF_FILE,
         "crates/heap/proofs/Long.antt": "x\n" * (lengths.MOST_OF_FILE + 1),
@@ -66,6 +67,14 @@ WANTED = {
     sentences: [
         "crates/heap/specs/Heap.antt: -- the same of two steps",
         "crates/heap/specs/Heap.antt: -- and no more",
+    ],
+    imports: [
+        "crates/heap/specs/Heap.antt: List is imported and isn't used",
+        "crates/heap/specs/Heap.antt: ◌-◌ is imported and isn't used",
+        "crates/heap/specs/Heap.antt: ℕ-gone is imported and isn't used",
+        "crates/heap/specs/Heap.antt: kept is imported and isn't used",
+        "crates/heap/src/lib.rt: Heaped is imported and isn't used",
+        "crates/heap/src/lib.rt: io is imported and isn't used",
     ],
     names: [
         "README.md: `Heap::walk` isn't in the tree",

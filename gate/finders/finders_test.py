@@ -38,6 +38,7 @@ def fake():
     long = "".join(f"    fn {name}(&self)\n        ensures {{ it }}\n    {{\n{LINES * count}    }}\n" for name, count in bodies.items())
     return {
         "README.md": DOCUMENT,
+        "crates.txt": "# crates\nheap staticlib: std clap Prim\n",
         "crates/heap/README.md": README,
         "crates/heap/src/lib.rt": f"pub use heap::Made;\nuse heap::{{Heaped, Read}};\nuse std::io;\n\npub trait Read {{}}\n\npub struct Heap;\n\nimpl Heap {{\n{SHORT}{long}}}\n",
         "crates/heap/specs/Heap.antt": SPECS,
@@ -75,6 +76,7 @@ WANTED = {
         "crates/heap/specs/Heap.antt: kept is imported and isn't used",
         "crates/heap/src/lib.rt: Heaped is imported and isn't used",
         "crates/heap/src/lib.rt: io is imported and isn't used",
+        "crates.txt: heap names nothing of clap",
     ],
     names: [
         "README.md: `Heap::walk` isn't in the tree",

@@ -1,4 +1,4 @@
-"""Names that a file of a crate imports and doesn't use."""
+"""Names that a file of a crate imports and doesn't use, and libraries that crates.txt gives a crate, of which it names none."""
 import re
 
 from finders import tree
@@ -8,6 +8,8 @@ COMMENT = re.compile(r"^\s*(?://|--).*$", re.M)
 TRAIT = re.compile(r"\btrait (\w+)")
 WORD = re.compile(r"[\w#'-]+")
 PLACE = "◌"
+LISTED = re.compile(r"^(\w+)[^:#\n]*:(.*)$", re.M)
+NAMED = re.compile(r"(\w+)(?:::|\.)")
 
 
 def imported(use):
@@ -25,9 +27,8 @@ def stands(name, text):
     return bool(re.search(rf"(?<![\w#'-]){re.escape(name)}(?![\w'])", text))
 
 
-def found(top):
-    """Each such name. A trait may be imported for its methods, and `pub use` is for others."""
-    texts = {path: tree.text_of(top, path) for path in tree.files_below(top, "crates", ".rt", ".antt")}
+def unused(texts):
+    """The names that each file imports and doesn't use. A trait may be imported for its methods, and `pub use` is for others."""
     passed = {"", "self", "*", *(name for text in texts.values() for name in TRAIT.findall(text))}
     for path, text in texts.items():
         rest = COMMENT.sub("", USE.sub("", text))
@@ -36,3 +37,19 @@ def found(top):
             for name in [] if use.group(1) else imported(use.group(2)):
                 if name not in there and not stands(name, rest):
                     yield f"{path}: {name} is imported and isn't used"
+
+
+def unnamed(top, texts):
+    """The libraries that each crate has, by its line in crates.txt, and doesn't name."""
+    for crate, libraries in LISTED.findall(tree.text_of(top, "crates.txt")):
+        named = {name for path, text in texts.items() if tree.crate_of(path) == crate for name in NAMED.findall(text)}
+        for library in libraries.split():
+            if library not in named:
+                yield f"crates.txt: {crate} names nothing of {library}"
+
+
+def found(top):
+    """Each such name and library."""
+    texts = {path: tree.text_of(top, path) for path in tree.files_below(top, "crates", ".rt", ".antt")}
+    yield from unused(texts)
+    yield from unnamed(top, texts)

@@ -8,7 +8,7 @@ DOCUMENT = """# A document
 
 `Heap::step` is there, `Heap::walk` and `Store::step` are not, and `Vec::push` is the library's. crates/heap/src/lib.rt is there,
 crates/heap/src/gone.rt isn't, heap/src/lib.rt is and heap/specs/Gone.antt isn't; src/lib.rt is in a crate, src/no.rt in none. [one](docs/no.md)
-`crates/NAME` stands for many, and so does src/*.rt; crates/heap/out/heap is made.
+`step` of `heap` is there, `pace` of `heap` isn't; `crates/NAME` stands for many, and so does src/*.rt; crates/heap/out/heap is made.
 """
 README = "# `heap`\n\n`step` and `heap` are there, `walk` isn't. specs/Heap.antt is there, proofs/Gone.antt isn't.\n"
 SHORT = "    /// A step_of the heap, and `a_name`.\n    pub fn step(&self) -> u32 {\n        1\n    }\n"
@@ -80,6 +80,7 @@ WANTED = {
     ],
     names: [
         "README.md: `Heap::walk` isn't in the tree",
+        "README.md: `pace` of `heap` isn't in the tree",
         "README.md: `Store::step` isn't in the tree",
         "crates/heap/README.md: `walk` isn't in the tree",
         "crates/heap/src/lib.rt: step_of stands in a sentence without ``",

@@ -14,6 +14,7 @@ METHOD = re.compile(r"^\s+(?:pub(?:\([a-z]+\))? )?(?:const )?(?:unsafe )?fn (\w+
 QUOTED = re.compile(r"`([^`]+)`")
 CALL = re.compile(r"\b([A-Z]\w+)::([a-z_]\w*)\b")
 NAME = re.compile(r"[a-z_]\w*")
+OF_CRATE = re.compile(r"`([\w:]+)` of `(\w+)`")
 COMMENT = {".rt": re.compile(r"\s*//[/!]?\s(.*)"), ".antt": re.compile(r"\s*--\s(.*)")}
 OF_CODE = re.compile(r"\b[a-z]+_[a-z_]+\b")
 
@@ -48,11 +49,17 @@ class Names:
         """Whether neither the crate nor the repository's top has the word."""
         return word not in self.words[crate] and word not in tree.crates(top) and word not in ("include", "bindings")
 
+    def lacks_of(self, crate, name):
+        """Whether there is such a crate, and it lacks a word of the name."""
+        return crate in self.words and not set(name.split("::")) <= self.words[crate]
+
 
 def of_document(top, page, names):
-    """The names in a document that the tree doesn't have: a type's method anywhere, any name in a crate's document."""
+    """The names in a document that the tree doesn't have: a type's method anywhere, a name of a crate that is said to have it, any
+    name in a crate's document."""
     crate = tree.crate_of(page)
     for number, line in tree.lines_of(top, page):
+        yield from (f"{page}: `{name}` of `{other}`" for name, other in OF_CRATE.findall(line) if names.lacks_of(other, name))
         for quoted in QUOTED.findall(line):
             yield from (f"{page}: `{owner}::{method}`" for owner, method in CALL.findall(quoted) if names.lacks_call(owner, method))
             if crate and NAME.fullmatch(quoted) and names.lacks_word(top, crate, quoted):

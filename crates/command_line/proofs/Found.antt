@@ -13,9 +13,7 @@ use Rattle.clap.specs.Words.{rows_of, first_of, one_of, all_of, first_value, one
 use Rattle.clap.specs.Matches.{ReadsOne}
 use Rattle.clap.specs.declared.parser.matches.Found.{Found}
 use Rattle.std.specs.Str.Parse.{ParsesUnsigned}
-use Rattle.command_line.specs.declared.job.Job.{Job}
-use Rattle.command_line.specs.declared.job.Job.TheVariants.{Play, Check, Threads, Inspect, Cycles, Path, Mmu, Draw, DrawGraph, DrawTime, Pages, Plan}
-use Rattle.command_line.specs.Words.{Asks, IsDrawn, IsFlag, IsNumber, IsClassOf}
+use Rattle.command_line.specs.Words.{IsFlag, IsNumber, IsClassOf}
 
 first_text : (vs : List (Bor (List ℕ))) → slice_get (map (λ s. s.now) vs) 0 ≡ option_map (λ s. s.now) (slice_get vs 0)
 first_text [] = refl
@@ -94,18 +92,3 @@ pub one_class : (sizes : List (Bor (List ℕ))) (i : ℕ) (d : Bor (List ℕ)) (
     → IsNumber 32 (Some (get_or sizes i d).now) (Some words) → size_of class ≡ words → AllZip IsClassOf (take (i + 1) (map (λ s. s.now) sizes)) new
 one_class sizes i d classes new words class low so is said has =
     one_more IsClassOf sizes i d classes new class low so is (subst (λ n. IsNumber 32 (Some (get_or sizes i d).now) (Some n)) (sym has) said)
-
--- what is drawn is asked for by the subcommand that draws
-pub drawn_asks : (name : List ℕ) (rows : List Row) (job : Job) → name ≡ codes "draw" → IsDrawn rows job → Asks name rows job
-drawn_asks name rows (Draw picture after) e d = (e, d)
-drawn_asks name rows (DrawGraph after most) e d = (e, d)
-drawn_asks name rows DrawTime e d = (e, d)
-drawn_asks name rows (Play history) e d = elim d.4 [ ]
-drawn_asks name rows Check e d = elim d.4 [ ]
-drawn_asks name rows (Threads turns budget) e d = elim d.4 [ ]
-drawn_asks name rows (Inspect by after) e d = elim d.4 [ ]
-drawn_asks name rows (Cycles csv) e d = elim d.4 [ ]
-drawn_asks name rows (Path id after) e d = elim d.4 [ ]
-drawn_asks name rows (Mmu windows) e d = elim d.4 [ ]
-drawn_asks name rows (Pages by) e d = elim d.4 [ ]
-drawn_asks name rows (Plan live classes draw) e d = elim d.4 [ ]

@@ -1,5 +1,5 @@
 -- Finding what can be reached.
-use Rattle.std.proofs.Common.{◌≡◌, ◌≢◌, ℕ, zero, suc, ◌+◌, ◌-◌, ◌*◌, ◌<◌, ◌≤◌, ◌⊎◌, inl, inr, Bool, true, false, ◌||◌, ◌==◌, cond, List, [], ◌∷◌, ◌++◌, length, length-append, append_assoc, append-nil, set, get_or, length-set, replicate, ap, ◌∙◌, sym, subst, refl, arith}
+use Rattle.std.proofs.Common.{◌≡◌, ◌≢◌, ℕ, zero, suc, ◌+◌, ◌-◌, ◌*◌, ◌<◌, ◌≤◌, ◌⊎◌, inl, inr, Bool, true, false, ◌||◌, ◌==◌, cond, List, [], ◌∷◌, ◌++◌, length, length-append, append-nil, set, get_or, length-set, replicate, ap, ◌∙◌, sym, subst, refl, arith}
 use Rattle.std.specs.Prelude.{Ok, Err, slice_get, unwrap_or, Option, Some, None, nat_eq, count_by, slice_index, slice_index_or}
 use Rattle.std.specs.List.{IsDistinct}
 use Rattle.std.specs.Set.{is_member}
@@ -136,21 +136,6 @@ module _ (a b : Inside) (id p : ℕ) (v : IsFound a) (within : p < length a.mark
 -- cells one after the other
 pub finds_none : (a : FoundIds) → Finds [] a a
 finds_none a = record { more = []; grows = sym (append-nil a.ids); same = refl; all = λ q e g. absurd (let n : false ≡ true = e in cc); only = λ q e. absurd (let n : false ≡ true = e in cc) }
-
-pub finds_more : (xs : List ℕ) (x : ℕ) (a b c : FoundIds) → Finds xs a b → Finds (x ∷ []) b c → Finds (xs ++ x ∷ []) a c
-finds_more xs x a b c v w = record {
-  more = v.more ++ w.more;
-  grows = w.grows ∙ ap (λ l. l ++ w.more) v.grows ∙ append_assoc a.ids v.more w.more;
-  same = w.same ∙ v.same;
-  all = λ q e g. elim (has_cases xs (x ∷ []) q e) [
-    | inl h ↦ subst (λ l. Has l q) (sym w.grows) (has_left b.ids w.more q (v.all q h g))
-    | inr h ↦ w.all q h (subst (λ n. IsAmong n q) (sym v.same) g)
-  ];
-  only = λ q e. elim (has_cases v.more w.more q e) [
-    | inl h ↦ (has_left xs (x ∷ []) q (v.only q h).0, (v.only q h).1)
-    | inr h ↦ (has_right xs (x ∷ []) q (w.only q h).0, subst (λ n. IsAmong n q) v.same (w.only q h).1)
-  ];
-}
 
 -- the identity at a place
 pub at_place : (a : Inside) (k id : ℕ) → IsFound a → k < length a.ids.items → id ≡ slice_index a.ids.items k → IsAmong (length a.marked.items) id

@@ -33,10 +33,6 @@ some_page q w p e = subst IsPage (same_Some q p e) w
 pub allocated_page : (p : Page) (i : ℕ) (b : Bool) → IsPage p → IsPage (with_allocated p i b)
 allocated_page p i b w = record { class = w.class; blocks = length-set p.allocated i b ∙ w.blocks; marks = w.marks }
 
-no_and : (b : Bool) → (b && false) ≡ false
-no_and true = refl
-no_and false = refl
-
 chosen_page : (pages : List (Option Page)) (class : ℕ) (c : Candidate) (p : Page) → is_chosen pages class (Some c) ≡ true → page_at pages c.page ≡ Some p → IsPage p → IsPage (record p { evacuating = true })
 chosen_page pages class c p e at w = record { class = w.class; blocks = w.blocks; marks = by_marks p.evacuating p.is_target refl (subst (λ z. is_choosable class z ≡ true) at (first_true _ _ e)) }
   where

@@ -15,14 +15,6 @@ pub allocated_pages : (s t : Store) (b : ℕ) → t.pages ≡ s.pages → is_all
 unfolding is_allocated
 allocated_pages s t b e = ap (λ p. allocated_in (page_at p (b / 2048)) (b % 2048)) e
 
--- what a block says after a write
-pub node_after : {A : Type 0} (f : BlockRecord → A) (old new : Store) (a : ℕ) (n : BlockRecord) → Writes old new a n → (b : ℕ) → is_allocated old b ≡ true → f (record_of new b) ≡ (if b == a then f n else f (record_of old b))
-node_after f old new a n w b l = by_here (b == a) refl
-  where
-    by_here : (t : Bool) → (b == a) ≡ t → f (record_of new b) ≡ (if b == a then f n else f (record_of old b))
-    by_here true e = let same : b ≡ a = grind arith in rw e (ap (λ z. f (record_of new z)) same ∙ ap f w.here)
-    by_here false e = let ne : b ≢ a = grind arith in rw e (ap f (w.others b l ne))
-
 pub node_kept : {A : Type 0} (f : BlockRecord → A) (old new : Store) (a : ℕ) (n : BlockRecord) → Writes old new a n → (b : ℕ) → is_allocated old b ≡ true → (b ≡ a → f n ≡ f (record_of old a)) → f (record_of new b) ≡ f (record_of old b)
 node_kept f old new a n w b l e = by_here (b == a) refl
   where

@@ -114,9 +114,6 @@ made_work m h' ps a y w = elim (cases_Bool (m.heap.allocated y)) [
   | inr e ↦ grind arith
 ]
 
-pub new_units : (m : Collector) (h' : Heap) (ps : Parts) (a : ℕ → ℕ) (words : ℕ) → Makes m.heap ps a h' → total (work m) (words + 1) ≤ total (work (record m { heap = h' })) (words + 1)
-new_units m h' ps a words w = total_le (work m) (work (record m { heap = h' })) (words + 1) (λ y l. made_work m h' ps a y w)
-
 -- some more at one place is as much more in all
 pub total_add : (f g : ℕ → ℕ) (n y k : ℕ) → ((x : ℕ) → x < n → f x ≤ g x) → y < n → f y + k ≤ g y → total f n + k ≤ total g n
 unfolding total

@@ -1,5 +1,5 @@
 -- How many seats there are.
-use Rattle.std.proofs.Common.{◌≡◌, ℕ, zero, suc, ◌+◌, List, [], ◌∷◌, ◌++◌, length, slice_set, slice_index_or, refl, sym, ap, ◌∙◌, arith, add-one, length-append}
+use Rattle.std.proofs.Common.{◌≡◌, ℕ, zero, suc, ◌+◌, List, [], ◌∷◌, ◌++◌, length, refl, sym, ap, ◌∙◌, arith, add-one, length-append}
 use Rattle.std.proofs.lemmas.List.{length-map, map-append}
 use Rattle.graph_heap.specs.declared.command.Entry.{Entry}
 use Rattle.heap_server.specs.Views.{SeatView}
@@ -18,12 +18,6 @@ seats_count seats n all = sym (mutators-length seats) ∙ (ap length all ∙ upt
 pub mutators_of-new : (n : ℕ) → mutators_of (new_seats n) ≡ upto n
 mutators_of-new zero = refl
 mutators_of-new (suc n) = map-append (λ (s : SeatView). s.mutator) (new_seats n) (record { mutator = n; calls = 0; seen = [] } ∷ []) ∙ ap (λ (ms : List ℕ). ms ++ n ∷ []) (mutators_of-new n)
-
--- another seat of the same mutator
-pub mutators_of-set : (seats : List SeatView) (i : ℕ) (s d : SeatView) → s.mutator ≡ (slice_index_or seats i d).mutator → mutators_of (slice_set seats i s) ≡ mutators_of seats
-mutators_of-set [] i s d same = refl
-mutators_of-set (x ∷ seats) zero s d same = ap (λ (m : ℕ). m ∷ mutators_of seats) same
-mutators_of-set (x ∷ seats) (suc i) s d same = ap (λ (ms : List ℕ). x.mutator ∷ ms) (mutators_of-set seats i s d same)
 
 -- the seat of the next mutator
 pub new_seats-more : (m calls : ℕ) (seen : List Entry) (seats more : List SeatView) → seats ≡ new_seats m → calls ≡ 0 → seen ≡ [] → more ≡ seats ++ record { mutator = m; calls = calls; seen = seen } ∷ [] → more ≡ new_seats (m + 1)

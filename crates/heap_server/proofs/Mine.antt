@@ -24,12 +24,3 @@ mine_grows xs ys m p = omega (arith, ap length (sym (ap (λ (w : List Entry). mi
 
 pub mine_more : (xs : List Entry) (e : Entry) (m : ℕ) → e.mutator ≡ m → length (mine (xs ++ e ∷ []) m) ≡ length (mine xs m) + 1
 mine_more xs e m same = omega (arith, ap length (mine_append xs (e ∷ []) m), length-append (mine xs m) (mine_from (length xs) (e ∷ []) m), ap length (mine_own e m (length xs) same))
-
-mine_few : (xs : List Entry) (m k : ℕ) → length (mine_from k xs m) ≤ length xs
-mine_few [] m k = omega arith
-mine_few (e ∷ xs) m k =
-    let rest = mine_few xs m (k + 1) in
-    elim (nat_eq e.mutator m) as (λ (b : Bool). length (if b then (k, e) ∷ mine_from (k + 1) xs m else mine_from (k + 1) xs m) ≤ length (e ∷ xs)) [ true ↦ omega (arith, rest) | false ↦ omega (arith, rest) ]
-
-pub mine_most : (xs : List Entry) (m : ℕ) → length (mine xs m) ≤ length xs
-mine_most xs m = mine_few xs m 0

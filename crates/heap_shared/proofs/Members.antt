@@ -112,10 +112,6 @@ module _ (c : SharedConfig) (b : Bool) (w : ℕ) (m : M) (now k : Ringed) (yes :
 pub no_turn : (c : SharedConfig) (b : Bool) (w : ℕ) (m : M) → b ≡ false → IsMember c b w m → turn_of m.1 ≡ None
 no_turn c b w m isnt is = ap turn_of (carries_none c b w m isnt is).0
 
--- with it there is a heap
-pub some_turn : (c : SharedConfig) (b : Bool) (w : ℕ) (m : M) → b ≡ true → IsMember c b w m → turn_of m.1 ≢ None
-some_turn c b w m has is none = let one = carries_one c b w m has is in let z : Some one.held.course ≡ None = sym (ap turn_of one.carried) ∙ none in cc
-
 -- who shows no heap carries none
 pub empty_handed : (c : SharedConfig) (b : Bool) (w : ℕ) (m : M) → turn_of m.1 ≡ None → IsMember c b w m → m.1 ≡ []
 empty_handed c false w m none is = is.0
@@ -129,13 +125,6 @@ shown_so P id new c was m v same shows p = subst (λ (x : MemberView). P x (show
 pub left_none : (old : MemberView) (had : Bool) (new : MemberView) → Leaves old had new → new.turn ≡ None
 left_none old false new l = ap (λ (v : MemberView). v.turn) l.1 ∙ l.0
 left_none old true new l = ap (λ (v : MemberView). v.turn) l.3
-
-pub left_heap : (old : MemberView) (had : Bool) (new : MemberView) → Leaves old had new → new.heap ≡ old.heap
-left_heap old false new l = ap (λ (v : MemberView). v.heap) l.1
-left_heap old true new l = ap (λ (v : MemberView). v.heap) l.3
-
-pub not_done : (id : TableId) {A : Type 0} (event : A → Event) (c : SharedConfig) (b : Bool) (w : ℕ) (m : M) → b ≡ false → IsMember c b w m → DoesInTurn event (shown_by id c m) None (shown_by id c m)
-not_done id event c b w m isnt is = subst (λ (t : Option Course). DoesIn t event (shown_by id c m) None (shown_by id c m)) (sym (no_turn c b w m isnt is)) (refl, refl)
 
 -- the turn was taken
 pub entered : (c : SharedConfig) (n found : ℕ) (v : Known) (m : M) → v.config ≡ Some c → HasTurn v found m → n ≡ found → HasHeap c n m

@@ -59,13 +59,6 @@ reads_on r fault old new h e = e ∙ ap (λ n. old + n) (sym (reads_so r fault h
 pub writes_on : {A : Type 0} (r : Result A RunFault) (fault : RunFault) (old new : ℕ) → IsErrAnd r (λ e. e ≡ fault) → new ≡ old + failed_writes {A = Unit {0}} (Err fault) → new ≡ old + failed_writes r
 writes_on r fault old new h e = e ∙ ap (λ n. old + n) (sym (writes_so r fault h))
 
--- what holds unless a read failed, where a fault is handed on
-pub input_on : {A : Type 0} (r : Result A RunFault) (fault : RunFault) (P : Type 0) → IsErrAnd r (λ e. e ≡ fault) → (failed_reads {A = Unit {0}} (Err fault) ≡ 0 → P) → failed_reads r ≡ 0 → P
-input_on r fault P h f none = f (sym (reads_so r fault h) ∙ none)
-
-pub input_text : {A : Type 0} (r : Result A RunFault) (fault : PlayFault) (P : Type 0) → IsErrAnd r (λ e. e ≡ Text fault) → (reads_failed {A = Unit {0}} (Err fault) ≡ 0 → P) → failed_reads r ≡ 0 → P
-input_text r fault P h f none = input_on r (Text fault) P h f none
-
 -- so is that of a text
 pub reads_text : {A : Type 0} (r : Result A RunFault) (fault : PlayFault) (old new : ℕ) → IsErrAnd r (λ e. e ≡ Text fault) → new ≡ old + reads_failed {A = Unit {0}} (Err fault) → new ≡ old + failed_reads r
 reads_text r fault old new h e = reads_on r (Text fault) old new h e

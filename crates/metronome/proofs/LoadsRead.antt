@@ -1,7 +1,6 @@
 -- A load, by the bytes of its file.
 use Rattle.std.proofs.Common.{◌≡◌, ℕ, ◌<◌, ◌∙◌, List, length, Option, Some, None, sym, arith}
 use Rattle.std.specs.Prelude.{IfSome, Result, Ok, Err}
-use Rattle.trace.specs.declared.fault.PlayFault.TheVariants as texts
 use Rattle.documents.specs.TomlTable.{document_of}
 use Rattle.documents.specs.declared.toml_table.ReadFault.{ReadFault}
 use Rattle.documents.specs.declared.toml_table.ReadFault.TheVariants.{Refused, NoMemory}
@@ -9,11 +8,7 @@ use Rattle.sizing.specs.declared.arrivals.load.AllocationProfile.{AllocationProf
 use Rattle.sizing.specs.declared.load_file.fault.DocumentFault.{DocumentFault}
 use Rattle.sizing.specs.declared.load_file.fault.DocumentFault.TheVariants as faults
 use Rattle.sizing.specs.Document.{IsRead, bytes_fault, fault_in}
-use Rattle.metronome.specs.declared.fault.RunFault.{RunFault}
-use Rattle.metronome.specs.declared.fault.RunFault.TheVariants.{Text}
-use Rattle.metronome.specs.Faults.{IsUnreadable}
-use Rattle.metronome.specs.Files.{KnownFile, document_bytes}
-use Rattle.metronome.specs.Loaded.{LoadRead}
+use Rattle.metronome.specs.Files.{document_bytes}
 use Rattle.metronome.proofs.Obeying.{known_read, long_first}
 
 too_long : (bytes : List ℕ) → 65536 < length bytes → bytes_fault bytes ≡ Some faults.TooLong
@@ -27,9 +22,3 @@ long_read all cut (Err NoMemory) long few h = absurd (let short = h.short in ome
 
 pub load_read : (known : Option (List ℕ)) (bytes : List ℕ) (r : Result LoadTable (ReadFault DocumentFault)) → IfSome known (λ all. bytes ≡ document_bytes all) → IsRead bytes r → IfSome known (λ all. IsRead all r)
 load_read known bytes r e h = known_read IsRead long_read known bytes r e h
-
--- a load's file that can't be read gives no load
-pub unread_load : (file : KnownFile) (fault : RunFault) → IsUnreadable file.failed fault → LoadRead file (Err fault)
-unread_load file (Text texts.Read) u = u
-unread_load file (Text texts.NoMemory) u = tt
-unread_load file fault u = elim u [ ]

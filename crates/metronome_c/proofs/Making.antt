@@ -7,7 +7,7 @@ use Rattle.settings.specs.declared.fault.ConfigFault.{ConfigFault}
 use Rattle.settings.specs.declared.ranges.Ranges.TheVariants.{Library}
 use Rattle.settings.specs.Config.{fault_of}
 use Rattle.metronome_c.specs.declared.status.Status.{Status}
-use Rattle.metronome_c.specs.declared.status.Status.TheVariants.{Done, NoMemory, Open, BadHandle}
+use Rattle.metronome_c.specs.declared.status.Status.TheVariants.{Done, Open, BadHandle}
 use Rattle.metronome_c.specs.Status.{status_number, fault_status}
 use Rattle.metronome_c.specs.Opened.{absence, held_by}
 use Rattle.metronome_c.specs.Lifetime.{IsMade, MakesUnless, Creates, Destroys}
@@ -23,12 +23,6 @@ creates {S} IsSo check old new s fault n none zero is m =
 pub creates_none : {S : Type 0} (IsSo : Settings → S → Type 0) (check : ℕ) (old : Option S) (s : Settings) (fault : ConfigFault) (n : ℕ)
     → is_some old ≡ false → (check == 0) ≡ true → Some fault ≡ fault_of Library s → n ≡ status_number (fault_status fault) → Creates IsSo (held_by check old) s (held_by check old) n
 creates_none IsSo check old s fault n none zero is m = creates IsSo check old (held_by check old) s (Some fault) n none zero is (held_none check old true none zero, m)
-
--- memory was refused
-pub creates_unmade : {S : Type 0} (IsSo : Settings → S → Type 0) (check : ℕ) (old : Option S) (s : Settings) (n : ℕ)
-    → is_some old ≡ false → (check == 0) ≡ true → None ≡ fault_of Library s → n ≡ status_number NoMemory → Creates IsSo (held_by check old) s (held_by check old) n
-creates_unmade {S} IsSo check old s n none zero is m =
-    creates IsSo check old (held_by check old) s None n none zero is (subst (λ (x : Result S Status). IsMade (IsSo s) x n) (sym (held_none check old true none zero)) (refl, m))
 
 pub creates_one : {S : Type 0} (IsSo : Settings → S → Type 0) (check after : ℕ) (old new : Option S) (h : S) (s : Settings) (n : ℕ)
     → is_some old ≡ false → (check == 0) ≡ true → None ≡ fault_of Library s → new ≡ Some h → n ≡ status_number Done

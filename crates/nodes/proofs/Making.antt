@@ -100,9 +100,6 @@ module _ (s : Store) (whole : IsStore s) (class k i : ℕ) (known : class < CLAS
   page : Page
   page = page_of_class class (page_at s.pages k)
 
-  new_pages : List (Option Page)
-  new_pages = set s.pages k (Some (with_allocated (page_of_class class (page_at s.pages k)) i true))
-
   address : ℕ
   address = address_of class k i
 

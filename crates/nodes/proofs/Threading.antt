@@ -116,18 +116,6 @@ unfolding in_buffers
 no_records zero = refl
 no_records (suc n) = no_records n
 
--- an emptied buffer, where none has a record
-pub still_empty : (bs : List MutatorRecords) (m : ℕ) → m < length bs → in_buffers bs ≡ [] → in_buffers (set bs m (record { items = [] })) ≡ []
-still_empty bs m l e =
-    let q = between bs m l in
-    let n : length (q.front ++ ((get_or bs m (record { items = [] })).items ++ q.back)) ≡ 0 = ap length (sym q.now ∙ e) in
-    none (in_buffers (set bs m (record { items = [] })))
-    (ap length (q.after []) ∙ length-append q.front q.back ∙ (let a = length-append q.front ((get_or bs m (record { items = [] })).items ++ q.back) in let c = length-append (get_or bs m (record { items = [] })).items q.back in omega (arith, a, c, n)))
-  where
-    none : (xs : List ℕ) → length xs ≡ 0 → xs ≡ []
-    none [] e = refl
-    none (x ∷ xs) e = absurd (omega (arith, e))
-
 -- no part is grey in a new heap
 pub no_grey : (s : Store) (g : GreySet) (n : ℕ) → g ≡ record { first = 0; buffers = replicate n (record { items = [] }) } → grey_in s g ≡ []
 unfolding grey_in sorted
@@ -151,13 +139,6 @@ module _ (s : Store) (g : GreySet) where
 
   in_linked : (k : ℕ) → contains linked k ≡ true → contains (grey_in s g) k ≡ true
   in_linked k e = contains_grey k ∙ ap (λ b. b || contains (in_buffers g.buffers) k) e
-
-  not_linked : (k : ℕ) → contains (grey_in s g) k ≡ false → contains linked k ≡ false
-  not_linked k e = left (contains linked k) (contains (in_buffers g.buffers) k) (sym (contains_grey k) ∙ e)
-    where
-      left : (a b : Bool) → (a || b) ≡ false → a ≡ false
-      left true b e = e
-      left false b e = refl
 
   -- a record is grey
   pub record_grey : (m i : ℕ) → i < length (buffer_of g m) → contains (grey_in s g) (get_or (buffer_of g m) i 0) ≡ true

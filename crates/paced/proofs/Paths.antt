@@ -1,5 +1,5 @@
 -- Events that are done on a heap that is paced.
-use Rattle.std.proofs.Common.{◌≡◌, ℕ, ◌+◌, ◌<◌, ◌≤◌, Result, Ok, Err, List, [], ◌∷◌, ◌++◌, ap, ◌∙◌, subst, arith, refl}
+use Rattle.std.proofs.Common.{◌≡◌, ℕ, ◌+◌, ◌≤◌, Result, Ok, Err, List, [], ◌∷◌, ◌++◌, ap, ◌∙◌, subst, arith, refl}
 use Rattle.graph_heap.specs.declared.command.Command.{Command}
 use Rattle.graph_heap.specs.declared.command.Command.TheVariants as commands
 use Rattle.graph_heap.specs.declared.command.Reply.{Reply}
@@ -74,10 +74,6 @@ quantum_path p q old new budget (Err refused) s k = (state_of (paced_by q new), 
 
 pub quantum_paced : (p q : PacerView) (old new : HeapState) (budget : ℕ) (result : Result Spent BudgetOutOfRange) → Spends old budget new result → Counted p (quantum_done budget result) q → Paced (state_of (paced_by p old)) (state_of (paced_by q new))
 quantum_paced p q old new budget result s k = (quantum_done budget result ∷ [], quantum_path p q old new budget result s k)
-
--- a command that asks for too much is told so, and any other is done once its words were paid for
-pub call_told : (old new : PacedView) (words m : ℕ) (c : Command) (above : AbovePlan) → words ≡ words_of (asks c) → PaysUnless old words (Err above) new → Calls old m c (Err above) new
-call_told old new words m c above is w = (subst (λ n. old.pacer.counts.plan.cycle_words < n) is w.0, w.1)
 
 pub call_done : (old mid new : PacedView) (words m : ℕ) (c : Command) (reply : Reply) (paid : Unit {0}) → words ≡ words_of (asks c) → PaysUnless old words (Ok paid) mid → Steps mid.heap m c reply new.heap → new.pacer ≡ mid.pacer → Calls old m c (Ok reply) new
 call_done old mid new words m c reply paid is w steps same = (subst (λ n. n ≤ old.pacer.counts.plan.cycle_words) is w.0, mid, subst (λ n. Pays old n mid) is w.1, steps, same)

@@ -14,14 +14,10 @@ use Rattle.heap_model.proofs.QuantumSpending.Quanta.{chain_units}
 use Rattle.space.specs.Pace.{in_cycle}
 use Rattle.machine.specs.declared.collector.BudgetOutOfRange.{BudgetOutOfRange}
 use Rattle.machine.specs.declared.collector.Spent.{Spent}
-use Rattle.machine.specs.Collecting.{Begins, Spends}
+use Rattle.machine.specs.Collecting.{Spends}
 use Rattle.paced.specs.Pacing.{Counts, PacedState, counted, MayAsk, DoesOn, WorksFor}
 use Rattle.paced.specs.Working.{IsPiece, DoesPiece, work_left, HasWorked}
 use Rattle.paced.proofs.Paths.{path_then}
-
--- a cycle begins
-pub begin_piece : (old new : PacedState) → Begins old.heap new.heap (Ok tt) → new.counts ≡ counted old.counts Cycle_begun → DoesPiece old true new
-begin_piece old new b counts = record { event = Cycle_begun; is_piece = tt; does = b; counts = counts }
 
 -- a quantum of the pacer's budget is spent
 pub quantum_piece : (old new : PacedState) (mid : HeapState) (result : Result Spent BudgetOutOfRange) → IsBudget old.counts.budget → (old.heap.phase ≢ phases.Idle) × (mid ≡ old.heap) → Spends mid old.counts.budget new.heap result
@@ -50,29 +46,6 @@ not_none n l = grind arith
 -- what is left of the cycle that runs
 abbrev rest_of : HeapState → Bool → ℕ
 rest_of h on = if on then cycle_limit h + 1 - h.units else 0
-
-rest_low : (h : HeapState) (on : Bool) → rest_of h on ≤ cycle_limit h + 1
-rest_low h true = omega arith
-rest_low h false = omega arith
-
-left_low : (v : PacedState) → v.counts.words ≡ 0 → work_left v ≤ cycle_limit v.heap + 1
-left_low v e =
-    let x : work_left v ≡ 0 + rest_of v.heap (in_cycle v.heap.phase) = ap (λ b. (if b then 0 else cycle_limit v.heap + 2) + rest_of v.heap (in_cycle v.heap.phase)) (is_none v.counts.words e) in
-    let y = rest_low v.heap (in_cycle v.heap.phase) in
-    omega (arith, x, y)
-
-left_high : (v : PacedState) → 0 < v.counts.words → cycle_limit v.heap + 2 ≤ work_left v
-left_high v l =
-    let x : work_left v ≡ cycle_limit v.heap + 2 + rest_of v.heap (in_cycle v.heap.phase) = ap (λ b. (if b then 0 else cycle_limit v.heap + 2) + rest_of v.heap (in_cycle v.heap.phase)) (not_none v.counts.words l) in
-    omega (arith, x)
-
-pub begin_less : (old new : PacedState) → Begins old.heap new.heap (Ok tt) → new.counts.words ≡ 0 → (in_cycle old.heap.phase ≡ true) ⊎ (0 < old.counts.words) → work_left new < work_left old
-begin_less old new b words (inl on) = absurd (let z : false ≡ true = sym (ap in_cycle b.0) ∙ on in cc)
-begin_less old new b words (inr some) =
-    let l = left_low new words in
-    let g = left_high old some in
-    let e : cycle_limit new.heap ≡ cycle_limit old.heap = ap cycle_limit b.1 in
-    omega (arith, l, g, e)
 
 -- a quantum spends a unit, or ends the cycle
 spending_less : (h after : HeapState) (budget units : ℕ) (phase : Phase) → QuantumSpends h budget after units → phase ≡ after.phase → 256 ≤ budget → (phase ≡ phases.Idle) ⊎ (budget < units + 256) → h.units ≤ cycle_limit h
@@ -147,10 +120,6 @@ counts_more (Cycle_begun ∷ es) e = let i = counts_more es e in (i.0, omega (ar
 counts_more (Begin_refused ∷ es) e = counts_more es e
 counts_more (Quantum_done budget units phase ∷ es) e = let i = counts_more es e in (omega (arith, i.0), i.1)
 counts_more (Quantum_refused budget ∷ es) e = counts_more es e
-
--- no work was done
-pub worked_none : (words : ℕ) (v : PacedState) → HasWorked words v v 0 0
-worked_none words v = record { work = []; path = refl; quanta_done = refl; cycles_begun = refl; plan = refl }
 
 -- a piece more was done
 pub worked_more : (words : ℕ) (old now new : PacedState) (quanta cycles more begun : ℕ) (began : Bool) → HasWorked words old now quanta cycles → (MayAsk now words → ⊥) → DoesPiece now began new

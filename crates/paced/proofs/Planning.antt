@@ -3,7 +3,7 @@ use Rattle.std.proofs.Common.{◌≡◌, ℕ, ◌+◌, ◌-◌, ◌*◌, ◌/◌
 use Rattle.std.specs.Prelude.{min, Option, Some, None, is_some, IsTrue, IfSome}
 use Rattle.std.proofs.lemmas.Nat.{le-div}
 use Rattle.std.proofs.Math.Nat.{div-mul-le_self, mul-le-mul_left, mul-le-mul_right, lt-div-mul-add, le-min, min-le_left, min-le_right}
-use Rattle.size_classes.specs.declared.class.TheConstants.{CLASSES, PAGE_WORDS}
+use Rattle.size_classes.specs.declared.class.TheConstants.{PAGE_WORDS}
 use Rattle.settings.specs.declared.config.Config.{Config}
 use Rattle.fragmentation.specs.declared.flow.TheConstants.{LEAST_PAGE_FILL, PARTLY_FILLED_PAGES}
 use Rattle.fragmentation.specs.Flow.{Flow, classes_made, live_most, sweep_units, full_quanta, marked_quanta, sweep_quanta, flow_moving, flow_quanta, FlowFitsOn}
@@ -113,9 +113,6 @@ words_traced quanta words makes c live pages plan q w = ap (λ n. n * words) q �
 -- the words for which there is room besides what is live, where blocks are made of so many classes
 abbrev pub room_of : ℕ → ℕ → ℕ → ℕ
 room_of classes live pages = (pages + 1 - PARTLY_FILLED_PAGES * classes) * LEAST_PAGE_FILL - live - 1
-
-pub all_classes : classes_made (λ class. true) ≡ CLASSES
-all_classes = refl
 
 module _ (makes : ℕ → Bool) (classes : ℕ) (made : classes_made makes ≡ classes) (c : Config) (live pages : ℕ) where
   abbrev k : ℕ

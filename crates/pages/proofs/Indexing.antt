@@ -51,9 +51,6 @@ module _ (rows : List (Option PageRow)) (usable : List BitRow) (free : BitRow) (
   pub block_room : get_or free_blocks class 0 ≤ 536870912
   block_room = let w = rows_few class known rows in omega (arith, w, b.blocks_are class known, b.few)
 
-  pub page_some : bit (row_free (row_at rows page)) ≤ free_pages
-  page_some = let w = get_or-le-sum_by (λ o. bit (row_free o)) rows page None below in omega (arith, w, b.pages_are)
-
   blocks_after : (n : ℕ) → n ≡ get_or free_blocks class 0 - row_free_on class (row_at rows page) + row_free_on class row
       → (c : ℕ) → c < CLASSES → get_or (set free_blocks class n) c 0 ≡ sum_by (row_free_on c) (set rows page row)
   blocks_after n e c h = elim (cases_eq c class) [
@@ -273,14 +270,8 @@ module _ (rows : List (Option PageRow)) (pages : List (Option PageRow)) (seen : 
 free_plain : (r : PageRow) → r.evacuating ≡ false → row_free_on r.class (Some r) ≡ blocks_in r.class - r.allocated
 free_plain r plain = ap (λ b. cond (b && not r.evacuating) (blocks_in r.class - r.allocated) 0) (eq-eqb r.class r.class refl) ∙ ap (λ b. cond (not b) (blocks_in r.class - r.allocated) 0) plain
 
-free_evacuating : (r : PageRow) → r.evacuating ≡ true → row_free_on r.class (Some r) ≡ 0
-free_evacuating r evacuating = ap (λ b. cond (b && not r.evacuating) (blocks_in r.class - r.allocated) 0) (eq-eqb r.class r.class refl) ∙ ap (λ b. cond (not b) (blocks_in r.class - r.allocated) 0) evacuating
-
 usable_plain : (r : PageRow) → r.evacuating ≡ false → row_usable r.class (Some r) ≡ ltb r.allocated (blocks_in r.class)
 usable_plain r plain = ap (λ b. b && (not r.evacuating && ltb r.allocated (blocks_in r.class))) (eq-eqb r.class r.class refl) ∙ ap (λ b. not b && ltb r.allocated (blocks_in r.class)) plain
-
-usable_evacuating : (r : PageRow) → r.evacuating ≡ true → row_usable r.class (Some r) ≡ false
-usable_evacuating r evacuating = ap (λ b. b && (not r.evacuating && ltb r.allocated (blocks_in r.class))) (eq-eqb r.class r.class refl) ∙ ap (λ b. not b && ltb r.allocated (blocks_in r.class)) evacuating
 
 -- a page in use has another record of its class in the same place
 module _ (rows : List (Option PageRow)) (usable : List BitRow) (free : BitRow) (free_blocks : List ℕ) (free_pages : ℕ) (b : IsIndex rows usable free free_blocks free_pages)
@@ -293,9 +284,6 @@ module _ (rows : List (Option PageRow)) (usable : List BitRow) (free : BitRow) (
 
   pub old_some : row_free_on old.class (Some old) ≤ get_or free_blocks old.class 0
   old_some = omega (arith, here_free, block_some rows usable free free_blocks free_pages b page old.class (Some row) below in_class same known)
-
-  pub old_room : get_or free_blocks old.class 0 ≤ 536870912
-  old_room = block_room rows usable free free_blocks free_pages b page old.class (Some row) below in_class same known
 
   module _ (n : ℕ) (counted : n + row_free_on old.class (Some old) ≡ get_or free_blocks old.class 0 + row_free_on old.class (Some row)) where
     bit_changed : (one new : BitRow) → one ≡ get_or usable old.class one → has_bit new page ≡ bit (row_usable old.class (Some row)) → ((i : ℕ) → i ≢ page → has_bit new i ≡ has_bit one i) → room_of new ≡ room_of one

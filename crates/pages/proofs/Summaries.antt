@@ -116,17 +116,6 @@ module _ (words : List ℕ) (k word : ℕ) (on : Bool) (below : k < 64 * length 
   read : get_or (set words (k / 64) word) (k / 64) 0 ≡ word
   read = get_or-set_same words (k / 64) word 0 inside
 
-  pub put_here : bit_in (set words (k / 64) word) k ≡ cond on 1 0
-  put_here = ap (λ w. bit_at w (k % 64)) read ∙ here
-
-  pub put_others : (i : ℕ) → i ≢ k → bit_in (set words (k / 64) word) i ≡ bit_in words i
-  put_others i ne = elim (cases_eq (i / 64) (k / 64)) [
-    | inl e ↦
-        (let apart : i % 64 ≢ k % 64 = omega (arith, e, ne) in
-        ap (λ n. bit_at (get_or (set words (k / 64) word) n 0) (i % 64)) e ∙ ap (λ w. bit_at w (i % 64)) read ∙ others (i % 64) (omega arith) apart ∙ ap (λ n. bit_at (get_or words n 0) (i % 64)) (sym e))
-    | inr n ↦ ap (λ w. bit_at w (i % 64)) (get_or-set_other words (k / 64) (i / 64) word 0 n)
-  ]
-
   pub put_words : (w : ℕ) → w ≢ k / 64 → get_or (set words (k / 64) word) w 0 ≡ get_or words w 0
   put_words w ne = get_or-set_other words (k / 64) w word 0 ne
 
@@ -135,12 +124,6 @@ module _ (words : List ℕ) (k word : ℕ) (on : Bool) (below : k < 64 * length 
 
   some_on : on ≡ true → word_bit word ≡ 1
   some_on is = bit_some word (has_some word (k % 64) (here ∙ ap (λ b. cond b 1 0) is))
-
-  pub changed_on : on ≡ true → word_bit (get_or (set words (k / 64) word) (k / 64) 0) ≡ cond on 1 0
-  changed_on is = now (cond on 1 0) (some_on is ∙ ap (λ b. cond b 1 0) (sym is))
-
-  pub changed_off : on ≡ false → word ≡ 0 → word_bit (get_or (set words (k / 64) word) (k / 64) 0) ≡ cond on 1 0
-  changed_off is zero = now (cond on 1 0) (bit_zero word zero ∙ ap (λ b. cond b 1 0) (sym is))
 
   pub kept_on : on ≡ true → 0 < get_or words (k / 64) 0 → word_bit (get_or (set words (k / 64) word) (k / 64) 0) ≡ word_bit (get_or words (k / 64) 0)
   kept_on is some = now (word_bit (get_or words (k / 64) 0)) (some_on is ∙ sym (bit_some (get_or words (k / 64) 0) some))
@@ -152,27 +135,6 @@ module _ (words : List ℕ) (k word : ℕ) (on : Bool) (below : k < 64 * length 
       let apart : s.0 ≢ k % 64 = λ e. (let z : bit_at word s.0 ≡ 0 = ap (bit_at word) e ∙ zero in omega (arith, z, s.2)) in
       let old : 0 < get_or words (k / 64) 0 = has_some (get_or words (k / 64) 0) s.0 (sym (others s.0 s.1 apart) ∙ s.2) in
       now (word_bit (get_or words (k / 64) 0)) (bit_some word some ∙ sym (bit_some (get_or words (k / 64) 0) old))
-
--- one word is another, and with it its bit in the level above
-module _ (words words' above : List ℕ) (k : ℕ) (s : IsSummary words above) (len : length words' ≡ length words) (same : (w : ℕ) → w ≢ k → get_or words' w 0 ≡ get_or words w 0) where
-  pub summary_put : (above' : List ℕ) (b : ℕ) → length above' ≡ length above → word_bit (get_or words' k 0) ≡ b → bit_in above' k ≡ b
-      → ((i : ℕ) → i ≢ k → bit_in above' i ≡ bit_in above i) → IsSummary words' above'
-  summary_put above' b len' is here others = record {
-    room = omega (arith, s.room, len, len');
-    each = λ w. elim (cases_eq w k) [
-      | inl e ↦ ap (bit_in above') e ∙ here ∙ sym is ∙ ap (λ n. word_bit (get_or words' n 0)) (sym e)
-      | inr ne ↦ others w ne ∙ s.each w ∙ ap word_bit (sym (same w ne))
-    ];
-  }
-
-  pub summary_kept : word_bit (get_or words' k 0) ≡ word_bit (get_or words k 0) → IsSummary words' above
-  summary_kept is = record {
-    room = omega (arith, s.room, len);
-    each = λ w. s.each w ∙ elim (cases_eq w k) as (λ _. word_bit (get_or words w 0) ≡ word_bit (get_or words' w 0)) [
-      | inl e ↦ ap (λ n. word_bit (get_or words n 0)) e ∙ sym is ∙ ap (λ n. word_bit (get_or words' n 0)) (sym e)
-      | inr ne ↦ ap word_bit (sym (same w ne))
-    ];
-  }
 
 -- no bit is set
 zeros : (n w : ℕ) → get_or (replicate {A = ℕ} n 0) w 0 ≡ 0
@@ -196,20 +158,5 @@ but_put words words' k None low others = (tt, λ i _ ne. others i ne ∙ low.1 i
 but_put words words' k (Some f) low others = (λ ne. others f ne ∙ low.0, λ i l ne. others i ne ∙ low.1 i l)
 
 module _ (words : List ℕ) (k : ℕ) where
-  pub first_one : bit_in words k ≡ 1 → IsLowestBut words k None → IsLowest words (Some k)
-  first_one here but = (here, λ i l. but.1 i tt (omega (arith, l)))
-
   pub none_left : bit_in words k ≡ 0 → IsLowestBut words k None → IsLowest words None
   none_left here but = (tt, λ i _. elim (cases_eq i k) [ inl e ↦ ap (bit_in words) e ∙ here | inr ne ↦ but.1 i tt ne ])
-
-  pub lower_one : (f : ℕ) → k ≤ f → bit_in words k ≡ 1 → IsLowestBut words k (Some f) → IsLowest words (Some k)
-  lower_one f le here but = (here, λ i l. but.1 i (omega (arith, l, le)) (omega (arith, l)))
-
-  pub higher_one : (f : ℕ) → f < k → IsLowestBut words k (Some f) → IsLowest words (Some f)
-  higher_one f lt but = (but.0 (omega (arith, lt)), λ i l. but.1 i l (omega (arith, l, lt)))
-
-  pub other_gone : (f : ℕ) → k ≢ f → bit_in words k ≡ 0 → IsLowestBut words k (Some f) → IsLowest words (Some f)
-  other_gone f ne here but = (but.0 (λ e. ne (sym e)), λ i l. elim (cases_eq i k) [ inl e ↦ ap (bit_in words) e ∙ here | inr n ↦ but.1 i l n ])
-
-  pub none_up_to : (f : ℕ) → k ≡ f → bit_in words k ≡ 0 → IsLowestBut words k (Some f) → (i : ℕ) → i ≤ k → bit_in words i ≡ 0
-  none_up_to f e here but i le = elim (cases_eq i k) [ inl is ↦ ap (bit_in words) is ∙ here | inr n ↦ but.1 i (omega (arith, e, le, n)) n ]

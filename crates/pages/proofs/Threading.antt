@@ -266,9 +266,6 @@ module _ (words : List ℕ) (page class first allocated size : ℕ) (low_page : 
     pub pop_room : allocated + 1 < 2 ^ 64
     pop_room = let f = blocks_few class in omega (arith, some, f)
 
-    pub pop_positive : 0 < first
-    pop_positive = omega (arith, head.link)
-
     pub pop_free : slice_get (flags_of words (2048 * page) class) ((first - 1 - 2048 * page) / size) ≡ Some false
     pop_free = ap (slice_get (flags_of words (2048 * page) class)) index_is ∙ head.open_there
 

@@ -162,13 +162,6 @@ module _ (rows : List (Option PageRow)) (words new : List ℕ) (t : Together row
       ap (λ l. pages_in l new) (sym unchanged) ∙ pages_changed rows words new t page row below row_known' chain' outside' (flags_of words (2048 * page) row.class) same_flags
       ∙ ap (set (pages_in rows words) page) (sym (page_read rows words page row below there)) ∙ set-get_or (pages_in rows words) page None
 
--- ---- the mark evacuating, with no word written
-pub leaving_keeps : (rows : List (Option PageRow)) (words : List ℕ) → Together rows words → (page : ℕ) (row : PageRow) → page < length rows → row_at rows page ≡ Some row
-    → Together (set rows page (Some (record row { evacuating = true }))) words
-leaving_keeps rows words t page row below there =
-    together_changed rows words words t page (record row { evacuating = true }) below (subst (λ o. IfSome o (λ r. r.class < CLASSES)) there (t.classes page)) (subst (λ o. IsRow words (2048 * page) o) there (t.each page))
-    (record { len = refl; below = λ _ _. refl; above = λ _ _. refl }) (words_present rows words t page row there)
-
 -- the words of a free page are written
 pub keeps_outside : (rows : List (Option PageRow)) (words new : List ℕ) (page : ℕ) → ((k : ℕ) → IfSome (row_at rows k) (λ r. r.class < CLASSES)) → row_at rows page ≡ None → SameOutside words new (2048 * page) → KeepsAllocated (pages_in rows words) words new
 keeps_outside rows words new page classes none out = record {

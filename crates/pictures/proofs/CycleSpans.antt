@@ -1,6 +1,6 @@
 -- Cycles and their phases, quantum by quantum.
 use Rattle.std.proofs.Common.{◌≡◌, ◌⊎◌, inl, inr, ℕ, Bool, true, false, List, [], ◌∷◌, ◌++◌, refl, ap, ap₂, ◌∙◌, sym, subst, append-nil}
-use Rattle.std.specs.Prelude.{Option, Some, None, if◌then◌else◌}
+use Rattle.std.specs.Prelude.{Option, Some, if◌then◌else◌}
 use Rattle.std.specs.List.{flat_map, zip}
 use Rattle.std.proofs.lemmas.List.Elements.{filter-append}
 use Rattle.streams.specs.Streams.{GrowsByPart}
@@ -20,11 +20,6 @@ use Rattle.pictures.proofs.Parts.{SoFar, none_yet, further, cut_short, to_last, 
 end_more : (q last : Turn) (later : List Turn) → end_of q (later ++ last ∷ []) ≡ last.0.end
 end_more q last [] = refl
 end_more q last (next ∷ later) = end_more next last later
-
--- the first quantum
-pub stretch_first : (these : List Turn) (q : Turn) → stretch these ≡ None → Some q.0 ≡ stretch (these ++ q ∷ [])
-stretch_first [] q e = refl
-stretch_first (x ∷ later) q e = absurd (cc)
 
 -- one more
 pub stretch_longer : (these : List Turn) (q : Turn) (s : Interval) → stretch these ≡ Some s → Some (record { start = s.start; end = q.0.end }) ≡ stretch (these ++ q ∷ [])

@@ -14,15 +14,6 @@ next_kept numbers above (Some n) p off is = (Contains-append_left numbers (p ∷
     by_off (inl low) = inl low
     by_off (inr high) = inr (let m = is.2 in omega (arith, high, m))
 
--- the first that is
-pub next_first : (numbers : List ℕ) (above p : ℕ) → above < p → p ≤ MOST_HEAP_PAGES → IsNext numbers above None → IsNext (numbers ++ p ∷ []) above (Some p)
-next_first numbers above p low high is =
-    (Contains-push numbers p, low, high, All-push (λ x. (x ≤ above) ⊎ (p ≤ x)) numbers p (All-weaker (λ x. (x ≤ above) ⊎ (MOST_HEAP_PAGES < x)) (λ x. (x ≤ above) ⊎ (p ≤ x)) weaker numbers is) (inr (omega arith)))
-  where
-    weaker : (x : ℕ) → (x ≤ above) ⊎ (MOST_HEAP_PAGES < x) → (x ≤ above) ⊎ (p ≤ x)
-    weaker x (inl l) = inl l
-    weaker x (inr h) = inr (omega (arith, high, h))
-
 -- one more
 pub next_nearest : (numbers : List ℕ) (above n p : ℕ) → above < p → p ≤ MOST_HEAP_PAGES → IsNext numbers above (Some n) → IsNext (numbers ++ p ∷ []) above (Some (min n p))
 next_nearest numbers above n p low high is = (

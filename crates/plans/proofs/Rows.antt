@@ -78,7 +78,3 @@ fastest_words makes c live (Some plan) is = is.0.some
 pub least_within : (makes : ℕ → Bool) (c : Config) (live : ℕ) (least : Option ℕ) → IsLeastPagesFor makes c live least → IfSome least (λ pages. pages ≤ MOST_HEAP_PAGES)
 least_within makes c live None is = tt
 least_within makes c live (Some pages) is = is.1
-
--- three texts
-pub three_lines : (a b d a1 b1 d1 : List ℕ) → a ≡ a1 → b ≡ b1 → d ≡ d1 → a ++ (b ++ (d ++ [])) ≡ a1 ++ (b1 ++ d1)
-three_lines a b d a1 b1 d1 p q r = ap (λ z. z ++ (b ++ (d ++ []))) p ∙ ap (λ z. a1 ++ (z ++ (d ++ []))) q ∙ ap (λ z. a1 ++ (b1 ++ z)) (append-nil d ∙ r)

@@ -126,9 +126,6 @@ enters_nothing p line es q (Ticks k fs r small due none) other = due_entries (p.
 pub entered : (e : Entry) (m : ℕ) (c : Command) → e.mutator ≡ m → e.command ≡ c → entries_in (Command_done m c e.reply ∷ []) ≡ e ∷ []
 entered e m c p q = subst (λ k. entries_in (Command_done k c e.reply ∷ []) ≡ e ∷ []) p (subst (λ d. entries_in (Command_done e.mutator d e.reply ∷ []) ≡ e ∷ []) q refl)
 
-pub ticks_enter_nothing : (p q : PlayerState) (n : ℕ) (es : List Event) → DoesLine p (lines.Tick n) es q → entries_in es ≡ []
-ticks_enter_nothing p q n es d = enters_nothing p (lines.Tick n) es q d (λ m c e. cc)
-
 -- an end is an end where no write fails
 abbrev pub ends_so : {style : Style} {given : Given} {old new : Session} {result : Result (Unit {0}) PlayFault} → LinesProcessed (PlaysLine style) given old (λ reached. ProcessingEnds (StopsText style) reached given.ended new result) → Played style given old new result
 ends_so {style} {given} {old} {new} {result} over =

@@ -1,5 +1,5 @@
 -- What an observer sees of the lines of an input.
-use Rattle.std.proofs.Common.{◌≡◌, ◌≢◌, ℕ, ◌+◌, ◌<◌, ◌≤◌, ◌⊎◌, inl, inr, Bool, true, false, cond, List, [], ◌∷◌, ◌++◌, length, length-append, Ok, Err, refl, ap, ◌∙◌, sym, subst, append-nil, arith}
+use Rattle.std.proofs.Common.{◌≡◌, ◌≢◌, ℕ, ◌+◌, ◌≤◌, ◌⊎◌, inl, inr, Bool, true, false, cond, List, [], ◌∷◌, ◌++◌, length, length-append, Ok, Err, refl, ap, ◌∙◌, sym, subst, append-nil, arith}
 use Rattle.std.specs.Prelude.{Option, Some, None, Result}
 use Rattle.std.proofs.lemmas.List.{map-append}
 use Rattle.settings.specs.declared.config.Config.{Config}
@@ -18,10 +18,10 @@ use Rattle.trace.proofs.Handling.{Follows, all_moved, over_all, over_stopped}
 use Rattle.player.specs.declared.observed.Observed.{Observed}
 use Rattle.player.specs.declared.style.Style.TheVariants.{Nothing}
 use Rattle.player.specs.New.{IsNew}
-use Rattle.player.specs.Observing.{Run, Moment, moment, moment_after, run_from, run_of, after_steps, after_line, brought, observed, LineSeen, LineObserved, TextStops, TextObserved, IsObserved, RunObserved, RunRefused, StopsNew}
+use Rattle.player.specs.Observing.{Run, Moment, moment, run_from, run_of, after_steps, after_line, brought, observed, LineSeen, LineObserved, TextStops, TextObserved, RunObserved, RunRefused, StopsNew}
 use Rattle.player.specs.Player.{PlayerState, QuantaDue, None_yet, One_more, DoesLine, Skips, Commands, Goes_on, Spends, Ticks, entries_in}
 use Rattle.player.specs.Player as players
-use Rattle.player.specs.Playing.{Session, session, PlaysLine, StopsText, Played, is_event, says_event}
+use Rattle.player.specs.Playing.{Session, session, PlaysLine, StopsText, Played, says_event}
 use Rattle.player.specs.Steps.{Step, step, steps_due, steps_of, steps_in, events_of}
 use Rattle.player.proofs.First.{line_read, told_read}
 use Rattle.player.proofs.Lines.{ends_so, nothing_written}
@@ -115,29 +115,9 @@ module _ {O : Type 0} (HasSeen : Run → O → Type 0) where
       (λ run has now. subst (λ b. HasSeen (record run { moments = run.moments ++ cond b (moment text.number p.course.heap ∷ []) [] }) new) (sym on)
       (subst (λ (r : Course). HasSeen (record run { moments = run.moments ++ moment text.number r.heap ∷ [] }) new) now (tells run has now)))
 
-  -- before the line's end, and after it
-  pub ready_within : (number : ℕ) (line : Line) (old : Observed O) (p : PlayerState) (mid : O) → IsObserved HasSeen number old → LineSeen HasSeen number line old (observed p mid) → (run : Run) × HasSeen run mid × (length run.moments < number)
-  ready_within number line old p mid ready seen =
-      (after_steps ready.0 (steps_of number old.player line seen.0 p seen.1) p.course, seen.2 ready.0 ready.1 ready.2, ready.3)
-
   at_most_one : (b : Bool) (m : Moment) (ms : List Moment) → length (ms ++ cond b (m ∷ []) []) ≤ length ms + 1
   at_most_one true m ms = (let e = length-append ms (m ∷ []) in omega (arith, e))
   at_most_one false m ms = (let e = length-append {A = Moment} ms [] in omega (arith, e))
-
-  pub ready_next : (text : Text) (old new : Observed O) → IsObserved HasSeen text.number old → TextObserved HasSeen text old new (Ok tt) → IsObserved HasSeen (text.number + 1) new
-  ready_next text old new ready o =
-      let run = ready.0 in
-      let few = ready.3 in
-      let more = at_most_one (is_event text.bytes) (moment text.number new.player.course.heap) run.moments in (
-        record run {
-          steps = run.steps ++ steps_in text (session old.player []) o.0 (session new.player []) o.1;
-          moments = run.moments ++ moment_after text new.player.course.heap;
-          now = new.player.course;
-        },
-        o.2 run ready.1 ready.2,
-        refl,
-        omega (arith, few, more),
-      )
 
   -- a player whose observer has seen nothing yet
   module _ (first : Observed O) (none : HasSeen (run_from first.player.course) first.observer) (given : Given) (new : Observed O) where

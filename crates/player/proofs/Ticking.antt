@@ -1,13 +1,11 @@
 -- Ticks that pass.
-use Rattle.std.proofs.Common.{◌≡◌, ℕ, ◌+◌, ◌-◌, ◌<◌, ◌≤◌, true, false, List, [], ◌∷◌, ◌++◌, Ok, ap, ◌∙◌, sym, subst, refl, arith}
+use Rattle.std.proofs.Common.{◌≡◌, ℕ, ◌+◌, ◌-◌, ◌<◌, ◌≤◌, true, List, [], ◌∷◌, ◌++◌, Ok, ap, ◌∙◌, sym, subst, refl, arith}
 use Rattle.std.specs.Prelude.{Option, Some, None}
 use Rattle.heap_model.specs.declared.phase.Phase.{Phase}
 use Rattle.heap_model.specs.declared.phase.Phase.TheVariants as phases
 use Rattle.heap_model.specs.Event.{Event, Quantum_done}
-use Rattle.quanta.specs.declared.schedule.TheConstants.{CLOCK_LIMIT}
-use Rattle.quanta.specs.Timetable.{Timetable, due_below}
-use Rattle.trace.specs.declared.line.Line.TheVariants as lines
-use Rattle.player.specs.Player.{PlayerState, QuantaDue, One_more, timetable_after, placed, DoesLine, Ticks}
+use Rattle.quanta.specs.Timetable.{Timetable}
+use Rattle.player.specs.Player.{PlayerState, QuantaDue, One_more, timetable_after, placed}
 use Rattle.player.specs.Ticking.{DueDone}
 
 -- the ticks from the next quantum on, below a time
@@ -45,23 +43,3 @@ module _ (old new : PlayerState) (until : ℕ) (d : DueDone until old new (Ok tr
   pub one_more : (p : PlayerState) → (es : List Event) × QuantaDue until p es old → (es : List Event) × QuantaDue until p es new
   one_more p w =
       (w.0 ++ Quantum_done old.budget d.1 d.2 ∷ [], subst (λ (x : PlayerState). QuantaDue until p (w.0 ++ Quantum_done old.budget d.1 d.2 ∷ []) x) (sym d.7) (One_more w.0 old d.0 d.1 d.2 d.3 w.1 d.4 d.5 d.6))
-
--- none is left, and the clock moves
-pub ticked : (p q r : PlayerState) (n until : ℕ) (t : Timetable) → until ≤ CLOCK_LIMIT → until ≡ p.timetable.clock + n → ((es : List Event) × QuantaDue until p es q) → DueDone until q r (Ok false)
-    → t ≡ record r.timetable { clock = p.timetable.clock + n } → (es : List Event) × DoesLine p (lines.Tick n) es (record r { timetable = t })
-ticked p q r n until t small e w d is =
-    let due = subst (λ u. QuantaDue u p w.0 q) e w.1 in (
-      w.0,
-      subst (λ z. DoesLine p (lines.Tick n) w.0 (record r { timetable = z })) (sym is)
-          (subst (λ (x : PlayerState). DoesLine p (lines.Tick n) w.0 (record x { timetable = record x.timetable { clock = p.timetable.clock + n } })) (sym d.1)
-          (Ticks n w.0 q (subst (λ u. u ≤ CLOCK_LIMIT) e small) due (subst (λ u. due_below u q.timetable.due ≡ None) e d.0))),
-    )
-
--- the same, where the clock has stood still and the player is given by its fields
-pub ticked_by : (p q r s : PlayerState) (n until : ℕ) (t : Timetable) → until ≤ CLOCK_LIMIT → until ≡ p.timetable.clock + n → q.timetable.clock ≡ p.timetable.clock → ((es : List Event) × QuantaDue until p es q) → DueDone until q r (Ok false)
-    → s ≡ r → t ≡ record s.timetable { clock = s.timetable.clock + n } → (es : List Event) × DoesLine p (lines.Tick n) es (record s { timetable = t })
-ticked_by p q r s n until t small e same w d is moved =
-    let clock : s.timetable.clock ≡ p.timetable.clock = ap (λ (x : PlayerState). x.timetable.clock) (is ∙ d.1) ∙ same in
-    let z : t ≡ record r.timetable { clock = p.timetable.clock + n } = moved ∙ ap (λ k. record s.timetable { clock = k + n }) clock ∙ ap (λ (x : PlayerState). record x.timetable { clock = p.timetable.clock + n }) is in
-    let w' = ticked p q r n until t small e w d z in
-    (w'.0, subst (λ (x : PlayerState). DoesLine p (lines.Tick n) w'.0 (record x { timetable = t })) (sym is) w'.1)

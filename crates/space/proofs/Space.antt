@@ -74,10 +74,6 @@ none_evacuating (o ∷ os) n =
 kept : (h : HeapState) → KeepsSettings h h
 kept h = record { most = refl; below = refl }
 
-few_one : (b : Bool) → one_if b ≤ 1
-few_one true = omega arith
-few_one false = omega arith
-
 closed_less : (class : ℕ) (o : Option Page) → (one_if (is_of class (closed o)) ≤ one_if (is_of class o)) × (one_if (is_evacuating (closed o)) ≡ 0)
 closed_less class None = (omega arith, refl)
 closed_less class (Some p) = by_allocated (allocated_on (Some p) == 0)

@@ -66,9 +66,6 @@ module _ (buffer : List ℕ) (start end i : ℕ) (range : start ≤ end) (within
   pub cut_is_line : IsLine (slice_range buffer start (start + i))
   cut_is_line = (subst NoLf front lf.before, omega (arith, lf.near, length-take (start + i - start) (drop start buffer)))
 
-  pub cut_within : start + i + 1 ≤ end
-  cut_within = omega (arith, short)
-
 -- few bytes without LF
 pub short_line : (xs : List ℕ) → length xs ≤ 256 → NoLf (take 257 xs) → IsLine xs
 short_line xs few none = (subst NoLf (whole 257 xs (omega (arith, few))) none, few)

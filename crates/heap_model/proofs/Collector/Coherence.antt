@@ -1,6 +1,6 @@
 -- What is grey, and what of it is scanned: through each step of the collector over references.
 use Rattle.std.proofs.Common.{◌≡◌, ℕ, ◌+◌, ◌<◌, ◌≤◌, Bool, true, false, List, [], ◌∷◌, ◌++◌, arith, refl, ap, subst, sym, ◌∙◌, ◌==◌, ◌||◌, if◌then◌else◌}
-use Rattle.heap_model.specs.Core.{Name, PartGraph, Heap, Reach, Base, Tracing, Sweeping, Resting, Moving, Left}
+use Rattle.heap_model.specs.Core.{Name, PartGraph, Heap, Reach, Base, Tracing, Sweeping, Moving, Left}
 use Rattle.heap_model.specs.Collector.{Progress, In_idle, In_roots, In_marking, In_sweep, In_moves, Collector, contains, Once, done_by, done_of, Greys, PhaseInvariant, Coherent}
 use Rattle.heap_model.proofs.Core.Edits.{put, shade, set_root, set_cell, free, flip, move, moved}
 use Rattle.heap_model.proofs.Collector.Acts.{shaded, root_scanned, cell_scanned, Acts, Scans_root, Ends_roots, Scans_header, Scans_cell, Ends_marking, Keeps, Frees, Ends_sweep, Ends_sweep_to_move, Moves_block, Goes_past, Ends_moves, begun}
@@ -239,10 +239,6 @@ same_stage m h' g s at In_moves e b t = (same_resting m.heap h' g s at e t.0, sa
 
 pub same_coherent : (m : Collector) (h' : Heap) (g s : PartGraph) → SameBlocks m.heap h' → Coherent m g s → Coherent (record m { heap = h' }) g s
 same_coherent m h' g s e c = record { at = c.at; base = same_base m.heap h' g s c.at e c.base; stage = same_stage m h' g s c.at m.phase e c.base c.stage }
-
--- where every allocated block is marked, to turn the mark parity is to flip
-pub turned_flips : (h : Heap) (g s : PartGraph) (at : Name → ℕ) → Base h g s at → Resting h g s at → SameBlocks (flip h) (record h { marked = λ x. if x == 0 then true else (if h.marked x then false else true) })
-turned_flips h g s at b r = grind arith
 
 -- a grey part stands anywhere among the others
 once-middle : (front back : List ℕ) (x : ℕ) → contains (front ++ back) x ≡ false → Once (front ++ back) → Once (front ++ x ∷ back)

@@ -1,5 +1,5 @@
 -- What is kept: reachable when the cycle began, or made since.
-use Rattle.std.proofs.Common.{ℕ, zero, suc, ◌<◌, ◌≤◌, ◌⊎◌, inl, inr, arith, refl, subst, sym}
+use Rattle.std.proofs.Common.{ℕ, zero, suc, ◌<◌, ◌⊎◌, inl, inr, arith, refl, subst, sym}
 use Rattle.heap_model.specs.Core.{Name, null, PartGraph, Walk, Reach, FreshBy, KeptBy, Fresh, Kept, Grows}
 
 pub reach_null : (roots : ℕ) (g : PartGraph) → Reach roots g null
@@ -20,14 +20,6 @@ kept_fresh roots s g n f = inr f
 pub kept_cases : (roots : ℕ) (s g : PartGraph) (n : Name) → Kept roots s g n → Reach roots s n ⊎ Fresh s g n
 unfolding KeptBy
 kept_cases roots s g n k = k
-
-pub fresh_above : (s g : PartGraph) (n : Name) → Fresh s g n → s.next ≤ n.identity
-unfolding FreshBy
-fresh_above s g n f = f.0
-
-pub fresh_below : (s g : PartGraph) (n : Name) → Fresh s g n → n.identity < g.next
-unfolding FreshBy
-fresh_below s g n f = f.1
 
 pub reach_root : (roots : ℕ) (g : PartGraph) (j : ℕ) → j < roots → Reach roots g (g.root j)
 unfolding Reach

@@ -30,9 +30,6 @@ at_same h g s at m n b km kn e = sym (b.name m km) ∙ ap h.name e ∙ b.name n 
 pub scan_cell_base : (h : Heap) (g s : PartGraph) (at : Name → ℕ) (n : Name) (i : ℕ) → Base h g s at → Kept h.roots s g n → i < g.width n → Base (set_cell h (at n) i (h.forward (h.cell (at n) i))) g s at
 scan_cell_base h g s at n i b k l = grind (arith, at_same)
 
-pub scan_cell_base_cell : (h : Heap) (g s : PartGraph) (at : Name → ℕ) (n : Name) (i : ℕ) (m : Name) (c : ℕ) → Base h g s at → Kept h.roots s g n → Kept h.roots s g m → i < g.width n → c < g.width m → h.forward ((set_cell h (at n) i (h.forward (h.cell (at n) i))).cell (at m) c) ≡ at (g.target m c)
-scan_cell_base_cell h g s at n i m c b k km l lc = let e = at_same h g s at m n b km k in grind arith
-
 pub scan_cell : (h : Heap) (g s : PartGraph) (at : Name → ℕ) (done : ℕ → ℕ) (place : ℕ) (n : Name) → Base h g s at → Tracing h g s at done place → Kept h.roots s g n → done (at n) < g.width n → h.marked (at n) ≡ true
     → Tracing (shade (set_cell h (at n) (done (at n)) (h.forward (h.cell (at n) (done (at n))))) (h.forward (h.cell (at n) (done (at n))))) g s at (put done (at n) (done (at n) + 1)) place
 scan_cell h g s at done place n b t k l m = grind (arith, at_same, kept_reach, kept_fresh)

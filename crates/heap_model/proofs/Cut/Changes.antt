@@ -289,7 +289,3 @@ view-appended g shape = same_graph _ _
     (fun_ext (λ n. fun_ext (λ i. append_target g shape n i)))
     (fun_ext (λ n. append_each (λ o. words_of o n.part) g.objects (new_object shape) n.identity))
     (fun_ext (λ n. append_each (λ o. o.shape) g.objects (new_object shape) n.identity))
-
-pub view-new : (g : Graph) (j shape_id : ℕ) (shape : Shape) → j < length g.roots → shape_id ≡ length g.objects + 1
-    → view (changed g (changes.New j shape_id shape)) ≡ write_root (made (view g) (parts_of shape)) j (record { identity = (view g).next; part = 0 })
-view-new g j id shape l e = rw e (view-root (appended g shape) j (length g.objects + 1) l ∙ ap (λ z. write_root z j (name_of (length g.objects + 1))) (view-appended g shape))

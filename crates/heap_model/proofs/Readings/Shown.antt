@@ -69,9 +69,6 @@ null_reads h g x id a r = (
 pub root_reads : (h : HeapState) (g : Graph) (j : ℕ) → Agrees h g → j < length h.roots → Reads (seen h) (get_or h.roots j 0) (name_of (get_or g.roots j 0))
 root_reads h g j a l = a.root j l
 
-pub main_null : (h : HeapState) → IsMain (seen h) 0 (name_of 0)
-main_null h = record { allocated = refl; forward = refl; name = refl }
-
 -- a main copy of a part shows what the graph heap says
 shown : (h : HeapState) (g : Graph) (id part address : ℕ) → Agrees h g → Reaches g id → part < count_of (object_of g.objects id) → IsMainCopy h.store address (record { identity = id; part = part })
     → let s = seen h in (s.width (address + 1) ≡ width_of (object_of g.objects id) part) × (s.words (address + 1) ≡ words_of (object_of g.objects id) part) × (s.shape (address + 1) ≡ (object_of g.objects id).shape)

@@ -128,15 +128,3 @@ new_more h new at j shape f whole making many sizes =
 
 pub same_more : (h : HeapState) → DoesMore h h
 same_more h = record { units = refl; phase = refl; defrag = refl; roots = refl; pages = refl; grey = λ n. n; marking = omega arith; moving = omega arith }
-
-pub more_then : (h k after : HeapState) → DoesMore h k → DoesMore k after → DoesMore h after
-more_then h k after v w = record {
-  units = w.units ∙ v.units;
-  phase = w.phase ∙ v.phase;
-  defrag = w.defrag ∙ v.defrag;
-  roots = w.roots ∙ v.roots;
-  pages = w.pages ∙ v.pages;
-  grey = λ n. w.grey (v.grey n);
-  marking = (let a = v.marking in let b = w.marking in omega arith);
-  moving = (let a = v.moving in let b = w.moving in omega arith);
-}

@@ -1,10 +1,9 @@
 -- Lines that tell of roots.
-use Rattle.std.proofs.Common.{◌≡◌, ◌≢◌, ℕ, ◌+◌, ◌-◌, ◌*◌, ◌/◌, ◌%◌, ◌<◌, ◌≤◌, List, Ok, inl, inr, arith}
-use Rattle.std.proofs.lemmas.Nat.{div-add-mod'}
+use Rattle.std.proofs.Common.{◌≡◌, ◌≢◌, ℕ, ◌+◌, ◌-◌, ◌*◌, ◌<◌, ◌≤◌, List, Ok, inr, arith}
 use Rattle.graph_heap.specs.declared.command.Limits.{Limits}
 use Rattle.graph_heap.specs.Graph.{root_cells}
 use Rattle.graph_heap.specs.Effect.{slot_at, static_at}
-use Rattle.pictures.specs.PathText.{slot_line, static_line, IsRootLine}
+use Rattle.pictures.specs.PathText.{static_line, IsRootLine}
 
 -- there are slots where a place is among them
 pub some_slots : (place mutators slots : ℕ) → place < mutators * slots → slots ≢ 0
@@ -15,17 +14,6 @@ slot_there l m s place a b e = grind arith
 
 static_there : (l : Limits) (k place : ℕ) → k < l.statics → l.mutators * l.slots + k ≡ place → static_at l k ≡ Ok place
 static_there l k place a e = grind arith
-
-quotient_below : (place mutators slots : ℕ) → place < mutators * slots → place / slots < mutators
-quotient_below place mutators slots l = grind arith
-
-rest_below : (place slots : ℕ) → slots ≢ 0 → place % slots < slots
-rest_below place slots some = grind arith
-
-pub slot_told : (l : Limits) (place : ℕ) (line : List ℕ) → place < l.mutators * l.slots → line ≡ slot_line (place / l.slots) (place % l.slots) → IsRootLine l place line
-slot_told l place line below is =
-    let some = some_slots place l.mutators l.slots below in
-    inl (place / l.slots, place % l.slots, slot_there l (place / l.slots) (place % l.slots) place (quotient_below place l.mutators l.slots below) (rest_below place l.slots some) (div-add-mod' place l.slots), is)
 
 pub static_told : (l : Limits) (place : ℕ) (line : List ℕ) → l.mutators * l.slots ≤ place → place < root_cells l → line ≡ static_line (place - l.mutators * l.slots) → IsRootLine l place line
 static_told l place line from below is =

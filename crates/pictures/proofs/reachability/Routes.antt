@@ -4,7 +4,6 @@ use Rattle.std.specs.Prelude.{slice_index}
 use Rattle.std.proofs.lemmas.List.{reverse-append, length-reverse}
 use Rattle.graph_heap.specs.Graph.{Graph}
 use Rattle.graph_heap.specs.Reach.{Path, Reaches}
-use Rattle.graph_heap.specs.Reaching.{IsAmong}
 use Rattle.graph_heap.proofs.Reaching.{with_cell}
 use Rattle.pictures.specs.declared.reachability.found.Holder.{Holder}
 use Rattle.pictures.specs.declared.reachability.found.Holder.TheVariants.{Root, Cell}
@@ -96,7 +95,3 @@ module _ (found : List Found) (target : Found) (steps : List Step) (last : Found
 -- none leads to an object that wasn't found
 pub unreachable : (g : Graph) (found : List Found) (id : ℕ) → FindsAll g found → IsNowhere found id → id ≤ length g.objects → Reaches g id → ⊥
 unreachable g found id v none below r = let t = v.all id r below in none t.0 t.1 t.2
-
--- an object that was found can be reported
-pub among_found : (g : Graph) (found : List Found) (id k : ℕ) → FindsAll g found → IsAt found id k → IsAmong (length g.objects) id
-among_found g found id k v h = subst (IsAmong (length g.objects)) h.1 (v.each k h.0).among

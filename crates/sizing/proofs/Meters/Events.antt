@@ -1,5 +1,5 @@
 -- What a meter holds after each event.
-use Rattle.std.proofs.Common.{◌≡◌, ℕ, ◌+◌, ◌<◌, ◌≤◌, ◌↔◌, ◌⊎◌, inl, inr, Bool, true, false, if◌then◌else◌, List, [], ◌∷◌, ◌++◌, length, drop, max, append-nil, arith, refl, ap, ◌∙◌, sym, subst}
+use Rattle.std.proofs.Common.{◌≡◌, ℕ, ◌+◌, ◌<◌, ◌≤◌, ◌↔◌, ◌⊎◌, inl, inr, Bool, true, false, if◌then◌else◌, List, [], ◌∷◌, ◌++◌, length, drop, max, arith, refl, ap, ◌∙◌, sym, subst}
 use Rattle.std.specs.Prelude.{None, IfSome}
 use Rattle.graph_heap.specs.declared.command.Limits.{Limits}
 use Rattle.graph_heap.specs.declared.command.Command.{Command}
@@ -327,10 +327,6 @@ module _ (l : Limits) (es : List Event) (r new : Course) (m : ℕ) (c : Command)
         where
           counts : (n : ℕ) (allocated : List ℕ) → n ≤ length (present_of r).objects → AreBlocks allocated (made_since n t) → AreBlocks allocated (blocks_of (drop n (after_entry t.graph entry).objects))
           counts n allocated low h = are_same allocated _ _ (λ class small. (let x = since n class low in let y = not_grown (room_for r.heap c) g m c class (stays_by less) in omega (arith, x, y))) h
-
--- where nothing is done
-pub skip_measures : (l : Limits) (es : List Event) (r : Course) (m : Meter) → Measures l es r m → Measures l (es ++ []) r m
-skip_measures l es r m v = subst (λ x. Measures l x r m) (sym (append-nil es)) v
 
 pub goes_on_measures : (l : Limits) (es : List Event) (r : Course) (m : Meter) → Measures l es r m → Measures l (es ++ Begin_refused ∷ []) r m
 goes_on_measures l es r m v = record {

@@ -96,11 +96,6 @@ module _ (c q k until : ℕ) (p : Pace) where
         subst (λ (z : Beat). (class : ℕ) → z.asked class ≡ 0) same (λ class. refl),
       )
 
--- the clock stays while quanta that are due are done, and so does the budget
-pub dues_clock : (until : ℕ) (old r : PlayerState) (es : List Event) → QuantaDue until old es r → r.timetable.clock ≡ old.timetable.clock
-dues_clock until old r es None_yet = refl
-dues_clock until old r es (One_more fs s due units phase course w is below d) = (ends_quantum phase (placed due s.timetable)).clock ∙ dues_clock until old s fs w
-
 -- a quantum that isn't due yet comes later
 pub not_below : (until d : ℕ) (o : Option ℕ) → o ≡ Some d → due_below until o ≡ None → until ≤ d
 not_below until d None e n = absurd (cc)

@@ -83,10 +83,6 @@ module _ (s : Store) (w : ArePages s.pages) (class : ℕ) where
     place : ℕ → ℕ
     place i = 2048 * k + i * size_of p.class
 
-    place_low : (i : ℕ) → i < length p.allocated → place i < 2048 * (k + 1)
-    unfolding place
-    place_low i l = let f = place_page s k i p w at l in omega (arith, f)
-
     there : (i : ℕ) → slice_get p.allocated i ≡ Some true → IsThere s class (place i)
     unfolding place
     there i e = let f = place_page s k i p w at (slice_get_within p.allocated i true e) in record {

@@ -3,7 +3,7 @@ use Rattle.std.proofs.Common.{zero, suc, Bool, true, false, ◌≡◌, ℕ, ◌+
 use Rattle.std.specs.Prelude.{IsTrue, Option, Some, None, Vec, vec_len, Result, Ok, Err}
 use Rattle.std.specs.List.{range_with_len}
 use Rattle.std.specs.declared.alloc.Global.{Global}
-use Rattle.std.proofs.lemmas.List.{ext_get_or, map-append, map-set, length-set, get_or-set_same, get_or-set_other, get_or-map, replicate_more}
+use Rattle.std.proofs.lemmas.List.{ext_get_or, map-set, length-set, get_or-set_same, get_or-set_other, get_or-map}
 use Rattle.std.proofs.lemmas.List.FromFn.{length-map-range_with_len, get_or-map-range_with_len}
 use Rattle.std.proofs.lemmas.Bool.{eqb-true, eqb-false}
 use Rattle.graph_heap.specs.declared.command.Command.{Command}
@@ -101,9 +101,6 @@ pub lists_put : (xs : List (Vec Command Global)) (m : ℕ) (c : Command) (old ne
     → map commands_in (set xs m new) ≡ one_more (map commands_in xs) m c
 lists_put xs m c old new h is pushed =
     map-set commands_in xs m new ∙ ap (λ (s : List Command). set (map commands_in xs) m s) (pushed ∙ ap (λ t. t ++ c ∷ []) (ap commands_in is ∙ sym (get_or-map commands_in xs m old [] h)))
-
-pub lists_push : (xs : List (Vec Command Global)) (v : Vec Command Global) (n : ℕ) → map commands_in xs ≡ replicate n [] → v.items ≡ [] → map commands_in (xs ++ v ∷ []) ≡ replicate (n + 1) []
-lists_push xs v n e is = map-append commands_in xs (v ∷ []) ∙ ap (λ (s : List Command). map commands_in xs ++ s ∷ []) is ∙ ap (λ l. l ++ [] ∷ []) e ∙ replicate_more n []
 
 -- a line that spells neither a skipped line nor a command
 pub not_command : (version : Version) (text : List ℕ) (line : Line) → (line ≡ lines.Skip → ⊥) → ((m : ℕ) (c : Command) → line ≡ lines.Command m c → ⊥) → ((x : Line) → Spells version text x → Some line ≡ Some x)

@@ -2,7 +2,7 @@
 import os
 import tempfile
 
-from finders import imports, lengths, names, paths, sentences, standing
+from finders import citations, imports, lengths, names, paths, sentences, standing
 
 DOCUMENT = """# A document
 
@@ -42,6 +42,8 @@ def fake():
         "crates/heap/README.md": README,
         "crates/heap/src/lib.rt": f"pub use heap::Made;\nuse heap::{{Heaped, Read}};\nuse std::io;\n\npub trait Read {{}}\n\npub struct Heap;\n\nimpl Heap {{\n{SHORT}{long}}}\n",
         "crates/heap/specs/Heap.antt": SPECS,
+        "crates/heap/proofs/Lemmas.antt": LEMMAS,
+        "crates/heap/proofs/step/Answers.antt": "use Heap.{cited}\n\nreturns : one\nreturns = cited\n",
         "crates/heap/proofs/Fits.antt": "x\n" * lengths.MOST_OF_FILE,
         "crates/heap/proofs/Long.antt": "x\n" * (lengths.MOST_OF_FILE + 1),
         "crates/heap/out/made.rt": "fn made_by_a_tool() {}\n" * 500,
@@ -49,6 +51,34 @@ def fake():
         "tests/cases/long.story": "x\n" * (lengths.MOST_OF_FILE + 1),
         standing.KNOWN: "# known\none\none\ntwo\n",
     }
+
+
+# A lemma that another cites, one that is cited under another name, and three that nothing cites but themselves and a comment.
+LEMMAS = """use Heap.{renamed as it}
+
+cited : one
+cited = it
+
+pub renamed : two
+unfolding step
+renamed = cited
+
+-- left, which is of no use
+pub left : (n : ℕ)
+    → three
+left zero = cited
+left (suc n) = record {
+  more = left n;
+}
+
+module _ (n : ℕ) where
+  pub inner : four
+  inner = cited
+
+  last :
+      four
+  last = cited
+"""
 
 
 # What each finder is to find there.
@@ -78,6 +108,7 @@ WANTED = {
         "crates/heap/src/lib.rt: io is imported and isn't used",
         "crates.txt: heap names nothing of clap",
     ],
+    citations: [f"crates/heap/proofs/Lemmas.antt: nothing cites {it}" for it in ("left", "inner", "last")],
     names: [
         "README.md: `Heap::walk` isn't in the tree",
         "README.md: `pace` of `heap` isn't in the tree",

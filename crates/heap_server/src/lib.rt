@@ -18,3 +18,6 @@ pub use naming::{Begun, Calls, Ended, Naming, Opening, Units};
 pub use place::{Front, HistoryLength, Opened};
 pub use play::{Outcome, play_threads};
 pub use server::Server;
+
+#[cfg(test)]
+mod tests;

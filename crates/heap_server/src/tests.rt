@@ -11,15 +11,18 @@ use std::marker::Brand;
 use std::process::Abort;
 use std::sync::Wait;
 
-/// Two mutators.
-const TWO: Settings = Settings {
+/// A seat for each of two mutators.
+const TWO_MUTATORS: Settings = Settings {
     mutators: 2,
     live: 2,
     ..Settings::DEFAULTS
 };
 
 /// One seat makes a call; then another reads the place while the lock is held, at which a call would wait for ever.
-fn held<N: Naming, R: Wait + Abort + AllocGlobal>(rt: &R, opening: Opening) -> Result<u64, NoMemory>
+fn read_while_held<N: Naming, R: Wait + Abort + AllocGlobal>(
+    rt: &R,
+    opening: Opening,
+) -> Result<u64, NoMemory>
     requires names { names_of opening ≡ N.names }
 {
     let (server, mut seats, _pacer) = Server::<N>::new(rt.alloc(), opening)?;
@@ -39,10 +42,10 @@ fn held<N: Naming, R: Wait + Abort + AllocGlobal>(rt: &R, opening: Opening) -> R
 
 #[test]
 fn the_place_is_read_while_the_lock_is_held(rt: HostRuntime) -> Result<(), NoMemory> {
-    let Ok(config) = Config::check(Ranges::Library, &TWO) else {
+    let Ok(config) = Config::check(Ranges::Library, &TWO_MUTATORS) else {
         panic!(&rt; "the settings are good");
     };
-    let place = held::<Brand, _>(&rt, Opening::new(&config))?;
+    let place = read_while_held::<Brand, _>(&rt, Opening::new(&config))?;
     assert!(&rt; place == 1);
     Ok(())
 }

@@ -21,7 +21,7 @@ end_more : (q last : Turn) (later : List Turn) → end_of q (later ++ last ∷ [
 end_more q last [] = refl
 end_more q last (next ∷ later) = end_more next last later
 
--- one more
+-- one more quantum
 pub stretch_longer : (these : List Turn) (q : Turn) (s : Interval) → stretch these ≡ Some s → Some (record { start = s.start; end = q.0.end }) ≡ stretch (these ++ q ∷ [])
 stretch_longer [] q s e = absurd (cc)
 stretch_longer (x ∷ later) q s e =

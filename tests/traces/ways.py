@@ -20,6 +20,12 @@ def suffices(lines):
     return any(it.startswith("pages ") and it.split()[4] == "suffice" for it in lines)
 
 
+def found(lines):
+    """The keys with which room is said to be for the trace itself; None where no number of pages is known to suffice."""
+    said = [it.split(": ")[1] for it in lines if it.startswith("for this trace ")]
+    return {key: int(value) for key, value in (it.split(" = ") for it in said[0].split(", "))} if said else None
+
+
 def named(lines, way):
     """The number of pages that is named for a way; None where no number is known to suffice."""
     found = [it[len(way) :].split(":")[0] for it in lines if it.startswith(way)]

@@ -1,5 +1,5 @@
 -- What is reported of the pages that a program needs: lines of text.
-use Rattle.std.specs.Prelude.{◌≡◌, ℕ, ◌+◌, ◌*◌, ◌≤◌, ◌==◌, min, max, nat_le, nat_lt, Bool, true, false, if◌then◌else◌, List, [], ◌++◌, Option, Some, None, codes, decimal}
+use Rattle.std.specs.Prelude.{◌≡◌, ℕ, ◌+◌, ◌*◌, ◌≤◌, ◌==◌, nat_le, nat_lt, Bool, true, false, if◌then◌else◌, List, [], ◌++◌, Option, Some, None, codes, decimal}
 use Rattle.size_classes.specs.declared.class.TheConstants.{CLASSES}
 use Rattle.settings.specs.declared.config.Config.{Config}
 use Rattle.settings.specs.declared.config.TheConstants.{MOST_PAGES}
@@ -11,7 +11,7 @@ use Rattle.space.specs.Fitting.{pace_in, pages_needed, quanta_needed, FitsIn, Is
 use Rattle.fragmentation.specs.Suffice.{demand_pages}
 use Rattle.sizing.specs.declared.needed.Needed.{Needed}
 use Rattle.sizing.specs.Measured.{together_in, page_demand_in}
-use Rattle.sizing.specs.Reckoned.{still_pages, moved_pages, needed_pages}
+use Rattle.sizing.specs.Reckoned.{still_pages, moved_pages, fewest_pages, needed_pages}
 use Rattle.inspector.specs.ClassLines.{class_lines}
 use Rattle.inspector.specs.declared.pages_needed.lines.Scope.{Scope}
 use Rattle.inspector.specs.declared.pages_needed.lines.Scope.TheVariants.{Demand as By_demand, Pace as By_pace, Load as By_load}
@@ -48,24 +48,27 @@ abbrev pub form_lines : ℕ → ℕ → ℕ → Needed → List ℕ
 form_lines still moved budgeted n =
     still_line still ++ (moved_line moved ++ (gathered_line n.gathered ++ page_demand_line budgeted n))
 
--- the fewest pages of these ways, and at least the one that each heap has
-abbrev pub fewest_pages : ℕ → ℕ → ℕ → ℕ
-fewest_pages still moved moving = max (min (min still moved) moving) 1
-
--- the keys to set for this many pages: those with which nothing is moved, if that suffices; else with moving as it
--- is configured, if it does; else with moving after each sweep
+-- the keys to set for this many pages: a sweep that leaves fewer free ones than this is followed by moving, which empties so
+-- many, unless it never follows
 abbrev pub keys_line : ℕ → ℕ → ℕ → List ℕ
-keys_line still moved pages = codes "fewest " ++ (decimal pages ++ (codes ": pages = " ++ (decimal pages ++ (
-    if nat_le still pages then codes ", defrag_below = 0\n"
-    else if nat_le moved pages then codes "\n"
-    else codes ", defrag_below = " ++ (decimal (pages + 1)
-    ++ (codes ", defrag_pages = " ++ (decimal pages ++ codes "\n")))))))
+keys_line pages below emptied = codes "pages = " ++ (decimal pages ++ (codes ", defrag_below = " ++ (decimal below
+    ++ (if below == 0 then codes "\n" else codes ", defrag_pages = " ++ (decimal emptied ++ codes "\n")))))
 
--- the fewest pages, with the keys to set for them, or that they are more than a file may ask for
-abbrev pub fewest_line : ℕ → ℕ → ℕ → List ℕ
-fewest_line still moved pages = if nat_lt MOST_PAGES pages
-    then codes "fewest " ++ (decimal pages ++ codes ": more than a file may ask for\n")
-    else keys_line still moved pages
+-- the keys to set for the fewest pages: those with which nothing is moved, if that suffices, else those with which moving
+-- follows each sweep; or that they are more than a file may ask for
+abbrev pub fewest_keys : ℕ → ℕ → List ℕ
+fewest_keys still pages = if nat_lt MOST_PAGES pages then codes "more than a file may ask for\n"
+    else keys_line pages (if nat_le still pages then 0 else pages + 1) pages
+
+-- the fewest pages, with these keys
+abbrev pub fewest_line : ℕ → ℕ → List ℕ
+fewest_line still pages = codes "fewest " ++ (decimal pages ++ (codes ": " ++ fewest_keys still pages))
+
+-- on how many pages this very trace finds room, with the keys to set for them; or that no number of them is known
+abbrev pub room_line : Option Config → List ℕ
+room_line (Some c) = codes "for this trace " ++ (decimal c.pages ++ (codes ": "
+    ++ keys_line c.pages c.defrag_below c.defrag_pages))
+room_line None = codes "for this trace: no number of pages up to 4096 is known to suffice\n"
 
 -- for which runs the pages suffice, where they are as many as are needed; else a run may be refused an object or not
 abbrev pub verdict : Scope → Bool → List ℕ
@@ -79,16 +82,12 @@ abbrev pub pages_line : Scope → ℕ → ℕ → List ℕ
 pages_line scope needed pages =
     codes "pages " ++ (decimal needed ++ (codes " of " ++ (decimal pages ++ verdict scope (nat_le needed pages))))
 
--- the fewest pages that suffice for what was needed
-abbrev pub fewest_for : Config → Needed → ℕ
-fewest_for c n = fewest_pages (still_pages n) (moved_pages c n) (min n.gathered (demand_pages (page_demand_in n)))
-
 -- all that is reported of what a run needed
 abbrev pub needed_report : Config → Needed → List ℕ
 needed_report c n =
     class_lines (blocks_line n) CLASSES
     ++ (form_lines (still_pages n) (moved_pages c n) (demand_pages (page_demand_in n)) n
-    ++ (fewest_line (still_pages n) (moved_pages c n) (fewest_for c n)
+    ++ (fewest_line (still_pages n) (fewest_pages n)
     ++ pages_line By_demand (needed_pages c n) c.pages))
 
 -- where no table has room for the blocks

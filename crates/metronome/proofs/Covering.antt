@@ -32,7 +32,8 @@ use Rattle.sizing.specs.Keeping.{LoadChecked}
 use Rattle.sizing.proofs.arrivals.Beats.{pace_lives}
 use Rattle.sizing.proofs.arrivals.Roomy.{finds_room}
 use Rattle.inspector.specs.LoadReport.{IsCovered, IsLoadReport}
-use Rattle.metronome.specs.Loaded.{ReadsText, TextMeasured, TextChecked, TellsLoad}
+use Rattle.metronome.specs.Loaded.{TextChecked, TellsLoad}
+use Rattle.metronome.specs.Texts.{ReadsText, TextMeasured}
 
 -- what was given of a text that was read to its end is all of it
 all_read : (text : List ℕ) (given : Given) → ReadsText text given → IsTrue given.ended → given.after ≡ text

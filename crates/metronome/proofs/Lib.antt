@@ -8,5 +8,6 @@ pub mod Covering
 pub mod Failing
 pub mod Below
 pub mod Alive
+mod Rooms
 mod Obeying
 mod LoadsRead

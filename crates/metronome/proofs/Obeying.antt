@@ -23,7 +23,8 @@ use Rattle.metronome.specs.declared.fault.RunFault.{RunFault}
 use Rattle.metronome.specs.declared.fault.RunFault.TheVariants.{Text}
 use Rattle.metronome.specs.Faults.{failed_reads, IsUnreadable}
 use Rattle.metronome.specs.Files.{KnownFile, KnownFiles, no_file, IsOpened, IsFront, document_bytes}
-use Rattle.metronome.specs.Loaded.{IsRest, LoadRead}
+use Rattle.metronome.specs.Loaded.{LoadRead}
+use Rattle.metronome.specs.Texts.{IsRest}
 use Rattle.metronome.specs.Done.{JobDone, JobCountsReads}
 use Rattle.metronome.specs.Run.{load_file, other_file, IsGivenOf, JobDoneOn}
 

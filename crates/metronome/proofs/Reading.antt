@@ -5,7 +5,7 @@ use Rattle.std.proofs.lemmas.Option.{same_Some}
 use Rattle.streams.specs.declared.memory.MemorySource.{MemorySource}
 use Rattle.streams.specs.Memory.{take_begins}
 use Rattle.streams.specs.Streams.{Begins, Stays}
-use Rattle.metronome.specs.Loaded.{ReadsText}
+use Rattle.metronome.specs.Texts.{ReadsText}
 
 -- a source over memory that has given nothing yet gives its bytes from the first on
 pub reads_text : (text : List ℕ) (old new : MemorySource) → old.bytes.now ≡ text → old.at ≡ 0 → Stays (Some old.bytes.now) (Some new.bytes.now)

@@ -1,5 +1,5 @@
 -- What is answered about an input.
-use Rattle.std.specs.Prelude.{◌≡◌, ℕ, Bool, true, false, ◌⊎◌, List, [], ◌∷◌, ◌++◌, codes, decimal}
+use Rattle.std.specs.Prelude.{◌≡◌, ℕ, ◌⊎◌, List, [], ◌∷◌, ◌++◌, codes, decimal}
 use Rattle.std.specs.Prelude.{Result, Ok, Err, String, string_bytes}
 use Rattle.std.specs.declared.alloc.AllocError.{AllocError}
 use Rattle.std.specs.declared.alloc.Global.{Global}
@@ -17,7 +17,7 @@ use Rattle.inspector.specs.declared.cycles.text.Layout.{Layout}
 use Rattle.inspector.specs.Taking.{CyclesTaken}
 use Rattle.inspector.specs.CyclesText.{cycles_told}
 use Rattle.inspector.specs.declared.pages_needed.lines.Scope.TheVariants.{Pace as By_pace}
-use Rattle.inspector.specs.NeededReport.{needed_told, IsPaceReport}
+use Rattle.inspector.specs.NeededReport.{IsPaceReport}
 use Rattle.sizing.specs.declared.measured.Measured.{Measured}
 use Rattle.sizing.specs.Measured.{least_units, HasUnits}
 use Rattle.sizing.specs.Measuring.{TraceMeasured}
@@ -46,12 +46,11 @@ abbrev pub verdict : Checked → Ending
 verdict (Good entries) = Done
 verdict (Wrong line) = WrongReply
 
--- the lines of what a trace needed: in blocks and pages, or at its pace, with quanta of the least units that any had,
--- or has by the schedule
-abbrev pub TellsPages : Bool → Config → Measured → List ℕ → Type 0
-TellsPages false config m text = text ≡ needed_told config m.needed
-TellsPages true config m text = (slow : Config) × HasUnits config (least_units config m.budget) slow
-    × IsPaceReport By_pace slow m.pace text
+-- the lines of the pace of a trace, with quanta of the least units that any had, or has by the schedule
+pub record TellsPace (config : Config) (m : Measured) (text : List ℕ) : Type 0 where
+  pub slow : Config
+  pub units : HasUnits config (least_units config m.budget) slow
+  pub report : IsPaceReport By_pace slow m.pace text
 
 -- the answer with a text, if there is memory for it
 abbrev pub Offers : Result (String Global) AllocError → Ending → Result Answer PlayFault → Type 0
@@ -77,12 +76,11 @@ CyclesTold layout config given answered = (how : Result Cycles PlayFault) × Cyc
     × AnswerOf (λ log answer. (string_bytes answer.text ≡ cycles_told layout log.items.items) × (answer.ending ≡ Done))
     how answered
 
--- A trace was measured on a new heap, and the pages that it needs are reported: where they suffice, `TraceMeasured`
--- promises room to this run, and to those of which the verdict speaks; and on as many as a line gives for a way, to
--- those that the line names.
-abbrev pub PagesTold : Bool → Config → Given → Result Answer PlayFault → Type 0
-PagesTold pace config given answered = (how : Result Measured PlayFault) × TraceMeasured config given how
-    × AnswerOf (λ m answer. TellsPages pace config m (string_bytes answer.text) × (answer.ending ≡ Done)) how answered
+-- A trace was measured on a new heap, and the pages that its pace needs are reported: where they suffice,
+-- `TraceMeasured` promises room to this run, and to those of which the verdict speaks.
+abbrev pub PaceTold : Config → Given → Result Answer PlayFault → Type 0
+PaceTold config given answered = (how : Result Measured PlayFault) × TraceMeasured config given how
+    × AnswerOf (λ m answer. TellsPace config m (string_bytes answer.text) × (answer.ending ≡ Done)) how answered
 
 -- A trace was played on a new heap, and the plans are told for the most words that its live objects had; and the fewest
 -- pages with a plan for the size classes of which it made blocks.
@@ -94,7 +92,7 @@ PlanTold config given answered = (how : Result MostLive PlayFault) × MostLiveFo
 abbrev pub IsAnswer : Question → Config → Given → Result Answer PlayFault → Type 0
 IsAnswer questions.History config given answered = HistoryChecked config given answered
 IsAnswer (questions.Cycles layout) config given answered = CyclesTold layout config given answered
-IsAnswer (questions.Pages pace) config given answered = PagesTold pace config given answered
+IsAnswer questions.Pace config given answered = PaceTold config given answered
 IsAnswer questions.Plan config given answered = PlanTold config given answered
 
 -- an answer is written

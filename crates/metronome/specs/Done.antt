@@ -1,5 +1,5 @@
 -- What the job of a command line reads and writes.
-use Rattle.std.specs.Prelude.{ℕ, Bool, true, false, if◌then◌else◌, None, option_map, Result}
+use Rattle.std.specs.Prelude.{ℕ, Bool, if◌then◌else◌, None, option_map, Result}
 use Rattle.settings.specs.declared.config.Config.{Config}
 use Rattle.heap_model.specs.Event.{present_of}
 use Rattle.streams.specs.Streams.{Given, Taken}
@@ -20,6 +20,7 @@ use Rattle.metronome.specs.Answered.{Answered}
 use Rattle.metronome.specs.OverTime.{TimeDrawn}
 use Rattle.metronome.specs.Plans.{TellsPlans}
 use Rattle.metronome.specs.Told.{ReportTold}
+use Rattle.metronome.specs.Demand.{DemandTold}
 use Rattle.metronome.specs.Loaded.{LoadTold, LoadCountsReads}
 use Rattle.metronome.specs.After.{AfterPlay}
 use Rattle.metronome.specs.Telling.{HeapReported, PictureDrawn, GraphTold, TellsWhy, WindowsTold}
@@ -46,8 +47,8 @@ JobDone files (Mmu windows) config = AfterPlay (λ p. WindowsTold config p.timet
 JobDone files (Draw picture after) config = AfterPlay (PictureDrawn picture config) after config
 JobDone files (DrawGraph after most) config = AfterPlay (λ p. GraphTold most (present_of p.course)) after config
 JobDone files DrawTime config = TimeDrawn config
-JobDone files (Pages Demand) config = Answered (questions.Pages false) config
-JobDone files (Pages Pace) config = Answered (questions.Pages true) config
+JobDone files (Pages Demand) config = DemandTold config
+JobDone files (Pages Pace) config = Answered questions.Pace config
 JobDone files (Pages (Load file)) config = LoadTold (files.named file.now) config
 JobDone files (Pages By_plan) config = Answered questions.Plan config
 JobDone files (Plan live classes draw) config =

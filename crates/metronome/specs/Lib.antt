@@ -10,6 +10,9 @@ pub mod OverTime
 pub mod Plans
 pub mod Progress
 pub mod Answered
+pub mod Texts
+pub mod Demand
+pub mod Bounds
 pub mod Loaded
 pub mod Done
 pub mod Run

@@ -1,12 +1,11 @@
 -- What is reported of a load, and of a trace that is to keep to it.
-use Rattle.std.specs.Prelude.{◌≡◌, ℕ, ◌*◌, true, IsTrue, ◌⊎◌, List, [], ◌++◌, IfSome, Result, Ok, Err}
+use Rattle.std.specs.Prelude.{◌≡◌, ℕ, ◌*◌, true, ◌⊎◌, List, IfSome, Result, Ok, Err}
 use Rattle.settings.specs.declared.config.Config.{Config}
 use Rattle.heap_model.specs.Event.{Event}
 use Rattle.trace.specs.declared.fault.PlayFault.{PlayFault}
-use Rattle.streams.specs.Streams.{Given, Taken, Begins}
+use Rattle.streams.specs.Streams.{Given, Taken}
 use Rattle.sizing.specs.declared.measured.Measured.{Measured}
 use Rattle.space.specs.Room.{AllHaveRoom}
-use Rattle.sizing.specs.Measuring.{TraceMeasured}
 use Rattle.sizing.specs.declared.arrivals.load.AllocationProfile.{AllocationProfile as LoadTable}
 use Rattle.sizing.specs.declared.arrivals.keeping.Conformance.{Conformance}
 use Rattle.sizing.specs.AllocationProfile.{AllocationProfile}
@@ -22,14 +21,7 @@ use Rattle.metronome.specs.declared.fault.RunFault.TheVariants.{Load}
 use Rattle.metronome.specs.Files.{KnownFile}
 use Rattle.metronome.specs.Faults.{CountsReads, IsUnreadable}
 use Rattle.metronome.specs.Told.{ReportTold, NothingTold, ToldOf}
-
--- a text, or a beginning of it, was given from its first byte
-abbrev pub ReadsText : List ℕ → Given → Type 0
-ReadsText text given = (given.before ≡ []) × Begins given.after given.ended text
-
--- a trace of this text was measured on a new heap
-abbrev pub TextMeasured : Config → List ℕ → Result Measured PlayFault → Type 0
-TextMeasured config text how = (given : Given) × ReadsText text given × TraceMeasured config given how
+use Rattle.metronome.specs.Texts.{ReadsText, TextMeasured, IsRest}
 
 -- a trace of this text was checked against a load, with quanta of the schedule's units
 abbrev pub TextChecked : Config → AllocationProfile → List ℕ → Result Conformance PlayFault → Type 0
@@ -58,10 +50,6 @@ module _ (config : Config) (l : LoadTable) where
   abbrev pub TextTold : List ℕ → Taken → Result Ending RunFault → Type 0
   TextTold text taken result = (how : Result Measured PlayFault) × (run : TextMeasured config text how)
       × CheckedAfter text how run taken result
-
--- all that a source had still to give is this text
-abbrev pub IsRest : Given → List ℕ → Type 0
-IsRest given text = (given.after ≡ given.before ++ text) × IsTrue given.ended
 
 -- What was read of a load's file: the load that its bytes state, where they are known, or what is wrong with them; or the
 -- file can't be read.

@@ -4,11 +4,11 @@ ghost use Rattle.trace.specs.LinesProcessed.{reads_failed};
 ghost use Rattle.streams.specs.Streams.{given_by, taken_by, Stays};
 ghost use Rattle.metronome.specs.Faults.{failed_reads, failed_writes};
 ghost use Rattle.metronome.specs.Told.{TextWritten};
-ghost use Rattle.metronome.specs.Answered.{EntriesTaken, verdict, told_of, TellsPages, Offers, IsAnswer, Answered};
+ghost use Rattle.metronome.specs.Answered.{EntriesTaken, verdict, told_of, TellsPace, Offers, IsAnswer, Answered};
 
 use crate::fault::{Ending, RunFault};
 use graph_heap::Reference;
-use inspector::pages_needed::{Scope, needed_report, pace_report};
+use inspector::pages_needed::{Scope, pace_report};
 use inspector::{Layout, Log, cycles_text};
 use plans::{LiveMeter, run_plans};
 use player::survey_run;
@@ -26,10 +26,9 @@ pub enum Question {
     History,
     /// Which cycles the run of a trace had: a line for each.
     Cycles(Layout),
-    /// What a trace needs of each size class and how many pages suffice, in each way; or that of its pace. Where those
-    /// of the configuration do, no reply of this run was the refusal for lack of space, nor is one of any run that
-    /// needs no more.
-    Pages { pace: bool },
+    /// What pace a trace has, and how many pages suffice for it. Where those of the configuration do, no reply of this run
+    /// was the refusal for lack of space, nor is one of any run at this pace.
+    Pace,
     /// By which plans a heap paces itself, for the most words of blocks that live objects have in the run of a trace.
     Plan,
 }
@@ -71,25 +70,12 @@ fn ending_of(checked: Checked) -> Ending
     }
 }
 
-/// The lines of what a trace needed, or of its pace.
-fn pages_text(
-    alloc: Global,
-    config: &Config,
-    measured: &Measured,
-    pace: bool,
-) -> Result<String, AllocError>
-    ensures { IfOk result (λ text. TellsPages pace config.now measured.now (string_bytes text)) }
+/// The lines of the pace of a trace.
+fn pace_text(alloc: Global, config: &Config, measured: &Measured) -> Result<String, AllocError>
+    ensures { IfOk result (λ text. TellsPace config.now measured.now (string_bytes text)) }
 {
-    if pace {
-        pace_report(
-            alloc,
-            &measured.slowest(config),
-            &measured.pace,
-            Scope::Pace,
-        )
-    } else {
-        needed_report(alloc, config, &measured.needed)
-    }
+    let slow = measured.slowest(config);
+    pace_report(alloc, &slow, &measured.pace, Scope::Pace)
 }
 
 /// The answer with a text, if there was memory for it.
@@ -125,9 +111,9 @@ fn answer_to<S: Source>(
                 Ending::Done,
             )
         }
-        Question::Pages { pace } => {
+        Question::Pace => {
             let measured = survey_run::<Meter, S>(alloc, config, source)?;
-            offer(pages_text(alloc, config, &measured, pace), Ending::Done)
+            offer(pace_text(alloc, config, &measured), Ending::Done)
         }
         Question::Plan => {
             let live = survey_run::<LiveMeter, S>(alloc, config, source)?;

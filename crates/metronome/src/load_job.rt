@@ -4,17 +4,18 @@ ghost use Rattle.trace.specs.LinesProcessed.{reads_failed};
 ghost use Rattle.streams.specs.Streams.{given_by, taken_by, Stays};
 ghost use Rattle.sizing.specs.Fitting.{load_in};
 ghost use Rattle.metronome.specs.Faults.{failed_reads, failed_writes};
-ghost use Rattle.metronome.specs.Loaded.{LoadRead, LoadTold, LoadCountsReads, TextMeasured, TextChecked, TextTold};
+ghost use Rattle.metronome.specs.Loaded.{LoadRead, LoadTold, LoadCountsReads, TextChecked, TextTold};
 
 use crate::fault::{Ending, RunFault};
 use crate::files::{Opener, read_bytes, read_document};
+use crate::measuring::measure_text;
+use crate::told::tell_text;
 use inspector::load_kept::load_report;
-use player::survey_run;
 use settings::Config;
 use sizing::arrivals::{AllocationProfile, Conformance, keeps_load};
-use sizing::{LoadFault, Measured, Meter, read_load};
+use sizing::{LoadFault, read_load};
 use std::alloc::Global;
-use streams::{MemorySource, Sink, Source, write_all};
+use streams::{MemorySource, Sink, Source};
 use trace::PlayFault;
 
 /// The load that a file gives.
@@ -27,15 +28,6 @@ fn load_of<O: Opener>(alloc: Global, opener: &O, name: &str) -> Result<Allocatio
         Err(LoadFault::Refused(why)) => Err(RunFault::Load(why)),
         Err(LoadFault::NoMemory) => Err(RunFault::Text(PlayFault::NoMemory)),
     }
-}
-
-/// What the trace of a text needs on a new heap.
-fn measure_text(alloc: Global, config: &Config, text: &[u8]) -> Result<Measured, PlayFault>
-    ensures measured { TextMeasured config.now text.now result }
-    ensures reads { reads_failed result ≡ 0 }
-{
-    let mut source = MemorySource::new(text);
-    survey_run::<Meter, _>(alloc, config, &mut source)
 }
 
 /// Whether the trace of a text keeps to a load.
@@ -53,7 +45,7 @@ fn check_text(
 
 /// Plays the trace of a text on a new heap, reads it again, and writes whether it keeps to a load and how many pages
 /// the load needs.
-fn tell_text<K: Sink>(
+fn tell_load<K: Sink>(
     alloc: Global,
     config: &Config,
     load: &AllocationProfile,
@@ -66,11 +58,7 @@ fn tell_text<K: Sink>(
 {
     let measured = measure_text(alloc, config, text)?;
     let kept = check_text(config, load, text)?;
-    let Ok(text) = load_report(alloc, config, load, kept, &measured.pace) else {
-        return Err(RunFault::Text(PlayFault::NoMemory));
-    };
-    write_all(sink, text.as_bytes())?;
-    Ok(Ending::Done)
+    tell_text(load_report(alloc, config, load, kept, &measured.pace), sink)
 }
 
 /// Reads a trace into memory, since it is needed twice, and writes whether it keeps to the load of a file and how
@@ -91,5 +79,5 @@ pub fn load_job<O: Opener, S: Source, K: Sink>(
 {
     let load = load_of(alloc, opener, name)?;
     let text = read_bytes(alloc, source, None)?;
-    tell_text(alloc, config, &load, text.as_slice(), sink)
+    tell_load(alloc, config, &load, text.as_slice(), sink)
 }

@@ -3,13 +3,16 @@
 
 mod after;
 mod answer_job;
+mod demand_job;
 mod explain;
 mod fault;
 mod files;
 mod jobs;
 mod load_job;
+mod measuring;
 mod plan_job;
 mod progress;
+mod room;
 mod run;
 mod time_job;
 mod told;

@@ -12,6 +12,7 @@ ghost use Rattle.metronome.specs.Status.{status_of};
 
 use crate::after::{Telling, after_play};
 use crate::answer_job::{Question, answer_job};
+use crate::demand_job::demand_job;
 use crate::explain::explain;
 use crate::fault::{Ending, RunFault};
 use crate::files::{Opener, open_file, read_document};
@@ -255,8 +256,8 @@ fn pages_job<S: Source, K: Sink, O: Opener, T: Threads + Wait + Sync>(
 {
     let alloc = host.alloc;
     match by {
-        Sizing::Demand => answer_job(alloc, config, source, sink, Question::Pages { pace: false }),
-        Sizing::Pace => answer_job(alloc, config, source, sink, Question::Pages { pace: true }),
+        Sizing::Demand => demand_job(alloc, config, source, sink),
+        Sizing::Pace => answer_job(alloc, config, source, sink, Question::Pace),
         Sizing::Load(file) => load_job(alloc, config, source, sink, host.opener, file),
         Sizing::Plan => answer_job(alloc, config, source, sink, Question::Plan),
     }

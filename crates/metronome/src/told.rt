@@ -8,7 +8,6 @@ ghost use Rattle.metronome.specs.declared.fault.RunFault.TheVariants as faults;
 ghost use Rattle.metronome.specs.Told.{MadeTextTold};
 
 use crate::fault::{Ending, RunFault};
-use graph_heap::NoMemory;
 use streams::{Sink, write_all};
 use trace::PlayFault;
 
@@ -26,11 +25,16 @@ pub fn ended<E: Drop>(written: Result<(), E>) -> Result<Ending, RunFault>
 }
 
 /// Writes the text of a report; nothing where memory was refused for it.
-pub fn tell_text<K: Sink>(text: Result<String, NoMemory>, sink: &mut K) -> Result<Ending, RunFault>
+pub fn tell_text<E: Drop, K: Sink>(
+    text: Result<String, E>,
+    sink: &mut K,
+) -> Result<Ending, RunFault>
     ensures told { MadeTextTold text (taken_by K.taken sink.old sink.new) result }
     ensures reads { failed_reads result ≡ 0 }
     ensures writes { K.failures sink.new ≡ K.failures sink.old + failed_writes result }
 {
-    let text = text?;
+    let Ok(text) = text else {
+        return Err(RunFault::Text(PlayFault::NoMemory));
+    };
     ended(write_all(sink, text.as_bytes()))
 }

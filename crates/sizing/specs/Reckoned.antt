@@ -1,12 +1,12 @@
 -- How many pages suffice for what was needed.
-use Rattle.std.specs.Prelude.{ℕ, ◌+◌, ◌&&◌, if◌then◌else◌, min, nat_le, nat_lt, Bool}
+use Rattle.std.specs.Prelude.{ℕ, ◌+◌, ◌&&◌, if◌then◌else◌, min, max, nat_le, nat_lt, Bool}
 use Rattle.size_classes.specs.declared.class.TheConstants.{CLASSES}
 use Rattle.settings.specs.declared.config.Config.{Config}
 use Rattle.space.specs.Space.{pages_for}
 use Rattle.space.specs.Fitting.{spare_in, below_in}
-use Rattle.fragmentation.specs.Suffice.{sparse_pages}
+use Rattle.fragmentation.specs.Suffice.{sparse_pages, demand_pages}
 use Rattle.sizing.specs.declared.needed.Needed.{Needed}
-use Rattle.sizing.specs.Measured.{together_in}
+use Rattle.sizing.specs.Measured.{together_in, page_demand_in}
 
 -- the pages that suffice where blocks are never moved
 abbrev pub still_pages : Needed → ℕ
@@ -27,3 +27,7 @@ moves_all c = nat_lt c.pages c.defrag_below && nat_le c.pages c.defrag_pages
 -- the pages that a configuration must have: those, or where each cycle gathers every class as many as that takes
 abbrev pub needed_pages : Config → Needed → ℕ
 needed_pages c n = if moves_all c then min (moved_pages c n) n.gathered else moved_pages c n
+
+-- the fewest pages that suffice, without moving or with moving after each sweep, and at least the one that each heap has
+abbrev pub fewest_pages : Needed → ℕ
+fewest_pages n = max (min (still_pages n) (min n.gathered (demand_pages (page_demand_in n)))) 1

@@ -5,7 +5,7 @@ ghost use Rattle.space.specs.declared.pages.TheConstants.{MOST_CLASS_PAGES};
 ghost use Rattle.space.specs.Space.{pages_for};
 ghost use Rattle.fragmentation.specs.Suffice.{sparse_pages, demand_pages};
 ghost use Rattle.sizing.specs.Measured.{together_in, page_demand_in};
-ghost use Rattle.sizing.specs.Reckoned.{still_pages, moved_pages, moves_all, needed_pages};
+ghost use Rattle.sizing.specs.Reckoned.{still_pages, moved_pages, moves_all, fewest_pages, needed_pages};
 
 use crate::page_counts::gathered_of;
 use settings::Config;
@@ -83,6 +83,14 @@ impl Needed {
         ensures { result ≡ demand_pages (page_demand_in self.now) }
     {
         u128::from(self.live) + 2 * u128::from(self.made) + CLASSES as u128
+    }
+
+    /// The fewest that suffice, without moving or with moving after each sweep that may empty all pages, and at least one.
+    pub fn fewest(&self) -> u128
+        ensures { result ≡ fewest_pages self.now }
+    {
+        let moving = u128::from(self.gathered).min(self.budgeted());
+        self.still().min(moving).max(1)
     }
 
     /// How many a configuration must have.

@@ -1,8 +1,7 @@
 //! What is reported of what a run needed.
-ghost use Rattle.std.specs.Prelude.{◌≡◌, ◌≤◌, IfOk, string_bytes};
-ghost use Rattle.settings.specs.declared.config.TheConstants.{MOST_PAGES};
+ghost use Rattle.std.specs.Prelude.{◌≡◌, ◌++◌, IfOk, string_bytes};
 ghost use Rattle.inspector.specs.NeededReport.{blocks_line, still_line, moved_line, gathered_line, page_demand_line, form_lines};
-ghost use Rattle.inspector.specs.NeededReport.{fewest_pages, keys_line, fewest_line, needed_report, needed_told};
+ghost use Rattle.inspector.specs.NeededReport.{keys_line, fewest_keys, fewest_line, room_line, needed_report, needed_told};
 
 use crate::class_lines::class_lines;
 use crate::pages_needed::lines::{Scope, pages_line, too_many};
@@ -76,38 +75,49 @@ fn form_lines(
     .concat(alloc)
 }
 
-/// The fewest pages of these ways, and at least the one that each heap has.
-fn fewest_pages(still: u128, moved: u128, moving: u128) -> u128
-    ensures { result ≡ fewest_pages still moved moving }
+/// The keys of a configuration to set for this many pages: below how many free ones moving follows a sweep, and how many it
+/// empties.
+fn keys_line(alloc: Global, pages: u32, below: u32, emptied: u32) -> Result<String, AllocError>
+    ensures { IfOk result (λ line. string_bytes line ≡ keys_line pages below emptied) }
 {
-    still.min(moved).min(moving).max(1)
+    if below == 0 {
+        return format!(in alloc; "pages = {pages}, defrag_below = {below}\n");
+    }
+    format!(in alloc; "pages = {pages}, defrag_below = {below}, defrag_pages = {emptied}\n")
 }
 
-/// The keys of a configuration to set for this many pages.
-fn keys_line(alloc: Global, still: u128, moved: u128, pages: u128) -> Result<String, AllocError>
-    requires { pages ≤ MOST_PAGES }
-    ensures { IfOk result (λ line. string_bytes line ≡ keys_line still moved pages) }
+/// The keys for the fewest pages.
+fn fewest_keys(alloc: Global, still: u128, pages: u128) -> Result<String, AllocError>
+    ensures { IfOk result (λ line. string_bytes line ≡ fewest_keys still pages) }
 {
-    if still <= pages {
-        return format!(in alloc; "fewest {pages}: pages = {pages}, defrag_below = 0\n");
+    if pages > u128::from(MOST_PAGES) {
+        return format!(in alloc; "more than a file may ask for\n");
     }
-    if moved <= pages {
-        return format!(in alloc; "fewest {pages}: pages = {pages}\n");
-    }
-    let below = pages + 1;
-    format!(in alloc;
-        "fewest {pages}: pages = {pages}, defrag_below = {below}, defrag_pages = {pages}\n"
-    )
+    let count = pages as u32;
+    let below = if still <= pages { 0 } else { count + 1 };
+    keys_line(alloc, count, below, count)
 }
 
 /// The fewest pages, with the keys to set for them.
-fn fewest_line(alloc: Global, still: u128, moved: u128, pages: u128) -> Result<String, AllocError>
-    ensures { IfOk result (λ line. string_bytes line ≡ fewest_line still moved pages) }
+fn fewest_line(alloc: Global, still: u128, pages: u128) -> Result<String, AllocError>
+    ensures { IfOk result (λ line. string_bytes line ≡ fewest_line still pages) }
 {
-    if pages > u128::from(MOST_PAGES) {
-        return format!(in alloc; "fewest {pages}: more than a file may ask for\n");
-    }
-    keys_line(alloc, still, moved, pages)
+    let keys = fewest_keys(alloc, still, pages)?;
+    format!(in alloc; "fewest {pages}: {keys}")
+}
+
+/// On how many pages the very trace finds room, with the keys to set for them.
+fn room_line(alloc: Global, found: &Option<Config>) -> Result<String, AllocError>
+    ensures { IfOk result (λ line. string_bytes line ≡ room_line found.now) }
+{
+    let Some(config) = found else {
+        return format!(in alloc;
+            "for this trace: no number of pages up to 4096 is known to suffice\n"
+        );
+    };
+    let (pages, below, emptied) = (config.pages, config.defrag_below, config.defrag_pages);
+    let keys = keys_line(alloc, pages, below, emptied)?;
+    format!(in alloc; "for this trace {pages}: {keys}")
 }
 
 /// All lines of what was needed.
@@ -115,31 +125,37 @@ fn needed_lines(alloc: Global, config: &Config, needed: &Needed) -> Result<Strin
     ensures { IfOk result (λ text. string_bytes text ≡ needed_report config.now needed.now) }
 {
     let (still, moved) = (needed.still(), needed.moved(config));
-    let budgeted = needed.budgeted();
-    let moving = u128::from(needed.gathered).min(budgeted);
-    let pages = fewest_pages(still, moved, moving);
     [
         class_lines(alloc, |class| class_line(alloc, needed, class))?,
-        form_lines(alloc, still, moved, budgeted, needed)?,
-        fewest_line(alloc, still, moved, pages)?,
+        form_lines(alloc, still, moved, needed.budgeted(), needed)?,
+        fewest_line(alloc, still, needed.fewest())?,
         pages_line(alloc, Scope::Demand, needed.pages_in(config), config.pages)?,
     ]
     .concat(alloc)
 }
 
-/// What is reported of what a run needed: of each class whose blocks are needed its size in words, how many of them
-/// together, and the pages that they take; then how many pages suffice in each way, and for which runs; the fewest of
-/// these, with the keys to set for them; last how many pages the configuration must have, out of how many it has, and
-/// whether they suffice for this run and each that needs no more. Without numbers, that the blocks are too many.
-pub fn needed_report(
-    alloc: Global,
-    config: &Config,
-    needed: &Option<Needed>,
-) -> Result<String, AllocError>
+/// The lines of what was needed, or that the blocks are too many.
+fn told_of(alloc: Global, config: &Config, needed: &Option<Needed>) -> Result<String, AllocError>
     ensures { IfOk result (λ text. string_bytes text ≡ needed_told config.now needed.now) }
 {
     match needed {
         Some(needed) => needed_lines(alloc, config, needed),
         None => too_many(alloc),
     }
+}
+
+/// What is reported of what a run needed: of each class whose blocks are needed its size in words, how many of them
+/// together, and the pages that they take; then how many pages suffice in each way, and for which runs; the fewest
+/// without moving or with moving after each sweep, with the keys to set for them; then how many pages the configuration
+/// must have, out of how many it has, and whether they suffice for this run and each that needs no more. Without numbers,
+/// that the blocks are too many. Last on how many pages the trace of the run finds room, with the keys to set.
+pub fn needed_report(
+    alloc: Global,
+    config: &Config,
+    needed: &Option<Needed>,
+    found: &Option<Config>,
+) -> Result<String, AllocError>
+    ensures { IfOk result (λ text. string_bytes text ≡ needed_told config.now needed.now ++ room_line found.now) }
+{
+    [told_of(alloc, config, needed)?, room_line(alloc, found)?].concat(alloc)
 }

@@ -28,9 +28,9 @@ returns-in_err-text-clause-writes g c = omega (arith, unreadable_unwritten c.fro
 
 pub returns-clause-done : goal.returns-clause-done
 returns-clause-done g c =
-    let Told : List ℕ → Type 0 = λ text. TextTold c.args.config.now c.in_ok-load.load text (taken_by g.K.Sink.taken c.args.sink.now c.tell_text.new.sink) c.tell_text.result in
+    let Told : List ℕ → Type 0 = λ text. TextTold c.args.config.now c.in_ok-load.load text (taken_by g.K.Sink.taken c.args.sink.now c.tell_load.new.sink) c.tell_load.result in
     let rest = rest_read (given_by g.S.Source.given g.S.Source.ended c.args.source.now c.read_bytes.new.source) c.in_ok-text.text.items c.in_ok-text.ensures.front in
-    inl (c.in_ok-load.load, c.in_ok-load.ensures, c.in_ok-text.text.items, rest, subst Told c.as_slice.ensures.value c.tell_text.ensures.told)
+    inl (c.in_ok-load.load, c.in_ok-load.ensures, c.in_ok-text.text.items, rest, subst Told c.as_slice.ensures.value c.tell_load.ensures.told)
 
 pub returns-clause-reads : goal.returns-clause-reads
-returns-clause-reads g c = inl (omega (arith, c.in_ok-text.ensures.reads, c.tell_text.ensures.reads))
+returns-clause-reads g c = inl (omega (arith, c.in_ok-text.ensures.reads, c.tell_load.ensures.reads))

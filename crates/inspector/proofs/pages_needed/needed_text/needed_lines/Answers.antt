@@ -1,4 +1,4 @@
-use Rattle.std.proofs.Common.{◌≡◌, ap, ◌∙◌, min, rules}
+use Rattle.std.proofs.Common.{◌≡◌, rules}
 use Rattle.inspector.specs.NeededReport.{blocks_line, needed_report}
 use Rattle.inspector.proofs.TextLines.{of_bytes}
 use Rattle.inspector.proofs.pages_needed.Rows.{whole_report}
@@ -7,7 +7,6 @@ use Rattle.inspector.proofs.pages_needed.needed_text.needed_lines.Goals as goal
 pub returns : goal.returns
 returns c =
     let n = c.args.needed.now in
-    let moving : c.min-moving.result ≡ min n.gathered c.budgeted-budgeted.result = c.min-moving.ensures ∙ ap (λ z. min z c.budgeted-budgeted.result) c.from.ensures in
     of_bytes _ _ (λ bytes. bytes ≡ needed_report c.args.config.now n) c.concat.ensures.ok
-    (whole_report n c.args.config.now c.still-still.result c.moved-moved.result c.budgeted-budgeted.result c.min-moving.result c.fewest_pages-pages.result c.pages_in.result c.still-still.ensures.pages c.moved-moved.ensures c.budgeted-budgeted.ensures moving
-    c.fewest_pages-pages.ensures c.pages_in.ensures _ _ _ _ (c.in_ok-class_lines.ensures (blocks_line n) (λ class told low post. search rules)) c.in_ok-form_lines.ensures c.in_ok-fewest_line.ensures c.in_ok-pages_line.ensures)
+    (whole_report n c.args.config.now c.still-still.result c.moved-moved.result c.budgeted.result c.fewest.result c.pages_in.result c.still-still.ensures.pages c.moved-moved.ensures c.budgeted.ensures c.fewest.ensures c.pages_in.ensures
+    _ _ _ _ (c.in_ok-class_lines.ensures (blocks_line n) (λ class told low post. search rules)) c.in_ok-form_lines.ensures c.in_ok-fewest_line.ensures c.in_ok-pages_line.ensures)

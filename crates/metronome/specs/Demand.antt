@@ -1,0 +1,77 @@
+-- What is reported of the pages that a trace needs, and on which pages it finds room.
+use Rattle.std.specs.Prelude.{◌≡◌, ℕ, ◌+◌, ◌≤◌, ◌⊎◌, nat_le, Bool, true, false, if◌then◌else◌, List, ◌++◌, Option, Some, None, Result, Ok, Err}
+use Rattle.settings.specs.Config.{limits_of}
+use Rattle.settings.specs.declared.config.Config.{Config}
+use Rattle.settings.specs.declared.config.TheConstants.{MOST_PAGES}
+use Rattle.trace.specs.declared.fault.PlayFault.{PlayFault}
+use Rattle.streams.specs.Streams.{Given, Taken}
+use Rattle.sizing.specs.declared.needed.Needed.{Needed}
+use Rattle.sizing.specs.declared.measured.Measured.{Measured}
+use Rattle.sizing.specs.Reckoned.{needed_pages}
+use Rattle.inspector.specs.NeededReport.{needed_told, room_line}
+use Rattle.metronome.specs.declared.fault.Ending.{Ending}
+use Rattle.metronome.specs.declared.fault.RunFault.{RunFault}
+use Rattle.metronome.specs.Faults.{IsUnreadable}
+use Rattle.metronome.specs.Texts.{TextMeasured, IsRest}
+use Rattle.metronome.specs.Told.{ReportTold, ToldOf}
+
+-- a configuration has the pages that it must have for what was needed, where that can be stated
+abbrev pub has_room : Config → Option Needed → Bool
+has_room c None = false
+has_room c (Some n) = nat_le (needed_pages c n) c.pages
+
+-- A configuration is another one with this many pages, on which nothing is moved, or moving follows each sweep and may empty
+-- every page. The rest stays.
+pub record IsResized (c : Config) (moves : Bool) (count : ℕ) (resized : Config) : Type 0 where
+  pub pages : resized.pages ≡ count
+  pub defrag_below : resized.defrag_below ≡ (if moves then count + 1 else 0)
+  pub defrag_pages : resized.defrag_pages ≡ (if moves then count else c.defrag_pages)
+  pub limits : limits_of resized ≡ limits_of c
+  pub collector_ticks : resized.collector_ticks ≡ c.collector_ticks
+  pub mutator_ticks : resized.mutator_ticks ≡ c.mutator_ticks
+  pub rate : resized.rate ≡ c.rate
+
+module _ (config : Config) (text : List ℕ) where
+  -- On this many pages, with moving or without, the trace of a text finds room or not: it was measured there.
+  abbrev pub Measures : Bool → ℕ → Bool → Config → Type 0
+  Measures moves pages room c = IsResized config moves pages c
+      × (m : Measured) × TextMeasured c text (Ok m) × (has_room c m.needed ≡ room)
+
+  -- it finds none
+  abbrev pub FindsNone : Bool → ℕ → Type 0
+  FindsNone moves pages = (c : Config) × Measures moves pages false c
+
+  -- on which configuration of this many pages it finds room: without moving, if it does so, else with it
+  abbrev pub IsRoomOn : ℕ → Option Config → Type 0
+  IsRoomOn pages None = FindsNone false pages × FindsNone true pages
+  IsRoomOn pages (Some c) = Measures false pages true c ⊎ (FindsNone false pages × Measures true pages true c)
+
+  -- on which it finds room, where it doesn't on one page fewer; or it doesn't on as many as a file may ask for
+  abbrev pub IsFound : Option Config → Type 0
+  IsFound None = IsRoomOn MOST_PAGES None
+  IsFound (Some c) = (c.pages ≤ MOST_PAGES) × IsRoomOn c.pages (Some c)
+      × ((fewer : ℕ) → 1 ≤ fewer → fewer + 1 ≡ c.pages → IsRoomOn fewer None)
+
+  -- this is what measuring it leads to; or one of the measurements ended with a fault
+  abbrev pub OrFault : {A : Type 0} → (A → Type 0) → Result A PlayFault → Type 0
+  OrFault Is (Ok it) = Is it
+  OrFault Is (Err why) = (c : Config) × TextMeasured c text (Err why)
+
+  -- Once the trace was measured on the configuration, it is reported what it needs there, and on which pages it finds room.
+  abbrev pub RoomTold : Measured → Taken → Result Ending RunFault → Type 0
+  RoomTold m taken result = (how : Result (Option Config) PlayFault) × OrFault IsFound how
+      × ToldOf (λ found. ReportTold (λ report. report ≡ needed_told config m.needed ++ room_line found)) how taken result
+
+  -- A trace of this text was measured on a new heap, and it was reported what it needs. Where the pages suffice,
+  -- `TraceMeasured` promises room to this run, and to those of which the verdict speaks; on as many as a line gives for a
+  -- way, to those that the line names; and to the run on the pages that were found.
+  abbrev pub NeededTold : Taken → Result Ending RunFault → Type 0
+  NeededTold taken result =
+      (how : Result Measured PlayFault) × TextMeasured config text how × ToldOf RoomTold how taken result
+
+-- A trace was read to its end, and from its text it was reported how many pages it needs; or it could not be read, and
+-- nothing was written.
+abbrev pub DemandTold : Config → Given → Taken → Result Ending RunFault → Type 0
+DemandTold config given taken result =
+    ((text : List ℕ) × IsRest given text × NeededTold config text taken result)
+    ⊎ ((fault : RunFault) × IsUnreadable true fault × (result ≡ Err fault) × (taken.after ≡ taken.before))

@@ -1,0 +1,21 @@
+//! Measuring a trace that was read into memory.
+ghost use Rattle.std.specs.Prelude.{◌≡◌};
+ghost use Rattle.trace.specs.LinesProcessed.{reads_failed, writes_failed};
+ghost use Rattle.metronome.specs.Texts.{TextMeasured};
+
+use player::survey_run;
+use settings::Config;
+use sizing::{Measured, Meter};
+use std::alloc::Global;
+use streams::MemorySource;
+use trace::PlayFault;
+
+/// What the trace of a text needs on a new heap.
+pub fn measure_text(alloc: Global, config: &Config, text: &[u8]) -> Result<Measured, PlayFault>
+    ensures measured { TextMeasured config.now text.now result }
+    ensures reads { reads_failed result ≡ 0 }
+    ensures writes { writes_failed result ≡ 0 }
+{
+    let mut source = MemorySource::new(text);
+    survey_run::<Meter, _>(alloc, config, &mut source)
+}

@@ -1,0 +1,178 @@
+//! On how many pages a trace finds room: it is measured on some numbers of them.
+ghost use Rattle.std.specs.Prelude.{◌≡◌, ◌≤◌, Some};
+ghost use Rattle.settings.specs.declared.config.TheConstants.{MOST_PAGES};
+ghost use Rattle.trace.specs.LinesProcessed.{reads_failed, writes_failed};
+ghost use Rattle.metronome.specs.Demand.{has_room, IsResized, Measures, IsRoomOn, IsFound, OrFault};
+ghost use Rattle.metronome.specs.Bounds.{room_of, AreBounds, BoundsOrNone};
+
+use crate::measuring::measure_text;
+use settings::{Config, MOST_PAGES};
+use sizing::Needed;
+use std::alloc::Global;
+use trace::PlayFault;
+
+/// Whether a configuration has the pages that it must have for what was needed, where that can be stated.
+fn has_room(config: &Config, needed: &Option<Needed>) -> bool
+    ensures { result ≡ has_room config.now needed.now }
+{
+    match needed {
+        Some(needed) => needed.pages_in(config) <= u128::from(config.pages),
+        None => false,
+    }
+}
+
+/// The configuration with this many pages, on which nothing is moved, or moving follows each sweep and may empty every
+/// page.
+fn resized(config: &Config, moves: bool, pages: u32) -> Config
+    requires { (1 ≤ pages) × (pages ≤ MOST_PAGES) }
+    ensures { IsResized config.now moves pages result }
+{
+    Config {
+        pages,
+        mutators: config.mutators,
+        slots: config.slots,
+        statics: config.statics,
+        identities: config.identities,
+        defrag_below: if moves { pages + 1 } else { 0 },
+        defrag_pages: if moves { pages } else { config.defrag_pages },
+        collector_ticks: config.collector_ticks,
+        mutator_ticks: config.mutator_ticks,
+        rate: config.rate,
+        live: config.live,
+    }
+}
+
+/// A trace that was measured on a configuration.
+#[derive(Clone, Copy)]
+struct Trial {
+    config: Config,
+    /// Whether it finds room there.
+    room: bool,
+    /// The fewest pages for what it needed there, of those that a file may ask for: room may be looked for on these next.
+    fewest: u32,
+}
+
+/// Measures the trace of a text on the configuration with this many pages, with moving or without.
+fn trial_of(
+    alloc: Global,
+    config: &Config,
+    text: &[u8],
+    moves: bool,
+    pages: u32,
+) -> Result<Trial, PlayFault>
+    requires { (1 ≤ pages) × (pages ≤ MOST_PAGES) }
+    ensures trial { OrFault config.now text.now (λ trial. Measures config.now text.now moves pages trial.room trial.config) result }
+    ensures reads { reads_failed result ≡ 0 }
+    ensures writes { writes_failed result ≡ 0 }
+{
+    let config = resized(config, moves, pages);
+    let needed = measure_text(alloc, &config, text)?.needed;
+    let (room, fewest) = (has_room(&config, &needed), fewest_of(&needed));
+    Ok(Trial {
+        config,
+        room,
+        fewest,
+    })
+}
+
+/// Measures it so that it finds room, if it does: without moving, or else with it.
+fn room_on(alloc: Global, config: &Config, text: &[u8], pages: u32) -> Result<Trial, PlayFault>
+    requires { (1 ≤ pages) × (pages ≤ MOST_PAGES) }
+    ensures trial { OrFault config.now text.now (λ trial. IsRoomOn config.now text.now pages (room_of trial)) result }
+    ensures reads { reads_failed result ≡ 0 }
+    ensures writes { writes_failed result ≡ 0 }
+{
+    let still = trial_of(alloc, config, text, false, pages)?;
+    if still.room {
+        return Ok(still);
+    }
+    trial_of(alloc, config, text, true, pages)
+}
+
+/// A trial with room, and a number of pages, fewer than it has, on which the trace finds none: or 0.
+#[derive(Clone, Copy)]
+struct Bounds {
+    below: u32,
+    found: Trial,
+}
+
+/// Bounds that are found from a number of pages on, at twice as many each time; None where there is no room on the most.
+fn widen(
+    alloc: Global,
+    config: &Config,
+    text: &[u8],
+    from: u32,
+) -> Result<Option<Bounds>, PlayFault>
+    requires { (1 ≤ from) × (from ≤ MOST_PAGES) }
+    ensures found { OrFault config.now text.now (BoundsOrNone config.now text.now) result }
+    ensures reads { reads_failed result ≡ 0 }
+    ensures writes { writes_failed result ≡ 0 }
+{
+    let (mut below, mut pages) = (0, from);
+    while below < MOST_PAGES {
+        let found = room_on(alloc, config, text, pages)?;
+        if found.room {
+            return Ok(Some(Bounds { below, found }));
+        }
+        below = pages;
+        pages = (2 * pages).min(MOST_PAGES);
+    }
+    Ok(None)
+}
+
+/// The configuration within bounds on which there is room, where there is none on one page fewer. It is looked for on the
+/// fewest pages for what was needed last; but below room at a distance that doubles each time, or at a greater one, and
+/// above what is too few on half of what is left, or more.
+fn narrow(alloc: Global, config: &Config, text: &[u8], bounds: Bounds) -> Result<Config, PlayFault>
+    requires { AreBounds config.now text.now bounds }
+    ensures found { OrFault config.now text.now (λ found. IsFound config.now text.now (Some found)) result }
+    ensures reads { reads_failed result ≡ 0 }
+    ensures writes { writes_failed result ≡ 0 }
+{
+    let Bounds {
+        mut below,
+        mut found,
+    } = bounds;
+    let (mut next, mut step) = (found.fewest, 1u32);
+    while found.config.pages - below > 1 {
+        let pages = next.max(below + 1).min(found.config.pages - 1);
+        let trial = room_on(alloc, config, text, pages)?;
+        if trial.room {
+            step = step.saturating_mul(2);
+            next = trial.fewest.min(pages.saturating_sub(step));
+            found = trial;
+        } else {
+            below = pages;
+            next = trial.fewest.max(below + (found.config.pages - below) / 2);
+        }
+    }
+    Ok(found.config)
+}
+
+/// The fewest pages for what was needed, of those that a file may ask for.
+fn fewest_of(needed: &Option<Needed>) -> u32
+    ensures { (1 ≤ result) × (result ≤ MOST_PAGES) }
+{
+    match needed {
+        Some(needed) => needed.fewest().min(u128::from(MOST_PAGES)) as u32,
+        None => MOST_PAGES,
+    }
+}
+
+/// The configuration on which the trace of a text finds room, where it doesn't on one page fewer: without moving, if it
+/// does so, or else with moving after each sweep. None where it doesn't on as many pages as a file may ask for.
+pub fn find_room(
+    alloc: Global,
+    config: &Config,
+    text: &[u8],
+    needed: &Option<Needed>,
+) -> Result<Option<Config>, PlayFault>
+    ensures found { OrFault config.now text.now (IsFound config.now text.now) result }
+    ensures reads { reads_failed result ≡ 0 }
+    ensures writes { writes_failed result ≡ 0 }
+{
+    match widen(alloc, config, text, fewest_of(needed))? {
+        Some(bounds) => Ok(Some(narrow(alloc, config, text, bounds)?)),
+        None => Ok(None),
+    }
+}

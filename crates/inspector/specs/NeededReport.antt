@@ -48,8 +48,8 @@ abbrev pub form_lines : ℕ → ℕ → ℕ → Needed → List ℕ
 form_lines still moved budgeted n =
     still_line still ++ (moved_line moved ++ (gathered_line n.gathered ++ page_demand_line budgeted n))
 
--- the keys to set for this many pages: a sweep that leaves fewer free ones than this is followed by moving, which empties so
--- many, unless it never follows
+-- the keys to set for this many pages, where moving follows a sweep that leaves fewer free ones than a number, and empties at
+-- most so many: the last key is there only if it may follow
 abbrev pub keys_line : ℕ → ℕ → ℕ → List ℕ
 keys_line pages below emptied = codes "pages = " ++ (decimal pages ++ (codes ", defrag_below = " ++ (decimal below
     ++ (if below == 0 then codes "\n" else codes ", defrag_pages = " ++ (decimal emptied ++ codes "\n")))))

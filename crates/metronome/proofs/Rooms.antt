@@ -6,15 +6,14 @@ use Rattle.settings.specs.declared.config.Config.{Config}
 use Rattle.trace.specs.declared.fault.PlayFault.{PlayFault}
 use Rattle.metronome.specs.declared.room.Trial.{Trial}
 use Rattle.metronome.specs.declared.room.Bounds.{Bounds}
-use Rattle.metronome.specs.Texts.{TextMeasured}
-use Rattle.metronome.specs.Demand.{Measures, FindsNone, IsRoomOn, IsFound, OrFault}
+use Rattle.metronome.specs.Demand.{Measures, FindsNone, IsRoomOn, IsFound, FailsBy, OrFault}
 use Rattle.metronome.specs.Bounds.{room_of, AreBounds}
 
 module _ (config : Config) (text : List ℕ) where
   -- the fault of a measurement is handed on
-  pub handed_on : {A : Type 0} (Is : A → Type 0) (r : Result A PlayFault) (why : PlayFault) → IsErrAnd r (λ e. e ≡ why) → (c : Config) × TextMeasured c text (Err why) → OrFault config text Is r
+  pub handed_on : {A : Type 0} (Is : A → Type 0) (r : Result A PlayFault) (why : PlayFault) → IsErrAnd r (λ e. e ≡ why) → FailsBy config text why → OrFault config text Is r
   handed_on Is (Ok it) why h m = elim h [ ]
-  handed_on Is (Err e) why h m = subst (λ w. (c : Config) × TextMeasured c text (Err w)) (sym h) m
+  handed_on Is (Err e) why h m = subst (FailsBy config text) (sym h) m
 
   -- what follows from what measuring leads to
   pub or_fault : {A : Type 0} (P Q : A → Type 0) (r : Result A PlayFault) → ((it : A) → P it → Q it) → OrFault config text P r → OrFault config text Q r

@@ -52,10 +52,14 @@ module _ (config : Config) (text : List ℕ) where
   IsFound (Some c) = (c.pages ≤ MOST_PAGES) × IsRoomOn c.pages (Some c)
       × ((fewer : ℕ) → 1 ≤ fewer → fewer + 1 ≡ c.pages → IsRoomOn fewer None)
 
-  -- this is what measuring it leads to; or one of the measurements ended with a fault
+  -- measuring it on some number of pages, with moving or without, ended with a fault
+  abbrev pub FailsBy : PlayFault → Type 0
+  FailsBy why = (moves : Bool) × (pages : ℕ) × (c : Config) × IsResized config moves pages c × TextMeasured c text (Err why)
+
+  -- it was measured, and then this holds; or that ended with a fault
   abbrev pub OrFault : {A : Type 0} → (A → Type 0) → Result A PlayFault → Type 0
   OrFault Is (Ok it) = Is it
-  OrFault Is (Err why) = (c : Config) × TextMeasured c text (Err why)
+  OrFault Is (Err why) = FailsBy why
 
   -- Once the trace was measured on the configuration, it is reported what it needs there, and on which pages it finds room.
   abbrev pub RoomTold : Measured → Taken → Result Ending RunFault → Type 0

@@ -8,6 +8,6 @@ pub mod Covering
 pub mod Failing
 pub mod Below
 pub mod Alive
-mod Rooms
+mod Trials
 mod Obeying
 mod LoadsRead

@@ -1,23 +1,23 @@
--- Between which numbers of pages a trace begins to find room.
+-- Between which numbers of pages they begin to be enough for a trace.
 use Rattle.std.specs.Prelude.{ℕ, ◌<◌, ◌≤◌, if◌then◌else◌, List, Option, Some, None}
 use Rattle.settings.specs.declared.config.Config.{Config}
 use Rattle.settings.specs.declared.config.TheConstants.{MOST_PAGES}
 use Rattle.metronome.specs.declared.room.Trial.{Trial}
 use Rattle.metronome.specs.declared.room.Bounds.{Bounds}
-use Rattle.metronome.specs.Demand.{IsRoomOn}
+use Rattle.metronome.specs.Demand.{IsEnoughOn}
 
--- the configuration of a trial with room
-abbrev pub room_of : Trial → Option Config
-room_of t = if t.room then Some t.config else None
+-- the configuration of a trial, if its pages were enough
+abbrev pub enough_of : Trial → Option Config
+enough_of t = if t.enough then Some t.config else None
 
--- On the pages of the trial there is room, and on fewer there is none, or these are no pages.
+-- The pages of the trial are enough, and fewer ones are too few, or are none.
 pub record AreBounds (config : Config) (text : List ℕ) (b : Bounds) : Type 0 where
   pub fewer : b.below < b.found.config.pages
   pub most : b.found.config.pages ≤ MOST_PAGES
-  pub room : IsRoomOn config text b.found.config.pages (Some b.found.config)
-  pub none : 1 ≤ b.below → IsRoomOn config text b.below None
+  pub enough : IsEnoughOn config text b.found.config.pages (Some b.found.config)
+  pub too_few : 1 ≤ b.below → IsEnoughOn config text b.below None
 
--- bounds, or there is no room on as many pages as a file may ask for
+-- bounds, or as many pages as a file may ask for are too few
 abbrev pub BoundsOrNone : Config → List ℕ → Option Bounds → Type 0
-BoundsOrNone config text None = IsRoomOn config text MOST_PAGES None
+BoundsOrNone config text None = IsEnoughOn config text MOST_PAGES None
 BoundsOrNone config text (Some b) = AreBounds config text b

@@ -1,4 +1,4 @@
--- What is reported of the pages that a trace needs, and on which pages it finds room.
+-- What is reported of the pages that a trace needs, and how many are enough for the trace itself.
 use Rattle.std.specs.Prelude.{◌≡◌, ℕ, ◌+◌, ◌≤◌, ◌⊎◌, nat_le, Bool, true, false, if◌then◌else◌, List, ◌++◌, Option, Some, None, Result, Ok, Err}
 use Rattle.settings.specs.Config.{limits_of}
 use Rattle.settings.specs.declared.config.Config.{Config}
@@ -16,9 +16,9 @@ use Rattle.metronome.specs.Texts.{TextMeasured, IsRest}
 use Rattle.metronome.specs.Told.{ReportTold, ToldOf}
 
 -- a configuration has the pages that it must have for what was needed, where that can be stated
-abbrev pub has_room : Config → Option Needed → Bool
-has_room c None = false
-has_room c (Some n) = nat_le (needed_pages c n) c.pages
+abbrev pub is_enough : Config → Option Needed → Bool
+is_enough c None = false
+is_enough c (Some n) = nat_le (needed_pages c n) c.pages
 
 -- A configuration is another one with this many pages, on which nothing is moved, or moving follows each sweep and may empty
 -- every page. The rest stays.
@@ -32,25 +32,25 @@ pub record IsResized (c : Config) (moves : Bool) (count : ℕ) (resized : Config
   pub rate : resized.rate ≡ c.rate
 
 module _ (config : Config) (text : List ℕ) where
-  -- On this many pages, with moving or without, the trace of a text finds room or not: it was measured there.
+  -- This many pages, with moving or without, are enough for what the trace of a text needs there, or not: it was measured.
   abbrev pub Measures : Bool → ℕ → Bool → Config → Type 0
-  Measures moves pages room c = IsResized config moves pages c
-      × (m : Measured) × TextMeasured c text (Ok m) × (has_room c m.needed ≡ room)
+  Measures moves pages enough c = IsResized config moves pages c
+      × (m : Measured) × TextMeasured c text (Ok m) × (is_enough c m.needed ≡ enough)
 
-  -- it finds none
-  abbrev pub FindsNone : Bool → ℕ → Type 0
-  FindsNone moves pages = (c : Config) × Measures moves pages false c
+  -- this many pages are too few for that
+  abbrev pub AreTooFew : Bool → ℕ → Type 0
+  AreTooFew moves pages = (c : Config) × Measures moves pages false c
 
-  -- on which configuration of this many pages it finds room: without moving, if it does so, else with it
-  abbrev pub IsRoomOn : ℕ → Option Config → Type 0
-  IsRoomOn pages None = FindsNone false pages × FindsNone true pages
-  IsRoomOn pages (Some c) = Measures false pages true c ⊎ (FindsNone false pages × Measures true pages true c)
+  -- the configuration on which this many pages are enough: without moving, if they are so, else with it
+  abbrev pub IsEnoughOn : ℕ → Option Config → Type 0
+  IsEnoughOn pages None = AreTooFew false pages × AreTooFew true pages
+  IsEnoughOn pages (Some c) = Measures false pages true c ⊎ (AreTooFew false pages × Measures true pages true c)
 
-  -- on which it finds room, where it doesn't on one page fewer; or it doesn't on as many as a file may ask for
+  -- the one that has enough pages, where one fewer is too few; or as many as a file may ask for are too few
   abbrev pub IsFound : Option Config → Type 0
-  IsFound None = IsRoomOn MOST_PAGES None
-  IsFound (Some c) = (c.pages ≤ MOST_PAGES) × IsRoomOn c.pages (Some c)
-      × ((fewer : ℕ) → 1 ≤ fewer → fewer + 1 ≡ c.pages → IsRoomOn fewer None)
+  IsFound None = IsEnoughOn MOST_PAGES None
+  IsFound (Some c) = (c.pages ≤ MOST_PAGES) × IsEnoughOn c.pages (Some c)
+      × ((fewer : ℕ) → 1 ≤ fewer → fewer + 1 ≡ c.pages → IsEnoughOn fewer None)
 
   -- measuring it on some number of pages, with moving or without, ended with a fault
   abbrev pub FailsBy : PlayFault → Type 0
@@ -61,14 +61,14 @@ module _ (config : Config) (text : List ℕ) where
   OrFault Is (Ok it) = Is it
   OrFault Is (Err why) = FailsBy why
 
-  -- Once the trace was measured on the configuration, it is reported what it needs there, and on which pages it finds room.
+  -- Once the trace was measured on the configuration, it is reported what it needs there, and how many pages are enough for it.
   abbrev pub RoomTold : Measured → Taken → Result Ending RunFault → Type 0
   RoomTold m taken result = (how : Result (Option Config) PlayFault) × OrFault IsFound how
       × ToldOf (λ found. ReportTold (λ report. report ≡ needed_told config m.needed ++ room_line found)) how taken result
 
-  -- A trace of this text was measured on a new heap, and it was reported what it needs. Where the pages suffice,
+  -- A trace of this text was measured on a new heap, and it was reported what it needs. Where the pages are enough,
   -- `TraceMeasured` promises room to this run, and to those of which the verdict speaks; on as many as a line gives for a
-  -- way, to those that the line names; and to the run on the pages that were found.
+  -- way, to those that the line names; and to the run on the configuration that was found.
   abbrev pub NeededTold : Taken → Result Ending RunFault → Type 0
   NeededTold taken result =
       (how : Result Measured PlayFault) × TextMeasured config text how × ToldOf RoomTold how taken result

@@ -1,9 +1,9 @@
-//! On how many pages a trace finds room: it is measured on some numbers of them.
+//! How many pages are enough for a trace itself: it is measured on some numbers of them.
 ghost use Rattle.std.specs.Prelude.{◌≡◌, ◌≤◌, Some};
 ghost use Rattle.settings.specs.declared.config.TheConstants.{MOST_PAGES};
 ghost use Rattle.trace.specs.LinesProcessed.{reads_failed, writes_failed};
-ghost use Rattle.metronome.specs.Demand.{has_room, IsResized, Measures, IsRoomOn, IsFound, OrFault};
-ghost use Rattle.metronome.specs.Bounds.{room_of, AreBounds, BoundsOrNone};
+ghost use Rattle.metronome.specs.Demand.{is_enough, IsResized, Measures, IsEnoughOn, IsFound, OrFault};
+ghost use Rattle.metronome.specs.Bounds.{enough_of, AreBounds, BoundsOrNone};
 
 use crate::measuring::measure_text;
 use settings::{Config, MOST_PAGES};
@@ -12,8 +12,8 @@ use std::alloc::Global;
 use trace::PlayFault;
 
 /// Whether a configuration has the pages that it must have for what was needed, where that can be stated.
-fn has_room(config: &Config, needed: &Option<Needed>) -> bool
-    ensures { result ≡ has_room config.now needed.now }
+fn is_enough(config: &Config, needed: &Option<Needed>) -> bool
+    ensures { result ≡ is_enough config.now needed.now }
 {
     match needed {
         Some(needed) => needed.pages_in(config) <= u128::from(config.pages),
@@ -46,9 +46,9 @@ fn resized(config: &Config, moves: bool, pages: u32) -> Config
 #[derive(Clone, Copy)]
 struct Trial {
     config: Config,
-    /// Whether it finds room there.
-    room: bool,
-    /// The fewest pages for what it needed there, of those that a file may ask for: room may be looked for on these next.
+    /// Whether its pages are as many as it must have for what the trace needed there.
+    enough: bool,
+    /// The fewest pages for what it needed there, of those that a file may ask for: these may be tried next.
     fewest: u32,
 }
 
@@ -61,42 +61,42 @@ fn trial_of(
     pages: u32,
 ) -> Result<Trial, PlayFault>
     requires { (1 ≤ pages) × (pages ≤ MOST_PAGES) }
-    ensures trial { OrFault config.now text.now (λ trial. Measures config.now text.now moves pages trial.room trial.config) result }
+    ensures trial { OrFault config.now text.now (λ trial. Measures config.now text.now moves pages trial.enough trial.config) result }
     ensures reads { reads_failed result ≡ 0 }
     ensures writes { writes_failed result ≡ 0 }
 {
     let config = resized(config, moves, pages);
     let needed = measure_text(alloc, &config, text)?.needed;
-    let (room, fewest) = (has_room(&config, &needed), fewest_of(&needed));
+    let (enough, fewest) = (is_enough(&config, &needed), fewest_of(&needed));
     Ok(Trial {
         config,
-        room,
+        enough,
         fewest,
     })
 }
 
-/// Measures it so that it finds room, if it does: without moving, or else with it.
-fn room_on(alloc: Global, config: &Config, text: &[u8], pages: u32) -> Result<Trial, PlayFault>
+/// Measures it without moving, and where these pages are too few so, with moving.
+fn trial_on(alloc: Global, config: &Config, text: &[u8], pages: u32) -> Result<Trial, PlayFault>
     requires { (1 ≤ pages) × (pages ≤ MOST_PAGES) }
-    ensures trial { OrFault config.now text.now (λ trial. IsRoomOn config.now text.now pages (room_of trial)) result }
+    ensures trial { OrFault config.now text.now (λ trial. IsEnoughOn config.now text.now pages (enough_of trial)) result }
     ensures reads { reads_failed result ≡ 0 }
     ensures writes { writes_failed result ≡ 0 }
 {
     let still = trial_of(alloc, config, text, false, pages)?;
-    if still.room {
+    if still.enough {
         return Ok(still);
     }
     trial_of(alloc, config, text, true, pages)
 }
 
-/// A trial with room, and a number of pages, fewer than it has, on which the trace finds none: or 0.
+/// A trial on enough pages, and a number of them that is too few, or 0.
 #[derive(Clone, Copy)]
 struct Bounds {
     below: u32,
     found: Trial,
 }
 
-/// Bounds that are found from a number of pages on, at twice as many each time; None where there is no room on the most.
+/// Bounds that are found from a number of pages on, at twice as many each time; None where the most are too few.
 fn widen(
     alloc: Global,
     config: &Config,
@@ -110,8 +110,8 @@ fn widen(
 {
     let (mut below, mut pages) = (0, from);
     while below < MOST_PAGES {
-        let found = room_on(alloc, config, text, pages)?;
-        if found.room {
+        let found = trial_on(alloc, config, text, pages)?;
+        if found.enough {
             return Ok(Some(Bounds { below, found }));
         }
         below = pages;
@@ -120,9 +120,9 @@ fn widen(
     Ok(None)
 }
 
-/// The configuration within bounds on which there is room, where there is none on one page fewer. It is looked for on the
-/// fewest pages for what was needed last; but below room at a distance that doubles each time, or at a greater one, and
-/// above what is too few on half of what is left, or more.
+/// The configuration within bounds that has enough pages, where one fewer is too few. The fewest for what was needed last
+/// are tried; but below what is enough at a distance that doubles each time, or at a greater one, and above what is too few
+/// half of what is left, or more.
 fn narrow(alloc: Global, config: &Config, text: &[u8], bounds: Bounds) -> Result<Config, PlayFault>
     requires { AreBounds config.now text.now bounds }
     ensures found { OrFault config.now text.now (λ found. IsFound config.now text.now (Some found)) result }
@@ -136,8 +136,8 @@ fn narrow(alloc: Global, config: &Config, text: &[u8], bounds: Bounds) -> Result
     let (mut next, mut step) = (found.fewest, 1u32);
     while found.config.pages - below > 1 {
         let pages = next.max(below + 1).min(found.config.pages - 1);
-        let trial = room_on(alloc, config, text, pages)?;
-        if trial.room {
+        let trial = trial_on(alloc, config, text, pages)?;
+        if trial.enough {
             step = step.saturating_mul(2);
             next = trial.fewest.min(pages.saturating_sub(step));
             found = trial;
@@ -159,8 +159,8 @@ fn fewest_of(needed: &Option<Needed>) -> u32
     }
 }
 
-/// The configuration on which the trace of a text finds room, where it doesn't on one page fewer: without moving, if it
-/// does so, or else with moving after each sweep. None where it doesn't on as many pages as a file may ask for.
+/// The configuration that has enough pages for the trace of a text, where one fewer is too few: without moving, if they are
+/// enough so, or else with moving after each sweep. None where as many as a file may ask for are too few.
 pub fn find_room(
     alloc: Global,
     config: &Config,

@@ -1,5 +1,5 @@
 use Rattle.metronome.specs.Demand.{IsFound}
-use Rattle.metronome.proofs.Rooms.{handed_on}
+use Rattle.metronome.proofs.Trials.{handed_on}
 use Rattle.metronome.proofs.room.find_room.Goals as goal
 
 pub returns-in_err-bounds-clause-found : goal.returns-in_err-bounds-clause-found

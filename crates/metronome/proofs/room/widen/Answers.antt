@@ -1,8 +1,8 @@
 use Rattle.std.proofs.Common.{ℕ, inl, inr, subst, arith}
 use Rattle.std.specs.Prelude.{None}
-use Rattle.metronome.specs.Demand.{IsRoomOn}
+use Rattle.metronome.specs.Demand.{IsEnoughOn}
 use Rattle.metronome.specs.Bounds.{BoundsOrNone}
-use Rattle.metronome.proofs.Rooms.{handed_on, room_here}
+use Rattle.metronome.proofs.Trials.{handed_on, enough_here}
 use Rattle.metronome.proofs.room.widen.Goals as goal
 
 pub returns-in_err-found-clause-found : goal.returns-in_err-found-clause-found
@@ -11,19 +11,19 @@ returns-in_err-found-clause-found c =
 
 pub returns-then-found-clause-found : goal.returns-then-found-clause-found
 returns-then-found-clause-found c =
-    let here = room_here c.args.config.now c.args.text.now c.loop-below.pages c.in_ok-found.found c.if-found.true c.in_ok-found.ensures.trial in
+    let here = enough_here c.args.config.now c.args.text.now c.loop-below.pages c.in_ok-found.found c.if-found.true c.in_ok-found.ensures.trial in
     record {
       fewer = elim c.loop-below.invariant.2 [
         | inl less ↦ omega (arith, less, here.0)
         | inr all ↦ absurd (omega (arith, all, c.loop-below-test.true))
       ];
       most = omega (arith, c.loop-below.invariant.1, here.0);
-      room = here.1;
-      none = c.loop-below.invariant.3;
+      enough = here.1;
+      too_few = c.loop-below.invariant.3;
     }
 
 pub returns-clause-found : goal.returns-clause-found
 returns-clause-found c = elim c.loop-below.invariant.2 [
   | inl less ↦ absurd (omega (arith, less, c.loop-below.invariant.1, c.loop-below-test.false))
-  | inr all ↦ subst (λ (n : ℕ). IsRoomOn c.args.config.now c.args.text.now n None) all (c.loop-below.invariant.3 (omega (arith, all)))
+  | inr all ↦ subst (λ (n : ℕ). IsEnoughOn c.args.config.now c.args.text.now n None) all (c.loop-below.invariant.3 (omega (arith, all)))
 ]

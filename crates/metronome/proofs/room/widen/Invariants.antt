@@ -1,11 +1,11 @@
 use Rattle.std.specs.Prelude.{◌≡◌, ◌-◌, ◌<◌, ◌≤◌, ◌⊎◌, None}
 use Rattle.settings.specs.declared.config.TheConstants.{MOST_PAGES}
-use Rattle.metronome.specs.Demand.{IsRoomOn}
+use Rattle.metronome.specs.Demand.{IsEnoughOn}
 use Rattle.metronome.proofs.room.widen.Given as goal
 
--- on fewer pages than are looked at next no room was found, or they are the most
+-- fewer pages than are tried next are too few, or the most are
 abbrev pub invariant-loop-below : goal.invariant-loop-below
-invariant-loop-below l = (1 ≤ l.pages) × (l.pages ≤ MOST_PAGES) × ((l.below < l.pages) ⊎ (l.below ≡ MOST_PAGES)) × (1 ≤ l.below → IsRoomOn l.config l.text l.below None)
+invariant-loop-below l = (1 ≤ l.pages) × (l.pages ≤ MOST_PAGES) × ((l.below < l.pages) ⊎ (l.below ≡ MOST_PAGES)) × (1 ≤ l.below → IsEnoughOn l.config l.text l.below None)
 
 abbrev pub decreases-loop-below : goal.decreases-loop-below
 decreases-loop-below l = MOST_PAGES - l.below

@@ -74,9 +74,9 @@ typedef struct metronome_settings {
     int64_t identities;      /* 1 to INT64_MAX, the default: the greatest identity that is given */
     int64_t defrag_below;    /* 0 to 1048577: a sweep that leaves fewer free pages is followed by moving; default 0 */
     int64_t defrag_pages;    /* 0 to 1048576: pages that a cycle empties at most; default 0 */
-    int64_t collector_ticks; /* 1 to 1000000; default 10. This and the next two only go into a schedule: nothing but their */
-    int64_t mutator_ticks;   /* 1 to 1000000; default 12. ranges and metronome_cycle_limit use them here */
-    int64_t rate;            /* 1 to 1000000; default 100. collector_ticks * rate is 256 to 1000000 */
+    int64_t collector_ticks; /* 1 to 1000000; default 10. This and the next two make up a schedule. The library checks their */
+    int64_t mutator_ticks;   /* 1 to 1000000; default 12. ranges, and uses collector_ticks * rate in metronome_cycle_limit */
+    int64_t rate;            /* 1 to 1000000; default 100. and as the budget of a plan; it is 256 to 1000000 */
     int64_t live;            /* 0 to mutators, the default: mutators 0 to live - 1 are live at first */
 } metronome_settings;
 
@@ -95,8 +95,8 @@ enum metronome_status {
     METRONOME_WRONG_KIND = 4,       /* the object has no cells of that kind: a mistake */
     METRONOME_TOO_LARGE = 5,        /* more than 252 cells, or than 4000000 of an array: take an array, or several calls */
     METRONOME_IDENTITIES_SPENT = 6, /* the next identity is above the setting: no object can be made in this heap any more */
-    METRONOME_NO_SPACE = 7,         /* no room for the object: metronome_whole_cycle, and the call again. If it is refused then
-                                     * too, what can be reached leaves no room: let go of some, or make a heap of more pages */
+    METRONOME_NO_SPACE = 7,         /* no room for the object: metronome_whole_cycle, and the call again. If it is refused again,
+                                     * the reachable objects, as they lie, leave no room: clear slots, or make a heap of more pages */
     METRONOME_BAD_STATIC = 8,       /* no such static: a mistake */
     METRONOME_NO_MEMORY = 9,        /* malloc refused: give memory back, or ask for fewer pages */
     METRONOME_BUSY = 11,            /* a cycle is running already: go on with it by metronome_quantum */

@@ -49,8 +49,10 @@ uint32_t metronome_plan(const metronome_settings *settings, uint64_t live_words,
 /* The heap keeps a plan from here on: before each new object the collector works as much as the plan wants for it, and no more: it
  * begins a cycle, or spends quanta of the plan's budget. So as long as what is live keeps to live_words no object is refused for
  * lack of space: that is proved where the heap was just made, or made and touched, whatever commands, lists of these, begins and
- * quanta follow. For one of at most quantum_words words that is a quantum now and then; a larger one owes several, before it is
- * made. An object of more than cycle_words is refused as ABOVE_PLAN, and nothing is done. metronome_begin and metronome_quantum may
+ * quanta follow. If the plan lasts, as each plan of metronome_plan does, and live objects keep to it, an object of at most
+ * quantum_words words waits for at most one quantum, and an object of w words for at most 2 * ceil(w / quantum_words) - 1: laws of a paced heap, which no contract of C
+ * cites yet. A plan that fits and doesn't last is kept too, and one object may then pay for the rest of a cycle. An object of more
+ * than cycle_words is refused as ABOVE_PLAN, and nothing is done. metronome_begin and metronome_quantum may
  * be called besides: a quantum of the plan's budget or more counts, and where the program begins a cycle, what is live is to keep
  * to live_words there too. metronome_pace isn't needed then. The collector works before an object that is refused for another reason
  * too.

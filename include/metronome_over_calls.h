@@ -48,8 +48,9 @@ METRONOME_NONNULL static inline uint32_t metronome_close_frame(metronome *heap, 
 
 /* ---- The collector, paced by what is made ---- */
 
-/* Goes through two cycles, one that is running among them, in quanta of `budget` units: what nothing leads to is freed then. A
- * program with a deadline paces itself (metronome_pace), and others do this where a new object is refused:
+/* Ends the cycle that is running, if one is, and does two more, in quanta of `budget` units. The first of the two frees all objects
+ * that are unreachable now. The second frees the pages that the first emptied by moving. A program with a deadline paces itself
+ * (metronome_pace); others do this if a new object is refused:
  *
  *     metronome_answer answer = metronome_new_plain(&heap, 0, slot, 1, 2);
  *     if (answer.kind == METRONOME_REFUSED && answer.number == METRONOME_NO_SPACE
@@ -59,8 +60,9 @@ METRONOME_NONNULL static inline uint32_t metronome_close_frame(metronome *heap, 
  * OK, BAD_BUDGET, NO_HEAP. */
 METRONOME_NONNULL static inline uint32_t metronome_whole_cycle(metronome *heap, uint32_t budget) {
     metronome_spent spent = { 0, METRONOME_IDLE };
-    uint32_t status = METRONOME_OK;
-    for (int ends = 0; ends < 2 && status == METRONOME_OK; ends += spent.phase == METRONOME_IDLE) {
+    uint32_t phase = METRONOME_IDLE;
+    uint32_t status = metronome_phase(heap, &phase);
+    for (int ends = phase == METRONOME_IDLE; ends < 3 && status == METRONOME_OK; ends += spent.phase == METRONOME_IDLE) {
         status = metronome_begin(heap);
         if (status == METRONOME_OK || status == METRONOME_BUSY) status = metronome_quantum(heap, budget, &spent);
     }
@@ -98,10 +100,11 @@ typedef struct metronome_pacing {
  *
  * For a program's own numbers, record a run (metronome_record.h) of settings whose collector_ticks * rate is the budget.
  * `metronome pages --pace` tells Q, and of each size L, B and what was made between two cycles, and whether the pages suffice;
- * that they do for every run at this pace is proved of the heap. That a program keeps to the pace is not: it does if it calls
- * this before each new object, and if no more of its objects are live than in the run that was recorded.
+ * that they do for every run at this pace is proved of the heap, if each quantum has at least that budget. That a program keeps to
+ * the pace is not proved. To keep it, the program calls this before each new object, makes objects of the recorded sizes in the
+ * recorded shares, keeps no more of them live, and makes no more between two cycles than the run that was recorded.
  *
- * OK; BAD_BUDGET where the budget or the words are out of their range, NO_HEAP. */
+ * OK; NO_HEAP; BAD_BUDGET if `words` is 0, or if a quantum is due and the budget is out of its range. */
 METRONOME_NONNULL static inline uint32_t metronome_pace(metronome *heap, metronome_pacing *pacing, uint64_t words) {
     if (pacing->words == 0) return METRONOME_BAD_BUDGET;
     for (pacing->owed += words; pacing->owed >= pacing->words; pacing->owed -= pacing->words) {

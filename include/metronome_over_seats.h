@@ -138,11 +138,12 @@ METRONOME_NONNULL static inline uint32_t metronome_seat_close_frame(metronome_se
     return METRONOME_OK;
 }
 
-/* As metronome_whole_cycle. All others wait meanwhile. OK, BAD_BUDGET, OUTSIDE, NO_HEAP. */
+/* Does what metronome_whole_cycle does. All other seats wait meanwhile. OK, BAD_BUDGET, OUTSIDE, NO_HEAP. */
 METRONOME_NONNULL static inline uint32_t metronome_seat_whole_cycle(metronome_seat *seat, uint32_t budget) {
     metronome_spent spent = { 0, METRONOME_IDLE };
-    uint32_t status = METRONOME_OK;
-    for (int ends = 0; ends < 2 && status == METRONOME_OK; ends += spent.phase == METRONOME_IDLE) {
+    uint32_t phase = METRONOME_IDLE;
+    uint32_t status = metronome_seat_phase(seat, &phase);
+    for (int ends = phase == METRONOME_IDLE; ends < 3 && status == METRONOME_OK; ends += spent.phase == METRONOME_IDLE) {
         status = metronome_seat_begin(seat);
         if (status == METRONOME_OK || status == METRONOME_BUSY) status = metronome_seat_quantum(seat, budget, &spent);
     }

@@ -91,6 +91,24 @@ static void check_whole_cycle(void) {
     IS(METRONOME_OK, metronome_whole_cycle(&heap, BUDGET));
 }
 
+/* A whole cycle frees the pages that moving emptied, also if a cycle is running: three objects of 24 live, one on each page. */
+static void check_whole_cycle_that_moves(void) {
+    metronome moving = METRONOME_CLOSED;
+    metronome_settings settings = METRONOME_SETTINGS(4, 1, 64);
+    settings.defrag_below = 5;
+    settings.defrag_pages = 4;
+    IS(METRONOME_OK, metronome_create(&moving, &settings));
+    IS(METRONOME_OK, metronome_begin(&moving));
+    for (uint32_t slot = 0; slot < 24; slot++) CHECK(metronome_new_plain(&moving, 0, slot, 0, 252).kind == METRONOME_MADE);
+    for (uint32_t slot = 0; slot < 24; slot++)
+        if (slot % 8 != 0) CHECK(metronome_clear(&moving, 0, slot).kind == METRONOME_DONE);
+    CHECK(metronome_new_plain(&moving, 0, 1, 0, 100).kind == METRONOME_MADE);
+    CHECK(metronome_new_plain(&moving, 0, 2, 0, 60).number == METRONOME_NO_SPACE);
+    IS(METRONOME_OK, metronome_whole_cycle(&moving, BUDGET));
+    CHECK(metronome_new_plain(&moving, 0, 2, 0, 60).kind == METRONOME_MADE);
+    metronome_destroy(&moving);
+}
+
 /* The numbers that the header gives, with less than half of the pages live: a million cells, and none is refused. */
 static void check_refusals(void) {
     metronome_pacing pacing = METRONOME_PACING(PAGES, (BUDGET - 255) / 20, BUDGET);
@@ -134,6 +152,7 @@ int main(void) {
     check_frames();
     check_refused_frames();
     check_whole_cycle();
+    check_whole_cycle_that_moves();
     check_refusals();
     check_pace();
     metronome_destroy(&heap);

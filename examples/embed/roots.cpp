@@ -3,6 +3,7 @@
 #include "metronome.hpp"
 #include <cstdio>
 #include <cstring>
+#include <vector>
 
 using namespace barleynight;
 
@@ -251,7 +252,7 @@ static void check_throwing() {
     heap.touch(5);
     heap.whole_cycle(1000);
     CHECK(heap.free_pages() == 3 && heap.count().objects == 3);
-    CHECK(heap.last_cycle().number == 2 && heap.last_cycle().units == heap.units() && heap.last_cycle().free_after == 3);
+    CHECK(heap.last_cycle().number == 3 && heap.last_cycle().units == heap.units() && heap.last_cycle().free_after == 3);
     CHECK(heap.page(0).size == 6 && heap.page(0).held == 3 && heap.page(1).size == 0);
     CHECK(heap.block(0, 0).held == 1 && heap.block(1, 0).held == 0);
     CHECK(cycle_limit(SETTINGS).quanta == 34);
@@ -263,9 +264,28 @@ static void check_throwing() {
     CHECK(kept.kept().cycles > 0 && kept.kept().quanta >= kept.kept().most_quanta);
 }
 
+// A whole cycle frees the pages that moving emptied, also if a cycle is running: three objects of 24 live, one on each page.
+static void check_whole_cycle_that_moves() {
+    metronome_settings settings = METRONOME_SETTINGS(4, 1, 64);
+    settings.defrag_below = 5;
+    settings.defrag_pages = 4;
+    Heap heap(settings);
+    Mutator mutator(heap, 0);
+    CHECK(heap.begin());
+    std::vector<Root> objects, kept;
+    for (int i = 0; i < 24; i++) objects.push_back(mutator.new_plain(0, 252));
+    for (std::size_t i = 0; i < 24; i += 8) kept.push_back(std::move(objects[i]));
+    objects.clear();
+    Root other = mutator.new_plain(0, 100);
+    throws(METRONOME_NO_SPACE, "no space", __LINE__, [&] { mutator.new_plain(0, 60); });
+    heap.whole_cycle(1000);
+    CHECK(!mutator.new_plain(0, 60).is_null());
+}
+
 #else
 
 static void check_throwing() {}
+static void check_whole_cycle_that_moves() {}
 
 #endif
 
@@ -282,6 +302,7 @@ int main() {
     check_strangers(heap, *mutator);
     CHECK(roots_used(heap) == 0);
     check_throwing();
+    check_whole_cycle_that_moves();
     std::printf("%d passed, %d failed\n", passed, failed);
     return failed != 0;
 }

@@ -1,4 +1,4 @@
-"""The lists of trusted definitions as text, one for each crate."""
+"""Lists of the definitions on which contracts rest, as text, one for each crate."""
 import re
 import textwrap
 
@@ -122,8 +122,7 @@ class Listing:
             "",
             f"What contracts of public calls rest on in this crate: {counted(len(listed), 'definition')}, of which the headline rests",
             f"on {len(of_headline)}, in bold. docs/TRUST.md says how they are found. Behind each name stand the first digits of the",
-            "checksum of its text, so that a change of what it says shows here; then the value of a constant or the parts of a type,",
-            "and the first sentence above it. `gate/definitions/trusted --write` makes this page, and the gate compares it.",
+            "checksum of its text; then the value of a constant or the parts of a type, and the first sentence above it.",
             "",
             *lines_of_crate(crate, self.trust, listed, self.headline),
         ]

@@ -52,7 +52,7 @@ pub struct Settings {
     pub defrag_below: i64,
     /// 0 to 1048576: pages that a cycle empties at most.
     pub defrag_pages: i64,
-    /// 1 to 1000000. This and the next two only go into a schedule.
+    /// 1 to 1000000. This and the next two make up a schedule. `collector_ticks * rate` is also the budget of a plan.
     pub collector_ticks: i64,
     /// 1 to 1000000.
     pub mutator_ticks: i64,

@@ -196,11 +196,11 @@ impl Heap {
         Ok(Spent { units: told.units, phase: Phase::of(told.phase) })
     }
 
-    /// Goes through two cycles, one that is running among them, in quanta of `budget` units: what nothing leads to is freed then.
-    /// Refused: `BadBudget`.
+    /// Ends the cycle that is running, if one is, and does two more, in quanta of `budget` units. The first of the two frees all
+    /// objects that are unreachable now. The second frees the pages that the first emptied by moving. Refused: `BadBudget`.
     pub fn whole_cycle(&self, budget: u32) -> Result<()> {
-        let mut ends = 0;
-        while ends < 2 {
+        let mut ends = u32::from(self.phase() == Phase::Idle);
+        while ends < 3 {
             self.begin();
             ends += u32::from(self.quantum(budget)?.phase == Phase::Idle);
         }

@@ -23,7 +23,7 @@ pub enum Refusal {
     TooLarge,
     /// The next identity is above the setting.
     IdentitiesSpent,
-    /// No room for the object: [`crate::Heap::whole_cycle`] may free some.
+    /// No room for the object: [`crate::Heap::whole_cycle`] may make some.
     NoSpace,
     /// No such static.
     BadStatic,

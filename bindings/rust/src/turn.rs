@@ -171,11 +171,10 @@ impl<'s> Turn<'s> {
         Ok(Spent { units: told.units, phase: Phase::of(told.phase) })
     }
 
-    /// Goes through two cycles, one that is running among them, in quanta of `budget` units: what nothing leads to is freed then.
-    /// All other seats wait meanwhile. Refused: `BadBudget`.
+    /// Does what [`crate::Heap::whole_cycle`] does. All other seats wait meanwhile. Refused: `BadBudget`.
     pub fn whole_cycle(&mut self, budget: u32) -> Result<()> {
-        let mut ends = 0;
-        while ends < 2 {
+        let mut ends = u32::from(self.phase() == Phase::Idle);
+        while ends < 3 {
             self.begin();
             ends += u32::from(self.quantum(budget)?.phase == Phase::Idle);
         }

@@ -134,6 +134,23 @@ fn cycles_go_by_quanta() -> Result<()> {
 }
 
 #[test]
+fn a_whole_cycle_frees_the_pages_that_moving_emptied() -> Result<()> {
+    let heap = Heap::new(&Settings { defrag_below: 5, defrag_pages: 4, ..Settings::new(4, 1, 64) })?;
+    let mutator = heap.mutator(0)?;
+    assert!(heap.begin());
+    let mut objects = Vec::new();
+    for _ in 0..24 {
+        objects.push(mutator.new_plain(0, 252)?);
+    }
+    let _one_on_each_page: Vec<_> = objects.into_iter().step_by(8).collect();
+    let _other = mutator.new_plain(0, 100)?;
+    assert_eq!(mutator.new_plain(0, 60).err(), Some(Refusal::NoSpace));
+    heap.whole_cycle(1000)?;
+    assert!(mutator.new_plain(0, 60).is_ok());
+    Ok(())
+}
+
+#[test]
 fn pages_are_told() -> Result<()> {
     let heap = Heap::new(&SMALL)?;
     let mutator = heap.mutator(0)?;

@@ -154,6 +154,24 @@ fn nothing_is_refused_at_a_pace() -> Result<()> {
 }
 
 #[test]
+fn a_whole_cycle_in_a_turn_frees_the_pages_that_moving_emptied() -> Result<()> {
+    let shared = Shared::new(&Settings { defrag_below: 5, defrag_pages: 4, ..Settings::new(4, 1, 64) })?;
+    let mut turn = shared.enter();
+    assert!(turn.begin());
+    for slot in 0..24 {
+        turn.new_plain(0, slot, 0, 252)?;
+    }
+    for slot in (0..24).filter(|slot| slot % 8 != 0) {
+        turn.clear(0, slot)?;
+    }
+    turn.new_plain(0, 1, 0, 100)?;
+    assert_eq!(turn.new_plain(0, 2, 0, 60).err(), Some(Refusal::NoSpace));
+    turn.whole_cycle(1000)?;
+    assert!(turn.new_plain(0, 2, 0, 60).is_ok());
+    Ok(())
+}
+
+#[test]
 fn a_seat_learns_at_its_own_heap() -> Result<()> {
     let (here, there) = (Shared::new(&SMALL)?, Shared::new(&SMALL)?);
     let (own, strange) = (here.seat(2)?, there.seat(2)?);

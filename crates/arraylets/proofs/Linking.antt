@@ -22,10 +22,14 @@ use Rattle.arraylets.specs.Made.{LinksPart}
 
 -- the links stay where nothing is done, and after two steps, each of which keeps them
 pub links_same : (s : Store) → KeepsLinks s s
-links_same s = record { len = omega arith; each = λ b h. refl }
+links_same s = record { len = omega arith; each = λ b h. refl; fresh = λ b was now. absurd (let e : true ≡ false = sym now ∙ was in cc) }
 
 pub links_then : (s t u : Store) → ((b : ℕ) → is_allocated s b ≡ true → is_allocated t b ≡ true) → KeepsLinks s t → KeepsLinks t u → KeepsLinks s u
-links_then s t u still x y = record { len = omega (arith, x.len, y.len); each = λ b h. y.each b (still b h) ∙ x.each b h }
+links_then s t u still x y = record { len = omega (arith, x.len, y.len); each = λ b h. y.each b (still b h) ∙ x.each b h; fresh = λ b was now. by_block b (is_allocated t b) refl was now }
+  where
+    by_block : (b : ℕ) (e : Bool) → is_allocated t b ≡ e → is_allocated s b ≡ false → is_allocated u b ≡ true → get_or u.words (b + 3) 0 ≡ 0
+    by_block b true between was now = y.each b between ∙ x.fresh b was between
+    by_block b false between was now = y.fresh b between now
 
 -- a block stays allocated where another is added
 pub added_allocated : (s t : Store) (a : ℕ) (block : BlockRecord) → Adds s t a block → (b : ℕ) → is_allocated s b ≡ true → is_allocated t b ≡ true

@@ -1,2 +1,4 @@
 pub mod Made
 pub mod CellPosition
+pub mod Cells
+pub mod Stored

@@ -1,9 +1,10 @@
 //! What the tests share: settings, and commands.
 use graph_heap::{Command, Shape};
 use machine::Event;
-use settings::{Config, Ranges, Settings};
+use settings::{Config, Settings};
 use std::process::Abort;
 
+mod drawn;
 mod heaps;
 mod lists;
 mod meeting;
@@ -38,7 +39,7 @@ const MANY_SLOTS: Settings = Settings {
 
 /// The configuration of settings.
 fn config_of(rt: &impl Abort, settings: &Settings) -> Config {
-    let Ok(config) = Config::check(Ranges::Library, settings) else {
+    let Ok(config) = Config::check(settings) else {
         panic!(rt; "the settings are good");
     };
     config
@@ -48,6 +49,14 @@ fn config_of(rt: &impl Abort, settings: &Settings) -> Config {
 fn plain(dst: u32, refs: u32, words: u32) -> Command {
     let shape = Shape::Plain { refs, words };
     Command::New { dst, shape }
+}
+
+/// A request for an array of words.
+fn words(dst: u32, cells: u32) -> Command {
+    Command::New {
+        dst,
+        shape: Shape::WordArray(cells),
+    }
 }
 
 /// A command of mutator 0.

@@ -115,7 +115,7 @@ draw = on_trace (codes "draw")
 
 -- tells how many pages suffice
 abbrev pub pages : Shape
-pages = on_trace (codes "pages") (flag (codes "pace") ∷ word (codes "load") ∷ flag (codes "plan") ∷ [])
+pages = on_trace (codes "pages") (flag (codes "pace") ∷ flag (codes "plan") ∷ [])
 
 -- tells how a heap would pace itself
 abbrev pub plan : Shape

@@ -11,7 +11,7 @@ use Rattle.command_line.specs.declared.job.Job.{Job}
 use Rattle.command_line.specs.declared.job.Job.TheVariants.{Play, Check, Threads, Inspect, Cycles, Path, Mmu, Pages, Plan}
 use Rattle.command_line.specs.declared.job.Request.{Request}
 use Rattle.command_line.specs.declared.job.Sizing.{Sizing}
-use Rattle.command_line.specs.declared.job.Sizing.TheVariants.{Demand, Pace, Load, Plan as By_plan}
+use Rattle.command_line.specs.declared.job.Sizing.TheVariants.{Demand, Pace, Plan as By_plan}
 use Rattle.command_line.specs.declared.fault.WordsFault.{WordsFault}
 use Rattle.command_line.specs.declared.fault.WordsFault.TheVariants.{Help}
 use Rattle.command_line.specs.Job.{IsDrawing, report_name}
@@ -42,12 +42,11 @@ abbrev pub IsFlag : Option Text → Bool → Type 0
 IsFlag None set = set ≡ false
 IsFlag (Some text) set = (text ≡ codes "true" → set ≡ true) × (text ≡ codes "false" → set ≡ false)
 
--- what the pages are reckoned from, by the flags for the pace and for a plan and the name of a load's file
-abbrev pub IsSizing : Bool → Bool → Option Text → Sizing → Type 0
-IsSizing pace plan load Demand = (pace ≡ false) × (plan ≡ false) × (load ≡ None)
-IsSizing pace plan load Pace = (pace ≡ true) × (plan ≡ false) × (load ≡ None)
-IsSizing pace plan load (Load file) = (pace ≡ false) × (plan ≡ false) × (load ≡ Some file.now)
-IsSizing pace plan load By_plan = (pace ≡ false) × (plan ≡ true) × (load ≡ None)
+-- what the pages are reckoned from, by the flags for the pace and for a plan
+abbrev pub IsSizing : Bool → Bool → Sizing → Type 0
+IsSizing pace plan Demand = (pace ≡ false) × (plan ≡ false)
+IsSizing pace plan Pace = (pace ≡ true) × (plan ≡ false)
+IsSizing pace plan By_plan = (pace ≡ false) × (plan ≡ true)
 
 -- what is drawn, by the name of its picture
 abbrev pub IsDrawn : List Row → Job → Type 0
@@ -73,7 +72,7 @@ Asks name rows (Mmu windows) = (name ≡ codes "mmu")
     windows.items
 Asks name rows (Pages by) = (name ≡ codes "pages")
     × (pace : Bool) × IsFlag (one_of (codes "pace") rows) pace × (plan : Bool) × IsFlag (one_of (codes "plan") rows) plan
-    × IsSizing pace plan (first_of (codes "load") rows) by
+    × IsSizing pace plan by
 Asks name rows (Plan live classes draw) = (name ≡ codes "plan") × IsNumberOrZero 64 (one_of (codes "live") rows) live
     × AreClassesOf (all_of (codes "classes") rows) (option_map (λ c. c.items) classes)
     × IsFlag (one_of (codes "draw") rows) draw

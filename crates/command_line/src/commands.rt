@@ -103,11 +103,9 @@ fn pages<'a>(alloc: Global) -> Result<Command<'a>, AllocError>
 {
     let about = "Play a trace and tell what it needs, in blocks and in pages";
     let pace = "Tell what the pace needs, whenever its cycles begin";
-    let load = "Tell what the load in this file needs, in TOML, and whether the trace keeps to it";
     let plan = "Tell the plans by which a heap paces itself, for the most words that are live";
     on_trace(alloc, "pages", about)?
         .arg(flag(alloc, "pace", pace))?
-        .arg(word(alloc, "load", "FILE", load))?
         .arg(flag(alloc, "plan", plan))
 }
 

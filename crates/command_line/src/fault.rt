@@ -2,11 +2,13 @@
 use thiserror::Error;
 
 /// Why the words of a subcommand give no job.
-#[derive(Drop)]
+#[derive(Debug, PartialEq, Eq, Drop, Error)]
 pub enum Refusal {
     /// They are refused: the text for the user.
+    #[error("{0}")]
     Refused(String),
     /// Memory was refused while they were read.
+    #[error("no memory")]
     NoMemory,
 }
 

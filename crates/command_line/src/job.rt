@@ -25,20 +25,18 @@ pub enum Report {
 
 /// What the pages that suffice are reckoned from.
 #[derive(Clone, Copy, Debug, PartialEq, Eq)]
-pub enum Sizing<'a> {
+pub enum Sizing {
     /// What the trace needed.
     Demand,
     /// The pace at which it asked.
     Pace,
-    /// The load in the file of this name.
-    Load(&'a str),
     /// The most words that the trace has live, for which a heap that paces itself is to have a plan.
     Plan,
 }
 
 /// What is done with the configuration, and with the other file if there is one.
 #[derive(Debug, PartialEq, Eq, Drop)]
-pub enum Job<'a> {
+pub enum Job {
     /// Play a trace, and write its replies, or with `history` its entries.
     Play {
         history: bool,
@@ -82,7 +80,7 @@ pub enum Job<'a> {
     },
     /// Play a trace, and tell how many pages suffice.
     Pages {
-        by: Sizing<'a>,
+        by: Sizing,
     },
     /// Tell how a heap would pace itself with this many words of live blocks, on some numbers of pages, for a program
     /// that asks for blocks of these size classes alone, or of all; or draw it. It has no other file.
@@ -101,7 +99,7 @@ pub struct Request<'a> {
     /// The other file, if the job has one; `-` is standard input.
     pub file: Option<&'a str>,
     /// What is to be done.
-    pub job: Job<'a>,
+    pub job: Job,
     /// Whether standard error is told how many lines were read.
     pub progress: bool,
     /// Whether standard error is told more of what is wrong.

@@ -77,7 +77,7 @@ fn file_of<'a>(alloc: Global, found: &ArgMatches<'a>, job: &Job) -> Result<Optio
 }
 
 /// What the words of a subcommand ask for.
-fn job_of<'a>(alloc: Global, name: &str, found: &ArgMatches<'a>) -> Result<Job<'a>, Refusal>
+fn job_of(alloc: Global, name: &str, found: &ArgMatches) -> Result<Job, Refusal>
     ensures range { IfOk result IsInRange }
     ensures asked { IfOk result (Asks name.now (rows_of (found_of found.now))) }
 {
@@ -113,7 +113,7 @@ pub(crate) fn refused<T: Display + Drop>(alloc: Global, why: T) -> Refusal {
 }
 
 /// What the words of `threads` ask for.
-fn threads<'a>(alloc: Global, found: &ArgMatches<'a>) -> Result<Job<'a>, Refusal>
+fn threads(alloc: Global, found: &ArgMatches) -> Result<Job, Refusal>
     ensures range { IfOk result IsInRange }
     ensures asked { IfOk result (Asks (codes "threads") (rows_of (found_of found.now))) }
 {
@@ -127,7 +127,7 @@ fn threads<'a>(alloc: Global, found: &ArgMatches<'a>) -> Result<Job<'a>, Refusal
 }
 
 /// What the words of `plan` ask for.
-fn plan<'a>(alloc: Global, found: &ArgMatches<'a>) -> Result<Job<'a>, Refusal>
+fn plan(alloc: Global, found: &ArgMatches) -> Result<Job, Refusal>
     ensures range { IfOk result IsInRange }
     ensures asked { IfOk result (Asks (codes "plan") (rows_of (found_of found.now))) }
 {
@@ -142,7 +142,7 @@ fn plan<'a>(alloc: Global, found: &ArgMatches<'a>) -> Result<Job<'a>, Refusal>
 }
 
 /// What a subcommand over a whole trace asks for.
-fn run_job<'a>(alloc: Global, name: &str, found: &ArgMatches<'a>) -> Result<Job<'a>, Refusal>
+fn run_job(alloc: Global, name: &str, found: &ArgMatches) -> Result<Job, Refusal>
     ensures range { IfOk result IsInRange }
     ensures asked { IfOk result (Asks name.now (rows_of (found_of found.now))) }
 {
@@ -157,19 +157,14 @@ fn run_job<'a>(alloc: Global, name: &str, found: &ArgMatches<'a>) -> Result<Job<
             windows: windows_of(alloc, found.get_strs("WINDOW").unwrap_or(&[]))?,
         }),
         "pages" => Ok(Job::Pages {
-            by: sizing(
-                alloc,
-                flag(found, "pace"),
-                flag(found, "plan"),
-                word(found, "load"),
-            )?,
+            by: sizing(alloc, flag(found, "pace"), flag(found, "plan"))?,
         }),
         _ => Err(refused(alloc, "a subcommand is missing")),
     }
 }
 
 /// What a subcommand over the heap after some event lines, or all, asks for.
-fn heap_job<'a>(alloc: Global, name: &str, found: &ArgMatches<'a>) -> Result<Job<'a>, Refusal>
+fn heap_job(alloc: Global, name: &str, found: &ArgMatches) -> Result<Job, Refusal>
     ensures range { IfOk result IsInRange }
     ensures asked { IfOk result (Asks name.now (rows_of (found_of found.now))) }
 {
@@ -227,12 +222,7 @@ fn report(alloc: Global, name: &str) -> Result<Report, Refusal>
 
 /// What draws the picture of a name. A picture over the events is of all of them, and objects are counted of a graph
 /// alone.
-fn drawing<'a>(
-    alloc: Global,
-    name: &str,
-    after: Option<u32>,
-    most: Option<u32>,
-) -> Result<Job<'a>, Refusal>
+fn drawing(alloc: Global, name: &str, after: Option<u32>, most: Option<u32>) -> Result<Job, Refusal>
     ensures range { IfOk result IsInRange }
     ensures named { IfOk result (IsDrawing name.now after most) }
 {
@@ -262,24 +252,15 @@ fn without(alloc: Global, number: Option<u32>, argument: &str, name: &str) -> Re
 }
 
 /// What the pages are reckoned from: one way at most is asked for.
-fn sizing<'a>(
-    alloc: Global,
-    pace: bool,
-    plan: bool,
-    load: Option<&'a str>,
-) -> Result<Sizing<'a>, Refusal>
-    ensures { IfOk result (IsSizing pace plan (option_map (λ file. file.now) load.entry)) }
+fn sizing(alloc: Global, pace: bool, plan: bool) -> Result<Sizing, Refusal>
+    ensures { IfOk result (IsSizing pace plan) }
 {
-    let why = match (pace, plan, load) {
-        (false, false, None) => return Ok(Sizing::Demand),
-        (true, false, None) => return Ok(Sizing::Pace),
-        (false, true, None) => return Ok(Sizing::Plan),
-        (false, false, Some(file)) => return Ok(Sizing::Load(file)),
-        (true, true, _) => "the argument '--pace' cannot be used with '--plan'",
-        (true, false, Some(_)) => "the argument '--pace' cannot be used with '--load <FILE>'",
-        (false, true, Some(_)) => "the argument '--plan' cannot be used with '--load <FILE>'",
-    };
-    Err(refused(alloc, why))
+    match (pace, plan) {
+        (false, false) => Ok(Sizing::Demand),
+        (true, false) => Ok(Sizing::Pace),
+        (false, true) => Ok(Sizing::Plan),
+        (true, true) => Err(refused(alloc, "the argument '--pace' cannot be used with '--plan'")),
+    }
 }
 
 /// The picture of a heap of a name.

@@ -7,13 +7,26 @@ ghost use Rattle.heap_model.specs.declared.cost.TheConstants.{LOOK};
 ghost use Rattle.heap_model.specs.declared.phase.Phase.TheVariants as phases;
 ghost use Rattle.heap_model.specs.declared.phase.Moving.TheVariants as moves;
 ghost use Rattle.nodes.specs.Acting.{Acts};
+ghost use Rattle.nodes.specs.Grey.{AreLinked};
 ghost use Rattle.nodes.specs.HeapFields.{state_of, AreHeapFields};
 ghost use Rattle.defrag.specs.Candidates.{candidate_after_pages};
+ghost use Rattle.defrag.specs.Chosen.{chosen_after};
 
 use heap_model::cost::{LOOK, TURN};
 use heap_model::phase::{Candidate, Moving, Phase};
 use nodes::{HeapFields, Nodes};
 use size_classes::{CLASSES, Class};
+
+/// What a look of a pass came to.
+#[derive(Clone, Copy, Debug, PartialEq, Eq)]
+pub enum Chosen {
+    /// The page isn't the last one, and the pass goes on.
+    Looked,
+    /// The last page was looked at, and this page is chosen.
+    Page(u32),
+    /// The last page was looked at, and none is chosen.
+    NoPage,
+}
 
 /// Does the next steps of a pass: looks at the class's next pages before the last, as many as are left or as
 /// there is room for; where none is left, the look at the last one; after the last class the end of moving.
@@ -30,13 +43,15 @@ pub fn pass_next(
     requires room { 0 < room }
     ensures acts { Acts heap.old room heap.new }
     ensures grey { heap.new.grey ≡ heap.old.grey }
+    ensures linked { AreLinked heap.new.nodes heap.new.grey }
 {
     if class >= CLASSES as u32 {
         return heap.charge(TURN, Phase::Idle);
     }
     let left = heap.nodes.pages().saturating_sub(page as usize + 1);
     if left == 0 {
-        return look_next(heap, class, page, candidate, chosen);
+        choose_one(heap, class, page, candidate, chosen);
+        return;
     }
     let count = left.min(room as usize) as u32;
     let next = page + count;
@@ -49,58 +64,59 @@ pub fn pass_next(
     heap.charge(count * LOOK, Phase::Moving(place));
 }
 
-/// Looks at a page in a pass of a class, with the best page so far. After a look at the last page the best
-/// one is chosen, if its blocks find a place on the class's other pages.
-pub fn look_next(
+/// Does one look of a pass: looks at a page of a class, with the best page so far. After a look at the last page the
+/// best one is chosen, if its blocks find a place on the class's other pages; else the next class gets a pass.
+pub fn choose_one(
     heap: &mut HeapFields,
     class: u32,
     page: u32,
     candidate: Option<Candidate>,
     chosen: u32,
-)
+) -> Chosen
     requires heap { AreHeapFields heap.old }
     requires pass { AtPass (state_of heap.old) class page candidate chosen }
     requires class { class < CLASSES }
     requires page { page < length heap.old.nodes.pages }
     requires chosen { chosen < heap.old.config.defrag_pages }
+    ensures answer { result ≡ chosen_after heap.old.nodes.pages class page candidate }
     ensures acts { Action (state_of heap.old) LOOK (state_of heap.new) }
     ensures grey { heap.new.grey ≡ heap.old.grey }
+    ensures linked { AreLinked heap.new.nodes heap.new.grey }
 {
     let number = Class::new(class as u8);
     let candidate = consider(&heap.nodes, number, page, candidate);
     if (page as usize) + 1 < heap.nodes.pages() {
-        return heap.charge(
-            LOOK,
-            Phase::Moving(Moving::Pass {
-                class,
-                page: page + 1,
-                candidate,
-                chosen,
-            }),
-        );
+        let place = Moving::Pass {
+            class,
+            page: page + 1,
+            candidate,
+            chosen,
+        };
+        heap.charge(LOOK, Phase::Moving(place));
+        return Chosen::Looked;
     }
     match candidate {
         Some(found) if is_chosen(&heap.nodes, number, found) => {
             heap.nodes.leave(found.page as usize);
-            heap.charge(
-                LOOK,
-                Phase::Moving(Moving::Emptying {
-                    class,
-                    page: found.page,
-                    block: 0,
-                    chosen: chosen + 1,
-                }),
-            )
+            let place = Moving::Emptying {
+                class,
+                page: found.page,
+                block: 0,
+                chosen: chosen + 1,
+            };
+            heap.charge(LOOK, Phase::Moving(place));
+            Chosen::Page(found.page)
         }
-        _ => heap.charge(
-            LOOK,
-            Phase::Moving(Moving::Pass {
+        _ => {
+            let place = Moving::Pass {
                 class: class + 1,
                 page: 0,
                 candidate: None,
                 chosen,
-            }),
-        ),
+            };
+            heap.charge(LOOK, Phase::Moving(place));
+            Chosen::NoPage
+        }
     }
 }
 

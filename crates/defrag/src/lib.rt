@@ -2,7 +2,8 @@
 //! at a time.
 #![tactic(auto)]
 
-mod choosing;
+pub mod choosing;
 pub mod moving;
 
-pub use moving::move_next;
+pub use choosing::{Chosen, choose_one};
+pub use moving::{Moved, move_next, move_one};

@@ -33,7 +33,7 @@ fn config_in(document: &Table) -> Result<Config, ConfigFault>
         return Err(ConfigFault::UnknownKey);
     }
     let settings = settings_in(document)?;
-    Config::from_checked(&settings)
+    Config::check(&settings)
 }
 
 /// Whether a document has a key that isn't known.

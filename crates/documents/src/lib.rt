@@ -1,8 +1,8 @@
-//! Documents in TOML: the configuration file, and what other documents are read with.
+//! The configuration file, a document in TOML.
 #![tactic(auto)]
 
 mod config_file;
 mod toml_table;
 
 pub use config_file::read_config;
-pub use toml_table::{ReadFault, any_member, open_document};
+pub use toml_table::{ReadFault, open_document};

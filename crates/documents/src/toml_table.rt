@@ -50,7 +50,7 @@ pub fn open_document<F: Copy>(
 }
 
 /// Whether a table has a member that passes a test of its key and its value.
-pub fn any_member<F: Fn(&str, &Value) -> bool>(table: &Table, test: F) -> bool
+pub(crate) fn any_member<F: Fn(&str, &Value) -> bool>(table: &Table, test: F) -> bool
     requires { F.IsAlwaysCallable test }
     ensures { (passes : List ℕ → Data → Bool)
         → ((name : Bor (List ℕ)) (value : Bor Value) (answer : Bool) → F.post test name value answer

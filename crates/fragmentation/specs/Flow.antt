@@ -56,6 +56,11 @@ next_meter k t (Quantum_done budget units phase) = record t {
 }
 next_meter k t (Quantum_refused budget) = t
 
+-- the meter after events
+abbrev pub meter_after : ℕ → FlowMeter → List Event → FlowMeter
+meter_after k t [] = t
+meter_after k t (e ∷ es) = meter_after k (next_meter k t e) es
+
 -- for how many words may have been asked since the last cycle began
 abbrev pub allowed_words : Flow → FlowMeter → ℕ
 allowed_words f t = if t.awaiting_sweep_end then (t.quanta + 1) * f.quantum_words + f.burst else f.cycle_words

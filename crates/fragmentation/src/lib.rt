@@ -33,7 +33,7 @@ ghost use Rattle.fragmentation.specs.Gathering.{IsGathering, AreTight};
 ghost use Rattle.fragmentation.specs.Configured.{MovesAll, FitsTogether, FlowFitsIn};
 ghost use Rattle.fragmentation.specs.Season.{Lives, opening_season, AllKeep};
 ghost use Rattle.fragmentation.specs.declared.flow.TheConstants.{LEAST_PAGE_FILL};
-ghost use Rattle.fragmentation.specs.Flow.{Flow, opening_meter, KeepsFlow, AllMetered, FlowFits, traced_words, sweep_quanta, flow_quanta};
+ghost use Rattle.fragmentation.specs.Flow.{Flow, opening_meter, meter_after, KeepsFlow, AllMetered, FlowFits, traced_words, sweep_quanta, flow_quanta};
 ghost use Rattle.fragmentation.specs.Suffice.{GathersAll, WithinPages, WithinBlocks, sparse_pages, pages_of, PageDemand, demand_pages, WithinPageDemand};
 
 mod flow;
@@ -121,7 +121,8 @@ pub fn flow_suffices()
 /// How long a cycle lasts in a run that keeps to a flow, with quanta of at least k units: `sweep_quanta` up to its
 /// sweep's end, and `flow_quanta` as a whole, where up to its sweep's end a cycle makes no more than may be made until
 /// the next one. Marking and moving take no more words than what is live and what is made have, however many pages
-/// there are; and moving spends on a page either a look at every page, if it is chosen, or the words that go there.
+/// there are; and moving spends on a page either a look at every page, if it is chosen, or the words that go there. If
+/// smaller quanta are done as well, those of k units or more still keep to these numbers.
 pub fn flow_cycles_end()
     ensures sweep { (h : HeapState) (es : List Event) (new : Course) (f : Flow) (k : ℕ) → LEAST_BUDGET ≤ k → IsOpening h
         → 0 < length h.store.pages → Runs (opened h) es new
@@ -133,6 +134,12 @@ pub fn flow_cycles_end()
         → AllMetered k (KeepsFlow f) (opening_meter h.limits) es → HaveBudgets k es
         → traced_words f (sweep_quanta f (length h.roots) (length h.store.pages) k) ≤ f.cycle_words
         → LastsAtMost in_cycle (flow_quanta f (length h.roots) (length h.store.pages) k) 0 es }
+    ensures counted { (h : HeapState) (es : List Event) (new : Course) (f : Flow) (k : ℕ) → LEAST_BUDGET ≤ k → IsOpening h
+        → 0 < length h.store.pages → Runs (opened h) es new
+        → AllMetered k (KeepsFlow f) (opening_meter h.limits) es
+        → traced_words f (sweep_quanta f (length h.roots) (length h.store.pages) k) ≤ f.cycle_words
+        → in_cycle new.heap.phase ≡ true → (meter_after k (opening_meter h.limits) es).quanta
+        < flow_quanta f (length h.roots) (length h.store.pages) k }
 {}
 
 /// The space bound for a demand that is taken together, whatever moves: in every run that keeps, at each command, what

@@ -5,5 +5,6 @@ pub mod Effect
 pub mod History
 pub mod Reach
 pub mod Stored
+pub mod Roots
 pub mod Reference
 pub mod Reaching

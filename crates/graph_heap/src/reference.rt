@@ -9,7 +9,9 @@ ghost use Rattle.graph_heap.specs.History as history;
 ghost use Rattle.graph_heap.specs.History.{IsEntryOf, after_entry};
 
 mod edges;
+mod objects;
 mod reaching;
+mod roots;
 mod row;
 
 use crate::admission::{admit, live_row, set_live};
@@ -18,34 +20,34 @@ use crate::command::{
 };
 use crate::dispatch;
 use crate::no_memory::NoMemory;
-use crate::stored::{StoredObject, made_of, object_of, ref_of, set_ref_of, set_word_of, word_of};
-use row::{null_cells, set_cell, slot_of, static_of};
+use objects::Objects;
+use roots::Roots;
+use row::{slot_of, static_of};
 use std::alloc::Global;
 use std::marker::Model;
 
 /// What a command does: its reply and what changes, or why it is refused.
 type CommandEffect = Result<(Reply, Change), Refusal>;
 
-/// The slow heap: objects in a vector by their identity, which never move or go, and the row of
-/// roots. Contracts see it as the graph heap.
+/// The slow heap: objects by their identities, which never move or go, slots by their mutators and numbers, and
+/// statics. Contracts see it as the graph heap.
 #[derive(Drop)]
 pub struct Reference {
-    limits: Limits,
-    objects: Vec<StoredObject>,
-    roots: Vec<u64>,
+    objects: Objects,
+    roots: Roots,
     live: Vec<bool>,
     alloc: Global,
 }
 
 impl Model for Reference {
     ghost use Rattle.graph_heap.specs.Graph.{Graph};
-    ghost use Rattle.graph_heap.specs.Reference.{graph_in, IsRow};
+    ghost use Rattle.graph_heap.specs.Reference.{graph_in, TellsLive};
 
     ghost Value = { Graph };
 
     ghost view = { graph_in };
 
-    ghost invariant = { IsRow };
+    ghost invariant = { TellsLive };
 }
 
 fn fits(shape: Shape) -> bool
@@ -72,7 +74,7 @@ impl Reference {
         ensures next { result ≡ effect.next_identity self.now }
     {
         let count = self.objects.len() as u64;
-        if count < self.limits.identities {
+        if count < self.limits().identities {
             Ok(count + 1)
         } else {
             Err(Refusal::IdentitiesSpent)
@@ -87,22 +89,17 @@ impl Reference {
     {
         match *change {
             Change::Nothing => {}
-            Change::Root { cell, id } => set_cell(self.roots.as_mut_slice(), cell, id),
-            Change::Ref { id, i, value } => {
-                set_ref_of(self.objects.as_mut_slice(), id, i, value)
-            }
-            Change::Word { id, i, value } => {
-                set_word_of(self.objects.as_mut_slice(), id, i, value)
-            }
+            Change::Root { cell, id } => self.roots.set(cell, id),
+            Change::Ref { id, i, value } => self.objects.set_ref(id, i, value),
+            Change::Word { id, i, value } => self.objects.set_word(id, i, value),
             Change::New { cell, id, shape } => {
-                let object = made_of(self.alloc, shape)?;
-                self.objects.push(object)?;
-                set_cell(self.roots.as_mut_slice(), cell, id);
+                self.objects.add(self.alloc, shape)?;
+                self.roots.set(cell, id);
             }
             Change::Join { mutator } => set_live(self.live.as_mut_slice(), mutator, true),
             Change::Leave { mutator } => {
-                let slots = self.limits.slots as usize;
-                null_cells(self.roots.as_mut_slice(), mutator as usize * slots, slots);
+                let slots = self.limits().slots as usize;
+                self.roots.set_null(mutator as usize * slots, slots);
                 set_live(self.live.as_mut_slice(), mutator, false);
             }
         }
@@ -114,7 +111,7 @@ impl Reference {
         ensures { result ≡ effect_of room self.now mutator command.now }
     {
         let joins = command.is_join();
-        admit(&self.limits, self.live.as_slice(), mutator, joins)?;
+        admit(self.limits(), self.live.as_slice(), mutator, joins)?;
         self.admitted_effect(room, mutator, command)
     }
 
@@ -143,14 +140,13 @@ impl Reference {
     fn referent(&self, mutator: u32, slot: u32) -> Result<u64, Refusal>
         ensures { result ≡ referent_at self.now mutator slot }
     {
-        let at = slot_of(&self.limits, mutator, slot)?;
-        Ok(self.roots[at])
+        self.roots.slot(mutator, slot)
     }
 
     fn make(&self, mutator: u32, dst: u32, shape: Shape, room: bool) -> CommandEffect
         ensures { result ≡ admitted_effect room self.now mutator (Command.New dst shape) }
     {
-        let cell = slot_of(&self.limits, mutator, dst)?;
+        let cell = slot_of(self.limits(), mutator, dst)?;
         fitting_of(shape)?;
         let id = self.next_identity()?;
         if !room {
@@ -162,9 +158,9 @@ impl Reference {
     fn load(&self, mutator: u32, dst: u32, obj: u32, i: u32) -> CommandEffect
         ensures { result ≡ admitted_effect true self.now mutator (Command.Load dst obj i) }
     {
-        let cell = slot_of(&self.limits, mutator, dst)?;
+        let cell = slot_of(self.limits(), mutator, dst)?;
         let object = self.referent(mutator, obj)?;
-        let id = ref_of(self.objects.as_slice(), object, i)?;
+        let id = self.objects.ref_at(object, i)?;
         Ok((Reply::Ref(id), Change::Root { cell, id }))
     }
 
@@ -173,7 +169,7 @@ impl Reference {
     {
         let id = self.referent(mutator, obj)?;
         let value = self.referent(mutator, src)?;
-        ref_of(self.objects.as_slice(), id, i)?;
+        self.objects.ref_at(id, i)?;
         Ok((Reply::Done, Change::Ref { id, i, value }))
     }
 
@@ -183,7 +179,7 @@ impl Reference {
         let id = self.referent(mutator, obj)?;
         let expected = self.referent(mutator, expect)?;
         let value = self.referent(mutator, new)?;
-        let referent = ref_of(self.objects.as_slice(), id, i)?;
+        let referent = self.objects.ref_at(id, i)?;
         if referent == expected {
             Ok((Reply::Stored, Change::Ref { id, i, value }))
         } else {
@@ -195,7 +191,7 @@ impl Reference {
         ensures { result ≡ admitted_effect true self.now mutator (Command.Get obj i) }
     {
         let id = self.referent(mutator, obj)?;
-        let value = word_of(self.objects.as_slice(), id, i)?;
+        let value = self.objects.word_at(id, i)?;
         Ok((Reply::Word(value), Change::Nothing))
     }
 
@@ -203,7 +199,7 @@ impl Reference {
         ensures { result ≡ admitted_effect true self.now mutator (Command.Put obj i word) }
     {
         let id = self.referent(mutator, obj)?;
-        word_of(self.objects.as_slice(), id, i)?;
+        self.objects.word_at(id, i)?;
         Ok((Reply::Done, Change::Word { id, i, value: word }))
     }
 
@@ -211,7 +207,7 @@ impl Reference {
         ensures { result ≡ admitted_effect true self.now mutator (Command.ComparePut obj i old new) }
     {
         let id = self.referent(mutator, obj)?;
-        let found = word_of(self.objects.as_slice(), id, i)?;
+        let found = self.objects.word_at(id, i)?;
         if found == old {
             Ok((Reply::Stored, Change::Word { id, i, value: new }))
         } else {
@@ -222,7 +218,7 @@ impl Reference {
     fn copy(&self, mutator: u32, dst: u32, src: u32) -> CommandEffect
         ensures { result ≡ admitted_effect true self.now mutator (Command.Copy dst src) }
     {
-        let cell = slot_of(&self.limits, mutator, dst)?;
+        let cell = slot_of(self.limits(), mutator, dst)?;
         let id = self.referent(mutator, src)?;
         Ok((Reply::Done, Change::Root { cell, id }))
     }
@@ -230,16 +226,15 @@ impl Reference {
     fn clear(&self, mutator: u32, dst: u32) -> CommandEffect
         ensures { result ≡ admitted_effect true self.now mutator (Command.Clear dst) }
     {
-        let cell = slot_of(&self.limits, mutator, dst)?;
+        let cell = slot_of(self.limits(), mutator, dst)?;
         Ok((Reply::Done, Change::Root { cell, id: 0 }))
     }
 
     fn load_static(&self, mutator: u32, dst: u32, k: u32) -> CommandEffect
         ensures { result ≡ admitted_effect true self.now mutator (Command.LoadStatic dst k) }
     {
-        let cell = slot_of(&self.limits, mutator, dst)?;
-        let from = static_of(&self.limits, k)?;
-        let id = self.roots[from];
+        let cell = slot_of(self.limits(), mutator, dst)?;
+        let id = self.roots.static_root(k)?;
         Ok((Reply::Ref(id), Change::Root { cell, id }))
     }
 
@@ -247,7 +242,7 @@ impl Reference {
         ensures { result ≡ admitted_effect true self.now mutator (Command.StoreStatic k src) }
     {
         let id = self.referent(mutator, src)?;
-        let cell = static_of(&self.limits, k)?;
+        let cell = static_of(self.limits(), k)?;
         Ok((Reply::Done, Change::Root { cell, id }))
     }
 
@@ -256,8 +251,8 @@ impl Reference {
     {
         let expected = self.referent(mutator, expect)?;
         let id = self.referent(mutator, new)?;
-        let cell = static_of(&self.limits, k)?;
-        let referent = self.roots[cell];
+        let cell = static_of(self.limits(), k)?;
+        let referent = self.roots.static_root(k)?;
         if referent == expected {
             Ok((Reply::Stored, Change::Root { cell, id }))
         } else {
@@ -277,7 +272,7 @@ impl Reference {
         ensures { result ≡ admitted_effect true self.now mutator (Command.Describe a) }
     {
         let id = self.referent(mutator, a)?;
-        let object = object_of(self.objects.as_slice(), id)?;
+        let object = self.objects.get(id)?;
         Ok((Reply::Described(id, object.shape), Change::Nothing))
     }
 
@@ -309,14 +304,10 @@ impl Reference {
     pub fn new(alloc: Global, limits: &Limits) -> Result<Reference, NoMemory>
         ensures { IfOk result (λ r. r ≡ opening limits.now) }
     {
-        let count = limits.mutators as usize * limits.slots as usize + limits.statics as usize;
-        let roots = vec![in alloc; 0; count]?;
-        let live = live_row(alloc, limits)?;
         Ok(Reference {
-            limits: *limits,
-            objects: Vec::new(alloc),
-            roots,
-            live,
+            objects: Objects::none(alloc),
+            roots: Roots::new(alloc, limits)?,
+            live: live_row(alloc, limits)?,
             alloc,
         })
     }

@@ -1,8 +1,8 @@
 //! The objects of the slow heap.
-ghost use Rattle.std.specs.Prelude.{◌≡◌, map, slice_index, slice_set, length, nat_lt, if◌then◌else◌, IfOk, Ok, Err};
+ghost use Rattle.std.specs.Prelude.{◌≡◌, slice_index, slice_set, length, nat_lt, if◌then◌else◌, IfOk, Ok, Err};
 ghost use Rattle.graph_heap.specs.Shape as shapes;
-ghost use Rattle.graph_heap.specs.Graph.{new_object, put_ref, put_word};
-ghost use Rattle.graph_heap.specs.Effect.{object_at, ref_at, word_at, Sees};
+ghost use Rattle.graph_heap.specs.Graph.{new_object, with_ref, with_word};
+ghost use Rattle.graph_heap.specs.Effect.{ref_cell, word_cell};
 ghost use Rattle.graph_heap.specs.Stored.{object_in};
 ghost use Rattle.graph_heap.specs.declared.command.Refusal.TheVariants as refusals;
 
@@ -84,59 +84,39 @@ fn cell_of(takes: bool, cells: &[u64], i: u32) -> Result<u64, Refusal>
     }
 }
 
-/// What a reference cell holds.
-pub fn ref_of(objects: &[StoredObject], id: u64, i: u32) -> Result<u64, Refusal>
-    ensures { result ≡ ref_at (map object_in objects.now) id i }
+/// Returns what a reference cell of an object holds.
+pub fn ref_of(object: &StoredObject, i: u32) -> Result<u64, Refusal>
+    ensures { result ≡ ref_cell (object_in object.now) i }
 {
-    let object = object_of(objects, id)?;
     cell_of(takes_refs(object.shape), object.refs.as_slice(), i)
 }
 
-/// What a word cell holds.
-pub fn word_of(objects: &[StoredObject], id: u64, i: u32) -> Result<u64, Refusal>
-    ensures { result ≡ word_at (map object_in objects.now) id i }
+/// Returns what a word cell of an object holds.
+pub fn word_of(object: &StoredObject, i: u32) -> Result<u64, Refusal>
+    ensures { result ≡ word_cell (object_in object.now) i }
 {
-    let object = object_of(objects, id)?;
     cell_of(takes_words(object.shape), object.words.as_slice(), i)
 }
 
-/// The object of an identity.
-pub fn object_of(objects: &[StoredObject], id: u64) -> Result<&StoredObject, Refusal>
-    ensures { Sees (λ o. object_in o.now) result (object_at (map object_in objects.now) id) }
-{
-    if id == 0 {
-        return Err(Refusal::NullSlot);
-    }
-    match objects.get((id - 1) as usize) {
-        Some(object) => Ok(object),
-        None => Err(Refusal::NullSlot),
-    }
-}
-
 /// Writes a cell, if it is there.
-fn set_cell(cells: &mut [u64], i: u32, value: u64)
+pub fn set_cell(cells: &mut [u64], i: usize, value: u64)
     ensures { cells.new ≡ slice_set cells.old i value }
 {
-    let i = i as usize;
     if i < cells.len() {
         cells[i] = value;
     }
 }
 
-/// Writes a reference cell, if it is there.
-pub fn set_ref_of(objects: &mut [StoredObject], id: u64, i: u32, value: u64)
-    ensures { map object_in objects.new ≡ put_ref (map object_in objects.old) id i value }
+/// Writes a reference cell of an object, if it is there.
+pub fn set_ref_of(object: &mut StoredObject, i: u32, value: u64)
+    ensures { object_in object.new ≡ with_ref (object_in object.old) i value }
 {
-    if id != 0 && id as usize <= objects.len() {
-        set_cell(objects[id as usize - 1].refs.as_mut_slice(), i, value);
-    }
+    set_cell(object.refs.as_mut_slice(), i as usize, value);
 }
 
-/// Writes a word cell, if it is there.
-pub fn set_word_of(objects: &mut [StoredObject], id: u64, i: u32, value: u64)
-    ensures { map object_in objects.new ≡ put_word (map object_in objects.old) id i value }
+/// Writes a word cell of an object, if it is there.
+pub fn set_word_of(object: &mut StoredObject, i: u32, value: u64)
+    ensures { object_in object.new ≡ with_word (object_in object.old) i value }
 {
-    if id != 0 && id as usize <= objects.len() {
-        set_cell(objects[id as usize - 1].words.as_mut_slice(), i, value);
-    }
+    set_cell(object.words.as_mut_slice(), i as usize, value);
 }

@@ -1,5 +1,6 @@
 -- What callers have seen of the running history.
 use Rattle.std.specs.Prelude.{ℕ, ◌≡◌, ◌+◌, ◌<◌, ◌≤◌, ◌⊎◌, List, [], ◌∷◌, ◌++◌, length, map, nat_eq, if◌then◌else◌}
+use Rattle.std.specs.List.{All}
 use mathlib.Core.List.{IsPrefix}
 use Rattle.graph_heap.specs.declared.command.Command.{Command}
 use Rattle.graph_heap.specs.declared.command.Entry.{Entry}
@@ -62,3 +63,14 @@ pub record IsKnown (log : List Entry) (s : SeatView) : Type 0 where
 abbrev pub EachKnown : List Entry → List SeatView → Type 0
 EachKnown log [] = Unit {0}
 EachKnown log (s ∷ ss) = IsKnown log s × EachKnown log ss
+
+-- What one load of the place word finds when a server is closed, with its history and its seats: the length of a log, which
+-- begins with the history and with all that each seat has seen. Of the history and what a seat has seen one begins the
+-- other. If the number is the history's length, each seat was told of all its calls.
+pub record Closes (history : List Entry) (seats : List SeatView) (found : ℕ) : Type 0 where
+  pub log : List Entry
+  pub length_is : found ≡ length log
+  pub whole : IsPrefix history log
+  pub seen : All (λ s. IsPrefix s.seen log) seats
+  pub begins : All (λ s. OneBegins history s.seen) seats
+  pub told : found ≡ length history → All (WasTold history) seats

@@ -9,13 +9,14 @@ ghost use Rattle.machine.specs.Recorded.{begin_done, quantum_done};
 ghost use Rattle.heap_server.specs.Views.{pacer_of};
 ghost use Rattle.heap_server.specs.Kept.{cycles_on};
 ghost use Rattle.heap_server.specs.Paced.{IsPaced};
+ghost use Rattle.heap_server.specs.HistoryLength.{next_entry};
 ghost use Rattle.heap_server.specs.Seen.{Extends, FaultTells};
 ghost use Rattle.heap_server.specs.declared.fault.ServerFault.TheVariants as faults;
 
 use crate::fault::ServerFault;
 use crate::naming::{Begun, Calls, Ended, Naming, Quanta, Units};
-use crate::place::{Front, HistoryLength, PendingEntry};
-use graph_heap::{Command, NoMemory};
+use crate::place::{Front, HistoryLength};
+use graph_heap::{Command, Entry, NoMemory};
 use heap_model::phase::Phase;
 use machine::{BudgetOutOfRange, Busy, Receipt, Recorded, Spent};
 use std::marker::Model;
@@ -152,9 +153,10 @@ impl<N: Naming> Locked<N> {
         Ok(())
     }
 
-    /// Does a command of the seat's mutator, whole, and enters it with its reply. The place word goes from the
-    /// length of the history to one more first: where it has another number, the log was torn from the history,
-    /// and nothing has changed. The same holds where memory for the entry is refused.
+    /// Does a command of the seat's mutator, whole, and enters it with its reply. Room for the entry comes first. Then the heap
+    /// answers what it would reply, and one exchange takes the place word from the length of the history to one more. If the
+    /// word has another number, the log was torn from the history, and nothing has changed. Nor has it if memory for the entry
+    /// is refused.
     pub fn transact(
         &mut self,
         place: &HistoryLength<N>,
@@ -180,7 +182,7 @@ impl<N: Naming> Locked<N> {
     {
         self.make_ready()?;
         self.calls.audit(&mut seat.calls);
-        let next = PendingEntry::from_command(&self.recorded, seat.mutator, command);
+        let next = next_entry(&self.recorded, seat.mutator, command);
         let at = self.recorded.history().len() as u64;
         let found = self.front.commit(place, &mut seat.front, at, &next);
         if found != at {
@@ -241,6 +243,19 @@ impl<N: Naming> Locked<N> {
         self.ended
             .add(&mut pacer.ended, on - cycles_on(spent.phase));
         Ok(spent)
+    }
+}
+
+/// Returns the entry that a command gets if it is done now, with the reply that the heap answers.
+fn next_entry(recorded: &Recorded, mutator: u32, command: Command) -> Entry
+    ensures { result ≡ next_entry recorded.now.course mutator command }
+{
+    let _legal = recorded.history();
+    let reply = recorded.heap().answer(mutator, &command);
+    Entry {
+        mutator,
+        command,
+        reply,
     }
 }
 

@@ -1,14 +1,12 @@
 //! The place word: the length of the running history, which is read without waiting.
 ghost use Rattle.std.specs.Prelude.{◌≡◌, ◌+◌, ◌==◌, ◌<◌, ◌≤◌, ◌^◌, ◌++◌, ◌∷◌, [], length, MatchBool};
 ghost use mathlib.Core.List.{IsPrefix};
-ghost use Rattle.heap_server.specs.HistoryLength.{word_of, next_entry, Commits};
+ghost use Rattle.heap_server.specs.HistoryLength.{word_of, Commits};
 
 use crate::naming::Naming;
-use graph_heap::{Command, Entry};
+use graph_heap::Entry;
 use logbook::{Gain, Offer, Plain, Play, Rule, Seen, Start, Word};
-use machine::Recorded;
 use std::marker::{Model, PhantomData};
-use std::snapshot::Snapshot;
 
 /// The rule of the place word: it is the length of the log of entries, and no more.
 pub struct LengthRule;
@@ -77,43 +75,12 @@ impl Plain<u64, Entry, u64> for LoadStep {
     ghost state = { λ n. None };
 }
 
-impl Plain<PendingEntry, Entry, u64> for AppendStep {
+impl Plain<Entry, Entry, u64> for AppendStep {
     ghost use Rattle.std.specs.Prelude.{None};
 
     ghost ask = { λ entry. entry };
 
     ghost state = { λ entry. None };
-}
-
-/// A command that is about to be done at a heap, for proofs alone: contracts see the entry that it will get. So
-/// the entry can be added to the log before the command is planned.
-#[derive(Drop)]
-pub struct PendingEntry {
-    recorded: Snapshot<Recorded>,
-    mutator: u32,
-    command: Command,
-}
-
-impl Model for PendingEntry {
-    ghost use Rattle.graph_heap.specs.declared.command.Entry.{Entry};
-    ghost use Rattle.heap_server.specs.HistoryLength.{next_entry};
-
-    ghost Value = { Entry };
-
-    ghost view = { λ n. next_entry n.recorded.value.course n.mutator n.command };
-}
-
-impl PendingEntry {
-    /// The command, at this heap with its history.
-    pub fn from_command(recorded: &Recorded, mutator: u32, command: Command) -> PendingEntry
-        ensures { result ≡ next_entry recorded.now.course mutator command }
-    {
-        PendingEntry {
-            recorded: Snapshot::of(recorded),
-            mutator,
-            command,
-        }
-    }
 }
 
 /// A place word with an empty log, which has no name yet.
@@ -214,7 +181,7 @@ impl<N: Naming> Front<N> {
     }
 
     /// One exchange, which adds the entry if the log has the length given, and answers the length found.
-    pub(crate) fn add(&mut self, place: &HistoryLength<N>, at: u64, next: &PendingEntry) -> u64
+    pub(crate) fn add(&mut self, place: &HistoryLength<N>, at: u64, next: &Entry) -> u64
         requires room { at + 1 < 2 ^ 64 }
         requires known { at ≤ length self.old }
         ensures grows { IsPrefix self.old self.new }
@@ -223,7 +190,7 @@ impl<N: Naming> Front<N> {
     {
         let mut offer: Offer<Entry, u64, LengthRule, NoGain> = self
             .seen
-            .plain::<NoGain, PendingEntry, AppendStep>(next);
+            .plain::<NoGain, Entry, AppendStep>(next);
         let mut pen = self.seen.no_pen();
         place
             .word
@@ -243,7 +210,7 @@ impl<N: Naming> Front<N> {
         place: &HistoryLength<N>,
         mine: &mut Front<N>,
         at: u64,
-        next: &PendingEntry,
+        next: &Entry,
     ) -> u64
         requires room { at + 1 < 2 ^ 64 }
         requires whole { at ≡ length self.old }

@@ -54,13 +54,15 @@ pub fn play_threads<G: Gate + Sync, R: Threads + Wait + Sync>(
     rt: &R,
     alloc: Global,
     config: &Config,
-    scripts: &[Vec<Command>],
-    budgets: &[u32],
+    scripts: Vec<Vec<Command>>,
+    budgets: Vec<u32>,
     gate: &G,
 ) -> Result<Outcome, NoMemory>
-    requires fits { length scripts.now ≤ config.now.mutators }
-    ensures { IfOk result (IsOutcome (settings_by config.now) (map (λ s. s.items) scripts.now) budgets.now) }
+    requires fits { vec_len scripts ≤ config.now.mutators }
+    ensures { IfOk result (IsOutcome (settings_by config.now) (map (λ s. s.items) scripts.items) budgets.items) }
 {
+    let scripts = scripts.as_slice();
+    let budgets = budgets.as_slice();
     played::<Brand, G, R>(rt, alloc, Opening::new(config), scripts, budgets, gate)
 }
 
@@ -131,7 +133,7 @@ fn settled<N: Naming>(
 {
     count_calls(seats.as_slice(), scripts.len(), &mut done);
     let whole = is_whole(scripts, done.as_slice());
-    let (recorded, found, _seen) = server.close(seats, pacer);
+    let (recorded, found) = server.close(seats, pacer);
     let torn = found != recorded.history().len() as u64;
     let all = is_all(torn, whole, used, budgets.len());
     Outcome {

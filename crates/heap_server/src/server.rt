@@ -1,5 +1,5 @@
 //! The server: one lock round the heap, and the calls of seats and of the pacer.
-ghost use Rattle.std.specs.Prelude.{◌≡◌, ◌≢◌, ◌↔◌, ◌+◌, ◌<◌, [], length, All, IfErr, IfOk, IsOk, IsPermutation, OnErr, OnOk, vec_len};
+ghost use Rattle.std.specs.Prelude.{◌≡◌, ◌≢◌, ◌↔◌, ◌+◌, ◌<◌, [], length, IfErr, IfOk, IsOk, IsPermutation, OnErr, OnOk, vec_len};
 ghost use mathlib.Core.List.{IsPrefix};
 ghost use Rattle.std.specs.List.{sum_by};
 ghost use Rattle.graph_heap.specs.Graph.{opening};
@@ -10,7 +10,7 @@ ghost use Rattle.heap_server.specs.Kept.{IsSound};
 ghost use Rattle.heap_server.specs.Opened.{names_of};
 ghost use Rattle.heap_server.specs.Paced.{IsPaced};
 ghost use Rattle.heap_server.specs.Seats.{new_seats, mutators_of, upto};
-ghost use Rattle.heap_server.specs.Seen.{EachKnown, Extends, FaultShows, IsKnown, OneBegins, WasTold};
+ghost use Rattle.heap_server.specs.Seen.{Closes, EachKnown, Extends, FaultShows, IsKnown};
 
 use crate::fault::ServerFault;
 use crate::locked::{Locked, Pacer, Seat};
@@ -142,18 +142,14 @@ impl<N: Naming> Server<N> {
         self.locked.lock(rt).reserve(calls)
     }
 
-    /// The heap with the history of all calls, the number of the place word, and what was seen of the log by the load
-    /// that found it. All that `new` gave comes back: every seat, in any order, and the pacer. It waits for nobody.
-    pub fn close(self, seats: Vec<Seat<N>>, mut pacer: Pacer<N>) -> (Recorded, u64, Front<N>)
+    /// Returns the heap with the history of all calls, and the number of the place word, by one load. All that `new` gave comes
+    /// back: every seat, in any order, and the pacer. It waits for nobody.
+    pub fn close(self, seats: Vec<Seat<N>>, mut pacer: Pacer<N>) -> (Recorded, u64)
         requires { IsPermutation (mutators_of seats.items) (upto N.names.settings.limits.mutators) }
         ensures sound { IsSound N.names.settings result.0.course }
         ensures counted { length result.0.course.history ≡ sum_by (λ s. s.calls) seats.items }
         ensures reached_from { IsReachedFrom result.0.course pacer.begun pacer.quanta pacer.spent }
-        ensures found { result.1 ≡ length result.2 }
-        ensures whole { IsPrefix result.0.course.history result.2 }
-        ensures seen { All (λ s. IsPrefix s.seen result.2) seats.items }
-        ensures begins { All (λ s. OneBegins result.0.course.history s.seen) seats.items }
-        ensures told { result.1 ≡ length result.0.course.history → All (WasTold result.0.course.history) seats.items }
+        ensures found { Closes result.0.course.history seats.items result.1 }
     {
         let Server { place, locked } = self;
         let mut locked = locked.into_inner();
@@ -164,7 +160,7 @@ impl<N: Naming> Server<N> {
         locked.calls.audit(&mut gathered(seats, &mut seen));
         let found = seen.observe(&place);
         let Locked { recorded, .. } = locked;
-        (recorded, found, seen)
+        (recorded, found)
     }
 }
 

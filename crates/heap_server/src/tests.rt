@@ -5,7 +5,7 @@ ghost use Rattle.heap_server.specs.Opened.{names_of};
 use crate::naming::{Naming, Opening};
 use crate::server::Server;
 use graph_heap::{Command, NoMemory};
-use settings::{Config, Ranges, Settings};
+use settings::{Config, Settings};
 use std::alloc::AllocGlobal;
 use std::marker::Brand;
 use std::process::Abort;
@@ -42,7 +42,7 @@ fn read_while_held<N: Naming, R: Wait + Abort + AllocGlobal>(
 
 #[test]
 fn the_place_is_read_while_the_lock_is_held(rt: HostRuntime) -> Result<(), NoMemory> {
-    let Ok(config) = Config::check(Ranges::Library, &TWO_MUTATORS) else {
+    let Ok(config) = Config::check(&TWO_MUTATORS) else {
         panic!(&rt; "the settings are good");
     };
     let place = read_while_held::<Brand, _>(&rt, Opening::new(&config))?;

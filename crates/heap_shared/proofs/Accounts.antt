@@ -1,15 +1,17 @@
--- What a longer history still bears out.
-use Rattle.std.proofs.Common.{◌≡◌, ◌≢◌, ℕ, suc, ◌+◌, ◌≤◌, List, [], ◌∷◌, ◌++◌, Bool, false, length, refl, sym, ap, ◌∙◌, arith, append_assoc, append-nil}
+-- What a longer log still bears out.
+use Rattle.std.proofs.Common.{◌≡◌, ◌≢◌, ℕ, suc, ◌+◌, ◌%◌, List, [], ◌∷◌, ◌++◌, Bool, false, length, refl, sym, ap, ◌∙◌, subst, arith, append_assoc, append-nil}
 use Rattle.std.specs.Prelude.{nat_eq, if◌then◌else◌}
 use Rattle.std.specs.List.{All}
 use Rattle.std.proofs.lemmas.Bool.Decides.{nat_tests}
-use Rattle.std.proofs.lemmas.List.Elements.{All-append, All-cons, All-nil}
+use Rattle.std.proofs.lemmas.List.Elements.{All-append, All-cons, All-nil, All-map}
+use mathlib.Core.Option.{Option, some}
 use Rattle.graph_heap.specs.declared.command.Entry.{Entry}
+use Rattle.heap_model.specs.Event.{Event}
 use Rattle.heap_server.specs.Seen.{mine_from, mine}
 use Rattle.heap_server.proofs.Mine.{mine_append}
+use Rattle.heap_shared.specs.declared.deed.Deed.{Deed}
 use Rattle.heap_shared.specs.declared.rule.Account.{Account}
-use Rattle.heap_shared.specs.Accounts.{IsWithin, BearsOut, GoesOn}
-use Rattle.heap_server.proofs.Fronts.{prefix_self, prefix_trans}
+use Rattle.heap_shared.specs.Accounts.{Doer, mutator_of, member_of, Has, IsOthers, BearsOut, IsAllowed, GoesOn, signed}
 
 -- entries of others are none of a mutator's
 others_from : (es : List Entry) (m k : ℕ) → All (λ e. e.mutator ≢ m) es → mine_from k es m ≡ []
@@ -27,25 +29,34 @@ mine_others es m all = others_from es m 0 all
 pub mine_same : (log added : List Entry) (m : ℕ) → All (λ e. e.mutator ≢ m) added → mine (log ++ added) m ≡ mine log m
 mine_same log added m all = mine_append log added m ∙ (ap (λ w. mine log m ++ w) (others_from added m (length log) all) ∙ append-nil (mine log m))
 
--- a longer history bears out an account where none of its mutators has a new entry
-pub bears_more : (log added : List Entry) (a : Account) → BearsOut log a → ((m : ℕ) → IsWithin a.from a.to m → All (λ e. e.mutator ≢ m) added) → BearsOut (log ++ added) a
-bears_more log added a b new = (prefix_trans a.seen log (log ++ added) b.0 (added, refl), λ m w. mine_same log added m (new m w) ∙ b.1 m w)
+-- a longer log bears out an account where what is new is others'
+pub bears_more : (log added : List Deed) (a : Account) → BearsOut log a → All (IsOthers a) added → BearsOut (log ++ added) a
+bears_more log added a b new = (b.0 ++ added, sym (append_assoc a.seen b.0 added) ∙ ap (λ (xs : List Deed). xs ++ added) b.1, All-append (IsOthers a) b.0 added b.2 new)
 
--- a history bears out who has seen it all
-pub bears_all : (log : List Entry) (from to : ℕ) → BearsOut log (record { from = from; to = to; seen = log })
-bears_all log from to = (prefix_self log, λ m w. refl)
+-- a log bears out who has seen it all
+pub bears_all : (log : List Deed) (a : Account) → a.seen ≡ log → BearsOut log a
+bears_all log a whole = ([], append-nil a.seen ∙ whole, All-nil (IsOthers a))
 
--- fewer mutators
-pub bears_fewer : (log : List Entry) (a : Account) (from to : ℕ) → a.from ≤ from → to ≤ a.to → BearsOut log a → BearsOut log (record { from = from; to = to; seen = a.seen })
-bears_fewer log a from to low high b = (b.0, λ m w. b.1 m (omega (arith, low, w.0), omega (arith, high, w.1)))
+-- fewer mutators and numbers
+pub bears_fewer : (log : List Deed) (a b : Account) → b.seen ≡ a.seen → ((x : Doer) → Has b x → Has a x) → BearsOut log a → BearsOut log b
+bears_fewer log a b same fewer w = (w.0, ap (λ (xs : List Deed). xs ++ w.0) same ∙ w.1, λ k d lt x h of. w.2 k d lt x (fewer x h) of)
 
--- a history goes on by nothing, and by one entry
-pub goes_none : (from to : ℕ) (log : List Entry) → GoesOn from to log log
-goes_none from to log = ([], append-nil log, All-nil (λ (e : Entry). IsWithin from to e.mutator))
+-- events go on by nothing, and by one event
+pub goes_none : (from to : ℕ) (es : List Event) → GoesOn from to es es
+goes_none from to es = ([], append-nil es, All-nil (IsAllowed from to))
 
-pub goes_one : (from to : ℕ) (log now : List Entry) (e : Entry) → IsWithin from to e.mutator → GoesOn from to log now → GoesOn from to log (now ++ e ∷ [])
-goes_one from to log now e w g = (
+pub goes_one : (from to : ℕ) (es now : List Event) (e : Event) → IsAllowed from to e → GoesOn from to es now → GoesOn from to es (now ++ e ∷ [])
+goes_one from to es now e may g = (
   g.0 ++ e ∷ [],
-  sym (append_assoc log g.0 (e ∷ [])) ∙ ap (λ xs. xs ++ e ∷ []) g.1,
-  All-append (λ (x : Entry). IsWithin from to x.mutator) g.0 (e ∷ []) g.2 (All-cons (λ (x : Entry). IsWithin from to x.mutator) e [] w (All-nil (λ (x : Entry). IsWithin from to x.mutator))),
+  sym (append_assoc es g.0 (e ∷ [])) ∙ ap (λ xs. xs ++ e ∷ []) g.1,
+  All-append (IsAllowed from to) g.0 (e ∷ []) g.2 (All-cons (IsAllowed from to) e [] may (All-nil (IsAllowed from to))),
 )
+
+-- What a member does is others' to whoever has nothing of what the member has.
+module _ (owner : Doer → Option ℕ) (id : ℕ) (mine : Account) (named : mine.number % mine.step ≡ mine.number) (owns : (x : Doer) → Has mine x → owner x ≡ some id) (a : Account) (apart : (x : Doer) → Has a x → owner x ≢ some id) where
+  theirs : (e : Event) → IsAllowed mine.from mine.to e → IsOthers a (record { by = mine.number; event = e })
+  theirs e may (mutator_of m) has of = apart (mutator_of m) has (owns (mutator_of m) (may m of))
+  theirs e may (member_of n) has of = apart (member_of n) has (owns (member_of n) (subst (λ (y : ℕ). y % mine.step ≡ mine.number) of named))
+
+  pub not_theirs : (did : List Event) → All (IsAllowed mine.from mine.to) did → All (IsOthers a) (signed mine.number did)
+  not_theirs did all = All-map (IsOthers a) (λ (e : Event). record { by = mine.number; event = e }) did (λ k e lt. theirs _ (all k e lt))

@@ -5,8 +5,10 @@ pub mod Owners
 pub mod Rings
 pub mod Turns
 pub mod Splitting
-pub mod Charting
+pub mod Rejoining
+pub mod Pasts
 pub mod Members
 pub mod Merging
+pub mod Refuted
 pub mod Sending
 pub mod Tables

@@ -1,26 +1,38 @@
 -- What a member has, before and after its steps.
-use Rattle.std.proofs.Common.{◌≡◌, ◌≢◌, ℕ, ◌+◌, ◌/◌, ◌%◌, ◌<◌, Bool, true, false, true≢false, List, [], ◌∷◌, length, get_or, refl, sym, ap, ◌∙◌, subst, Some, None, Ok, Err}
-use Rattle.std.specs.Prelude.{Option, Result}
+use Rattle.std.proofs.Common.{◌≡◌, ◌≢◌, ℕ, ◌+◌, ◌/◌, ◌%◌, ◌<◌, ◌≤◌, Bool, true, false, true≢false, List, [], ◌∷◌, ◌++◌, length, drop, get_or, refl, sym, ap, ◌∙◌, subst, arith, append-nil, length-append, Some, None, Ok, Err}
+use Rattle.std.specs.Prelude.{Option, Result, IfSome}
+use Rattle.std.specs.List.{All}
+use Rattle.std.proofs.lemmas.List.{length-map, drop-append-le}
+use mathlib.Core.List.{IsPrefix}
 use Rattle.atomic_table.specs.Table.{Me, rest}
 use Rattle.atomic_table.specs.Seated.{TableId}
 use Rattle.graph_heap.specs.declared.command.Command.{Command}
 use Rattle.graph_heap.specs.declared.command.Entry.{Entry}
 use Rattle.graph_heap.specs.declared.command.Reply.{Reply}
 use Rattle.heap_model.specs.Event.{Course, Event, Command_done, Does}
+use Rattle.heap_model.specs.ReachedFrom.{opened}
 use Rattle.heap_model.proofs.Settings.{does_settings}
 use Rattle.machine.specs.declared.collector.Busy.{Busy}
 use Rattle.machine.specs.declared.collector.BudgetOutOfRange.{BudgetOutOfRange}
 use Rattle.machine.specs.declared.collector.Spent.{Spent}
 use Rattle.machine.specs.Recorded.{begin_done, quantum_done}
+use Rattle.machine.proofs.Courses.{runs_then}
+use Rattle.machine.proofs.Headline.{always_holds}
+use Rattle.machine.proofs.Space.{found_space, runs_settings}
+use Rattle.heap_shared.specs.declared.deed.Deed.{Deed}
+use Rattle.heap_server.proofs.Fronts.{prefix_self}
+use Rattle.heap_shared.specs.declared.rule.Account.{Account}
 use Rattle.heap_shared.specs.declared.rule.Known.{Known}
 use Rattle.heap_shared.specs.declared.shared_heap.SharedConfig.{SharedConfig}
-use Rattle.heap_shared.specs.Accounts.{IsWithin, GoesOn}
+use Rattle.heap_shared.specs.Past.{IsLed, history_of}
+use Rattle.heap_shared.specs.Accounts.{IsWithin, IsAllowed, GoesOn, events_of, history_by, signed}
 use Rattle.heap_shared.specs.declared.member.NoEntry.{NoEntry}
 use Rattle.heap_shared.specs.declared.member.NoEntry.TheVariants.{NotYet}
-use Rattle.heap_shared.specs.Ring.{Ringed, IsAsAsked, TellsEntry}
-use Rattle.heap_shared.specs.Turns.{word_of, history_in, Told, HasTurn}
-use Rattle.heap_shared.specs.Members.{MemberView, turn_of, shown_by, HasHeap, IsMember, BearsAll, Enters, Leaves, Places, DoesIn, DoesInTurn, FindsEntry, Calls}
+use Rattle.heap_shared.specs.Ring.{Ringed, IsAsAsked, GoesBy, TellsEntry}
+use Rattle.heap_shared.specs.Turns.{word_of, done_since, seen_now, Told, HasTurn}
+use Rattle.heap_shared.specs.Members.{MemberView, turn_of, shown_by, HasHeap, IsMember, events_up_to, BearsAll, Enters, Leaves, Places, DoesIn, DoesInTurn, FindsEntry, Calls, IsPromised}
 use Rattle.heap_shared.proofs.Accounts.{goes_none, goes_one}
+use Rattle.heap_shared.proofs.Pasts.{led_more, led_course, led_history, done_is}
 use Rattle.heap_shared.proofs.Rings.{not_yet}
 use Rattle.heap_shared.proofs.Words.{word_more}
 
@@ -64,49 +76,58 @@ module _ (c : SharedConfig) (b : Bool) (w : ℕ) (m : M) (now k : Ringed) (yes :
   pub turn_was : turn_of m.1 ≡ Some now.course
   turn_was = ap turn_of at
 
-  goes_now : GoesOn m.0.from m.0.to m.0.seen now.course.history
-  goes_now = subst (λ (r : Ringed). GoesOn m.0.from m.0.to m.0.seen r.course.history) same one.goes
+  asked_now : IsAsAsked c now
+  asked_now = subst (IsAsAsked c) same one.asked
+
+  goes_now : GoesOn m.0.from m.0.to (events_of m.0.seen) now.events
+  goes_now = subst (λ (r : Ringed). GoesOn m.0.from m.0.to (events_of m.0.seen) r.events) same one.goes
 
   number_now : w ≡ word_of now.course.history
   number_now = one.number ∙ ap (λ (r : Ringed). word_of r.course.history) same
 
-  -- the same settings, and as many entries
-  settled : (e : Event) → Does now.course e k.course → k.ring ≡ now.ring → IsAsAsked c k
-  settled e d kept =
-      let asked : IsAsAsked c now = subst (IsAsAsked c) same one.asked in
-      (does_settings now.course e k.course d ∙ asked.0, kept ∙ asked.1)
-
-  -- a command was done
-  pub commanded : (v : ℕ) (mu : ℕ) (command : Command) (told : Reply) → IsWithin m.0.from m.0.to mu → v ≡ (w + 2) % 18446744073709551616 → Does now.course (Command_done mu command told) k.course → k.ring ≡ now.ring → IsMember c b v (m.0, (0, k) ∷ rest m.1)
-  commanded v mu command told within is_more d kept =
-      let entry : Entry = record { mutator = mu; command = command; reply = told } in inside_still c b v _ yes (record {
-        held = k;
-        inside = one.inside;
-        carried = ap (λ (l : List (ℕ × Ringed)). (0, k) ∷ l) none_left;
-        goes = subst (GoesOn m.0.from m.0.to m.0.seen) (sym d.history) (goes_one m.0.from m.0.to m.0.seen now.course.history entry within goes_now);
-        asked = settled (Command_done mu command told) d kept;
-        number = is_more ∙ (word_more now.course.history entry w number_now ∙ ap word_of (sym d.history));
-      })
-
-  -- the collector did something, and the history is the same
-  pub collected : (e : Event) → Does now.course e k.course → k.ring ≡ now.ring → k.course.history ≡ now.course.history → IsMember c b w (m.0, (0, k) ∷ rest m.1)
-  collected e d kept still = inside_still c b w _ yes (record {
+  -- an event was done, and the word gets another number, or not
+  gone_by : (v : ℕ) (e : Event) → IsAllowed m.0.from m.0.to e → GoesBy now e k → v ≡ word_of k.course.history → IsMember c b v (m.0, (0, k) ∷ rest m.1)
+  gone_by v e may d is_number = inside_still c b v _ yes (record {
     held = k;
     inside = one.inside;
     carried = ap (λ (l : List (ℕ × Ringed)). (0, k) ∷ l) none_left;
-    goes = subst (GoesOn m.0.from m.0.to m.0.seen) (sym still) goes_now;
-    asked = settled e d kept;
-    number = number_now ∙ ap word_of (sym still);
+    goes = subst (GoesOn m.0.from m.0.to (events_of m.0.seen)) (sym d.events) (goes_one m.0.from m.0.to (events_of m.0.seen) now.events e may goes_now);
+    asked = record {
+      settings = does_settings now.course e k.course d.does ∙ asked_now.settings;
+      ring = d.ring ∙ asked_now.ring;
+      led = subst (λ (es : List Event). IsLed es k.course) (sym d.events) (led_more now.events now.course k.course e asked_now.led d.does);
+    };
+    number = is_number;
   })
 
-  -- it was done in the turn
-  pub done_in : (id : TableId) (v : MemberView) → shown_by id c m ≡ v → {A : Type 0} (event : A → Event) (a : A) → Does now.course (event a) k.course → DoesInTurn event v (Some a) (shown_by id c (m.0, (0, k) ∷ rest m.1))
-  done_in id v shows event a d = subst (λ (x : MemberView). DoesInTurn event x (Some a) (shown_by id c (m.0, (0, k) ∷ rest m.1))) shows
-      (subst (λ (t : Option Course). DoesIn t event (shown_by id c m) (Some a) (shown_by id c (m.0, (0, k) ∷ rest m.1))) (sym turn_was) (a, k.course, refl, d, refl))
+  -- a command was done
+  pub commanded : (v : ℕ) (mu : ℕ) (command : Command) (told : Reply) → IsWithin m.0.from m.0.to mu → v ≡ (w + 2) % 18446744073709551616 → GoesBy now (Command_done mu command told) k → IsMember c b v (m.0, (0, k) ∷ rest m.1)
+  commanded v mu command told within is_more d =
+      let entry : Entry = record { mutator = mu; command = command; reply = told } in
+      gone_by v (Command_done mu command told) (λ j of. subst (IsWithin m.0.from m.0.to) of within) d
+      (is_more ∙ (word_more now.course.history entry w number_now ∙ ap word_of (sym d.does.history)))
 
-  pub called : (id : TableId) (v : MemberView) → shown_by id c m ≡ v → (mu : ℕ) (command : Command) (told : Reply) → IsWithin m.0.from m.0.to mu → Does now.course (Command_done mu command told) k.course
+  -- the collector did something, and the history is the same
+  pub collected : (e : Event) → IsAllowed m.0.from m.0.to e → GoesBy now e k → k.course.history ≡ now.course.history → IsMember c b w (m.0, (0, k) ∷ rest m.1)
+  collected e may d still = gone_by w e may d (number_now ∙ ap word_of (sym still))
+
+  -- one event more is done in this turn
+  did_more : (e : Event) → GoesBy now e k → drop (length m.0.seen) k.events ≡ done_since m.0.seen m.1 ++ e ∷ []
+  did_more e d =
+      let long : length m.0.seen ≤ length now.events = omega (arith, ap length goes_now.1, length-append (events_of m.0.seen) goes_now.0, length-map m.0.seen (λ (x : Deed). x.event)) in
+      ap (drop (length m.0.seen)) d.events ∙ (drop-append-le (length m.0.seen) now.events (e ∷ []) long ∙ ap (λ (es : List Event). es ++ e ∷ []) (sym (ap (done_since m.0.seen) at)))
+
+  shows_more : (id : TableId) (e : Event) → GoesBy now e k → shown_by id c (m.0, (0, k) ∷ rest m.1) ≡ record (shown_by id c m) { turn = Some k.course; did = done_since m.0.seen m.1 ++ e ∷ [] }
+  shows_more id e d = ap (λ (es : List Event). record (shown_by id c m) { turn = Some k.course; did = es }) (did_more e d)
+
+  -- it was done in the turn
+  pub done_in : (id : TableId) (v : MemberView) → shown_by id c m ≡ v → {A : Type 0} (event : A → Event) (a : A) → GoesBy now (event a) k → DoesInTurn event v (Some a) (shown_by id c (m.0, (0, k) ∷ rest m.1))
+  done_in id v shows event a d = subst (λ (x : MemberView). DoesInTurn event x (Some a) (shown_by id c (m.0, (0, k) ∷ rest m.1))) shows
+      (subst (λ (t : Option Course). DoesIn t event (shown_by id c m) (Some a) (shown_by id c (m.0, (0, k) ∷ rest m.1))) (sym turn_was) (a, k.course, refl, d.does, shows_more id (event a) d))
+
+  pub called : (id : TableId) (v : MemberView) → shown_by id c m ≡ v → (mu : ℕ) (command : Command) (told : Reply) → IsWithin m.0.from m.0.to mu → GoesBy now (Command_done mu command told) k
       → Calls v mu command (Ok told) (shown_by id c (m.0, (0, k) ∷ rest m.1))
-  called id v shows mu command told within d = subst (λ (x : MemberView). Calls x mu command (Ok told) (shown_by id c (m.0, (0, k) ∷ rest m.1))) shows (now.course, k.course, turn_was, within, d, refl)
+  called id v shows mu command told within d = subst (λ (x : MemberView). Calls x mu command (Ok told) (shown_by id c (m.0, (0, k) ∷ rest m.1))) shows (now.course, k.course, turn_was, within, d.does, shows_more id (Command_done mu command told) d)
 
 -- without the turn nothing is done
 pub no_turn : (c : SharedConfig) (b : Bool) (w : ℕ) (m : M) → b ≡ false → IsMember c b w m → turn_of m.1 ≡ None
@@ -124,42 +145,71 @@ shown_so P id new c was m v same shows p = subst (λ (x : MemberView). P x (show
 -- who has given the turn back
 pub left_none : (old : MemberView) (had : Bool) (new : MemberView) → Leaves old had new → new.turn ≡ None
 left_none old false new l = ap (λ (v : MemberView). v.turn) l.1 ∙ l.0
-left_none old true new l = ap (λ (v : MemberView). v.turn) l.3
+left_none old true new l = ap (λ (v : MemberView). v.turn) l.2
+
+-- who learns has the same turn
+pub learnt_still : (c : SharedConfig) (b : Bool) (w : ℕ) (m : M) (l : List Account) → IsMember c b w m → IsMember c b w (record m.0 { learnt = l }, m.1)
+learnt_still c false w m l is = is
+learnt_still c true w m l is = record { held = is.held; inside = is.inside; carried = is.carried; goes = is.goes; asked = is.asked; number = is.number }
+
+-- who has left has seen no less
+pub leaves_grow : (old : MemberView) (had : Bool) (new : MemberView) → Leaves old had new → IsPrefix old.seen new.seen
+leaves_grow old false new l = subst (λ (v : MemberView). IsPrefix old.seen v.seen) (sym l.1) (prefix_self old.seen)
+leaves_grow old true new l = (signed old.number old.did, ap (λ (v : MemberView). v.seen) (sym l.2))
 
 -- the turn was taken
-pub entered : (c : SharedConfig) (n found : ℕ) (v : Known) (m : M) → v.config ≡ Some c → HasTurn v found m → n ≡ found → HasHeap c n m
-entered c n found v m config h is = subst (HasHeap c n) (sym h.has) (record {
-  held = h.held;
-  inside = refl;
-  carried = refl;
-  goes = goes_none v.from v.to h.held.course.history;
-  asked = h.asked c config;
-  number = is ∙ h.word;
-})
+module _ (c : SharedConfig) (v : Known) (found : ℕ) (m : M) (config : v.config ≡ Some c) (h : HasTurn v found m) where
+  history_is : history_by h.log ≡ h.held.course.history
+  history_is = ap history_of h.events ∙ sym (led_history h.held.events h.held.course (h.asked c config).led)
+
+  pub entered : (n : ℕ) → n ≡ found → HasHeap c n m
+  entered n is = subst (HasHeap c n) (sym h.has) (record {
+    held = h.held;
+    inside = refl;
+    carried = refl;
+    goes = subst (GoesOn v.from v.to (events_of h.log)) h.events (goes_none v.from v.to (events_of h.log));
+    asked = h.asked c config;
+    number = is ∙ (h.word ∙ ap word_of history_is);
+  })
 
 -- what a member is told, as it is shown
-pub bears_all : (id : TableId) (c : SharedConfig) (m : M) (log : List Entry) → m.0.config ≡ Some c → Told log m.0 → BearsAll log (shown_by id c m)
+pub bears_all : (id : TableId) (c : SharedConfig) (m : M) (log : List Deed) → m.0.config ≡ Some c → Told log m.0 → BearsAll log (shown_by id c m)
 bears_all id c m log config told = record { own = told.own; learnt = told.learnt; below = told.below c config }
 
 pub enters_so : (id : TableId) (c : SharedConfig) (found : ℕ) (b : Bool) (w : ℕ) (old m : M) → b ≡ false → IsMember c b w old → old.0.config ≡ Some c → HasTurn old.0 found m → Enters (shown_by id c old) (Ok tt) (shown_by id c m)
 enters_so id c found b w old m isnt is config h = (
+  h.log,
   h.held.course,
   no_turn c b w old isnt is,
-  ap (shown_by id c) h.has,
-  bears_all id c old h.held.course.history config h.told,
-  (h.asked c config).0,
+  ap (shown_by id c) h.has ∙ ap (λ (es : List Event). record (shown_by id c old) { seen = h.log; turn = Some h.held.course; did = es }) (done_is h.log [] h.held.events (append-nil (events_of h.log) ∙ h.events)),
+  bears_all id c old h.log config h.told,
+  subst (λ (es : List Event). IsLed es h.held.course) (sym h.events) (h.asked c config).led,
+  (h.asked c config).settings,
 )
+
+-- nothing is done by who carries nothing
+none_done : (l : List (ℕ × Ringed)) (x y : List Deed) → l ≡ [] → done_since x l ≡ done_since y l
+none_done l x y none = ap (done_since x) none ∙ sym (ap (done_since y) none)
 
 -- the word was looked at
 pub places_so : (id : TableId) (c : SharedConfig) (b : Bool) (w : ℕ) (old new : M) (n : ℕ) → b ≡ false → IsMember c b w old → old.0.config ≡ Some c
-    → (new ≡ (record old.0 { seen = new.0.seen }, old.1)) × Told new.0.seen old.0 × (n ≡ length new.0.seen % 9223372036854775808)
+    → (new ≡ (record old.0 { seen = new.0.seen }, old.1)) × Told new.0.seen old.0 × (n ≡ length (history_by new.0.seen) % 9223372036854775808)
     → Places (shown_by id c old) (Some n) (shown_by id c new)
 places_so id c b w old new n isnt is config did = (
   no_turn c b w old isnt is,
   bears_all id c old new.0.seen config did.1,
   did.2,
-  ap (shown_by id c) did.0,
+  ap (shown_by id c) did.0 ∙ ap (λ (es : List Event). record (shown_by id c old) { seen = new.0.seen; did = es }) (none_done old.1 new.0.seen old.0.seen (carries_none c b w old isnt is).0),
 )
+
+-- what the collector is asked to do is no command
+pub begin_allowed : (from to : ℕ) (a : Result (Unit {0}) Busy) → IsAllowed from to (begin_done a)
+begin_allowed from to (Ok done) m of = absurd of
+begin_allowed from to (Err busy) m of = absurd of
+
+pub quantum_allowed : (from to budget : ℕ) (a : Result Spent BudgetOutOfRange) → IsAllowed from to (quantum_done budget a)
+quantum_allowed from to budget (Ok spent) m of = absurd of
+quantum_allowed from to budget (Err refused) m of = absurd of
 
 -- what the collector does is no entry of the history
 pub begin_same : (now k : Course) (a : Result (Unit {0}) Busy) → Does now (begin_done a) k → k.history ≡ now.history
@@ -183,8 +233,7 @@ module _ (id : TableId) (c : SharedConfig) (b : Bool) (w : ℕ) (m : M) (now : R
 
   pub tells_so : (place : ℕ) (told : Result Entry NoEntry) → TellsEntry now.ring now.course.history place told → FindsEntry place v (Some told) still
   tells_so place told tells =
-      let asked : IsAsAsked c now = subst (IsAsAsked c) (same c b w m now now has is at) (one c b w m now now has is at).asked in
-      let kept : now.ring ≡ v.ring = asked.1 ∙ ap (λ (x : MemberView). x.ring) shows in
+      let kept : now.ring ≡ v.ring = (asked_now c b w m now now has is at).ring ∙ ap (λ (x : MemberView). x.ring) shows in
       (now.course, has_turn, subst (λ (k : ℕ). TellsEntry k now.course.history place told) kept tells, stays)
 
 -- there is no entry yet
@@ -198,11 +247,26 @@ pub word_now : (c : SharedConfig) (b : Bool) (w : ℕ) (m : M) (now : Ringed) �
 word_now c b w m now has is at = number_now c b w m now now has is at
 
 -- the turn was given back
-pub leaves_so : (id : TableId) (c : SharedConfig) (b : Bool) (w : ℕ) (m new : M) → b ≡ true → IsMember c b w m → new ≡ (record m.0 { seen = history_in m.1; inside = false }, []) → Leaves (shown_by id c m) true (shown_by id c new)
+pub leaves_so : (id : TableId) (c : SharedConfig) (b : Bool) (w : ℕ) (m new : M) → b ≡ true → IsMember c b w m → new ≡ (record m.0 { seen = seen_now m; inside = false }, []) → Leaves (shown_by id c m) true (shown_by id c new)
 leaves_so id c b w m new has is did =
-    let one = carries_one c b w m has is in (
-      one.held.course,
-      ap turn_of one.carried,
-      one.goes,
-      ap (shown_by id c) did ∙ ap (λ (l : List (ℕ × Ringed)). record (shown_by id c m) { seen = history_in l; turn = None }) one.carried,
+    let one = carries_one c b w m has is in
+    let since : done_since m.0.seen m.1 ≡ one.goes.0 = ap (done_since m.0.seen) one.carried ∙ done_is m.0.seen one.goes.0 one.held.events one.goes.1 in (
+      (λ none. let z : Some one.held.course ≡ None = sym (ap turn_of one.carried) ∙ none in cc),
+      subst (All (IsAllowed m.0.from m.0.to)) (sym since) one.goes.2,
+      ap (shown_by id c) did,
     )
+
+-- what is promised in the turn
+pub promised : (id : TableId) (c : SharedConfig) (b : Bool) (w : ℕ) (m : M) (v : MemberView) → b ≡ true → IsMember c b w m → shown_by id c m ≡ v → IfSome v.turn (IsPromised v)
+promised id c b w m v has is shows =
+    let one = carries_one c b w m has is in
+    let r = one.held.course in
+    let s = shown_by id c m in
+    let since : events_up_to s ≡ one.held.events = ap (λ (l : List (ℕ × Ringed)). events_of m.0.seen ++ done_since m.0.seen l) one.carried ∙ (ap (λ (es : List Event). events_of m.0.seen ++ es) (done_is m.0.seen one.goes.0 one.held.events one.goes.1) ∙ one.goes.1) in
+    let led : IsLed (events_up_to s) r = subst (λ (es : List Event). IsLed es r) (sym since) one.asked.led in
+    let holds : IsPromised s r = record {
+      headline = always_holds r (led_course one.held.events r one.asked.led);
+      led = led;
+      space = λ config es new same runs. found_space new config led.first (events_up_to s ++ es) (runs_settings es r new runs ∙ (one.asked.settings ∙ same)) led.opening (runs_then (events_up_to s) es (opened led.first) r new led.runs runs);
+    } in
+    subst (λ (x : MemberView). IfSome x.turn (IsPromised x)) shows (subst (λ (t : Option Course). IfSome t (IsPromised s)) (sym (ap turn_of one.carried)) holds)

@@ -2,7 +2,7 @@
 use Rattle.std.proofs.Common.{◌≡◌, ◌≢◌, ℕ, zero, suc, eq-eqb, ne_eqb, ◌+◌, ◌/◌, ◌%◌, ◌<◌, eqb, Bool, true, false, true≢false, List, [], ◌∷◌, ◌++◌, length, get_or, set, refl, sym, ap, ◌∙◌, subst, arith, Some}
 use Rattle.std.specs.List.{All}
 use Rattle.std.proofs.lemmas.List.{set-get_or, get_or-set_same, length-set}
-use Rattle.std.proofs.lemmas.List.Elements.{All-append, All-nil}
+use Rattle.std.proofs.lemmas.List.Elements.{All-append, All-map, All-nil}
 use mathlib.Core.Logic.{dite}
 use mathlib.Core.Option.{Option, none, some, some-injective, some-ne-none}
 use native.Mathlib.Decide.{ℕ_discrete}
@@ -10,15 +10,19 @@ use prog.Atomic.{either}
 use lib.ListN.{get_elem?}
 use Rattle.atomic_table.specs.Table.{State, Me, Act, step, keeps, takes, gives, stepped, opening, carried_after, Valid, Allows}
 use Rattle.atomic_table.proofs.Lists.{set_again}
-use Rattle.graph_heap.specs.declared.command.Entry.{Entry}
+use Rattle.heap_model.specs.Event.{Event}
+use Rattle.heap_shared.specs.declared.deed.Deed.{Deed}
 use Rattle.heap_shared.specs.declared.rule.Account.{Account}
 use Rattle.heap_shared.specs.declared.rule.Known.{Known}
 use Rattle.heap_shared.specs.declared.rule.TheConstants.{TURN_WORD}
 use Rattle.heap_shared.specs.declared.shared_heap.SharedConfig.{SharedConfig}
-use Rattle.heap_shared.specs.Accounts.{IsWithin, BearsOut, GoesOn, AreBelow, account_of}
+use Rattle.heap_shared.specs.Past.{history_of}
+use Rattle.heap_shared.specs.Accounts.{Doer, Has, IsOthers, BearsOut, IsAllowed, GoesOn, AreBelow, account_of, events_of, history_by, signed}
 use Rattle.heap_shared.specs.Ring.{Ringed, IsAsAsked}
-use Rattle.heap_shared.specs.Turns.{Turn, free, taken, newcomer, word_of, IsTurn, Knows, Keeps, Told, HasTurn, Entered, Left, Looked, Cut}
-use Rattle.heap_shared.proofs.Accounts.{bears_more, bears_all}
+use Rattle.heap_shared.specs.Turns.{Turn, free, taken, newcomer, word_of, IsTurn, Knows, Keeps, Told, HasTurn, Entered, seen_now, Left, Looked, Cut}
+use Rattle.heap_shared.proofs.Accounts.{bears_more, bears_all, not_theirs}
+use Rattle.heap_shared.proofs.Owners.{own_number}
+use Rattle.heap_shared.proofs.Pasts.{led_history, done_is, events_then}
 use Rattle.heap_shared.proofs.Views.{others}
 use Rattle.heap_shared.proofs.Words.{odd, half, half_odd}
 
@@ -49,18 +53,19 @@ unchanged : (c : SharedConfig) (s : S) (id : ℕ) (v : Known) (carried : List (�
 unchanged c s id v carried k at =
     subst (Keeps c) (λ i. record { words = sym (same_word s.words) i; homes = s.homes; views = sym (set_again s.views id v at) i }) k
 
--- who has seen the whole history knows the same else
-whole : (c : SharedConfig) (log : List Entry) (owner : ℕ → Option ℕ) (k : ℕ) (v : Known) (inside : Bool) → Knows c log owner k v → Knows c log owner k (record v { seen = log; inside = inside })
+-- who has seen the whole log knows the same else
+whole : (c : SharedConfig) (log : List Deed) (owner : Doer → Option ℕ) (k : ℕ) (v : Known) (inside : Bool) → Knows c log owner k v → Knows c log owner k (record v { seen = log; inside = inside })
 whole c log owner k v inside knows = record {
   config = knows.config;
+  numbered = knows.numbered;
   range = knows.range;
-  own = bears_all log v.from v.to;
+  own = bears_all log (account_of (record v { seen = log })) refl;
   owns = knows.owns;
   learnt = knows.learnt;
   gone = knows.gone;
 }
 
--- a history is what its members are told
+-- a log is what its members are told
 told : (c : SharedConfig) (s : S) (kept : Keeps c s) (id : ℕ) (v : Known) → get_elem? s.views id ≡ some v → Told kept.log v
 told c s kept id v at = record {
   own = (kept.known id v at).own;
@@ -73,8 +78,8 @@ idle : (c : SharedConfig) (k : ℕ) (v : Known) → get_elem? (newcomer c ∷ []
 idle c zero v e = ap (λ (u : Known). u.inside) (sym (some-injective _ _ e))
 idle c (suc k) v e = absurd (some-ne-none v (sym e))
 
-abbrev alone : ℕ → Option ℕ
-alone m = some 0
+abbrev alone : Doer → Option ℕ
+alone x = some 0
 
 some_config : (c d : SharedConfig) → Some c ≡ Some d → d ≡ c
 some_config c d e = cc
@@ -82,11 +87,12 @@ some_config c d e = cc
 newcomer_knows : (c : SharedConfig) → Knows c [] alone 0 (newcomer c)
 newcomer_knows c = record {
   config = λ d is. some_config c d is;
+  numbered = λ d is. omega arith;
   range = omega arith;
-  own = bears_all [] 0 c.config.mutators;
-  owns = λ m w. refl;
+  own = bears_all [] (account_of (newcomer c)) refl;
+  owns = λ x h. refl;
   learnt = All-nil (BearsOut []);
-  gone = All-nil (λ (a : Account). (m : ℕ) → IsWithin a.from a.to m → alone m ≡ none);
+  gone = All-nil (λ (a : Account). (x : Doer) → Has a x → alone x ≡ none);
 }
 
 first_knows : (c : SharedConfig) (k : ℕ) (v : Known) → get_elem? (newcomer c ∷ []) k ≡ some v → Knows c [] alone k v
@@ -95,15 +101,15 @@ first_knows c (suc k) v e = absurd (some-ne-none v (sym e))
 
 module _ (c : SharedConfig) where
   -- a new heap
-  pub opens : (ws : List ℕ) (r : Ringed) → TURN_WORD < length ws → get_or ws TURN_WORD 0 ≡ 0 → r.course.history ≡ [] → IsAsAsked c r → Keeps c (opening ws (r ∷ []) (newcomer c))
+  pub opens : (ws : List ℕ) (r : Ringed) → TURN_WORD < length ws → get_or ws TURN_WORD 0 ≡ 0 → r.events ≡ [] → IsAsAsked c r → Keeps c (opening ws (r ∷ []) (newcomer c))
   opens ws r there number empty asked = record {
     log = [];
     turn = free r;
     owner = alone;
     has_word = there;
-    stands = (number, refl, empty, asked, idle c);
+    stands = (number, refl, sym empty, asked, idle c);
     known = first_knows c;
-    below = All-nil (λ (e : Entry). e.mutator < c.config.mutators);
+    below = All-nil (λ (d : Deed). IsAllowed 0 c.config.mutators d.event);
   }
 
 module _ (c : SharedConfig) (slots : ℕ) where
@@ -112,12 +118,11 @@ module _ (c : SharedConfig) (slots : ℕ) where
   Takes s n id v = (w : Known) × (a : Act Ringed) × Valid s.homes [] a × Keeps c (stepped s TURN_WORD (n + 1) id [] w a) × HasTurn v n (w, carried_after [] a)
 
   take_turn : (s : S) (n id : ℕ) (v : Known) (kept : Keeps c s) (t : Turn) → IsTurn c s kept.log t → get_elem? s.views id ≡ some v → n % 2 ≡ 0 → get_or s.words TURN_WORD 0 ≡ n → Takes s n id v
-  take_turn s n id v kept (taken by) is at even here = absurd (odd (length kept.log) n (sym here ∙ is.0) even)
+  take_turn s n id v kept (taken by) is at even here = absurd (odd (length (history_by kept.log)) n (sym here ∙ is.0) even)
   take_turn s n id v kept (free r) is at even here =
-      let number : n ≡ word_of kept.log = sym here ∙ is.0 in
+      let number : n ≡ word_of (history_by kept.log) = sym here ∙ is.0 in
       let log = kept.log in
-      let w : Known = record v { seen = r.course.history; inside = true } in
-      let same : record v { seen = log; inside = true } ≡ w = ap (λ (xs : List Entry). record v { seen = xs; inside = true }) (sym is.2) in (
+      let w : Known = record v { seen = log; inside = true } in (
         w,
         takes 0 r,
         ap (λ (hs : List (Option Ringed)). get_elem? hs 0) is.1,
@@ -129,17 +134,19 @@ module _ (c : SharedConfig) (slots : ℕ) where
           stands = (
             new_word s.words (n + 1) kept.has_word ∙ ap (λ (x : ℕ). x + 1) number,
             ap (λ (hs : List (Option Ringed)). set hs 0 none) is.1,
-            others (λ k u. u.inside ≡ true → (k ≡ id) × (u.seen ≡ log)) s.views id w (λ _. (refl, is.2)) (λ k u apart e inside. absurd (both_ways u.inside (is.4 k u e) inside)),
+            others (λ k u. u.inside ≡ true → (k ≡ id) × (u.seen ≡ log)) s.views id w (λ _. (refl, refl)) (λ k u apart e inside. absurd (both_ways u.inside (is.4 k u e) inside)),
           );
-          known = others (Knows c log kept.owner) s.views id w (subst (Knows c log kept.owner id) same (whole c log kept.owner id v true (kept.known id v at))) (λ k u apart e. kept.known k u e);
+          known = others (Knows c log kept.owner) s.views id w (whole c log kept.owner id v true (kept.known id v at)) (λ k u apart e. kept.known k u e);
           below = kept.below;
         },
         record {
+          log = log;
           held = r;
           has = refl;
-          told = subst (λ (xs : List Entry). Told xs v) (sym is.2) (told c s kept id v at);
+          told = told c s kept id v at;
+          events = is.2;
           asked = λ d it_is. subst (λ (x : SharedConfig). IsAsAsked x r) (sym ((kept.known id v at).config d it_is)) is.3;
-          word = number ∙ ap word_of (sym is.2);
+          word = number;
         },
       )
 
@@ -165,77 +172,85 @@ module _ (c : SharedConfig) (slots : ℕ) where
   enters id n m none-carried even =
       subst (λ (y : Me Ringed Known). Allows (Keeps c) slots id y TURN_WORD (λ x. either (eqb x n) (n + 1) x) (Entered (step slots TURN_WORD n (n + 1) none) y)) (λ i. (m.0, sym none-carried i)) (enters_from id n m.0 even)
 
-  -- entries of a member's own mutators are no one else's
-  not_theirs : (owner : ℕ → Option ℕ) (id : ℕ) (v : Known) (added : List Entry) → ((m : ℕ) → IsWithin v.from v.to m → owner m ≡ some id) → All (λ e. IsWithin v.from v.to e.mutator) added
-      → (m : ℕ) → owner m ≢ some id → All (λ e. e.mutator ≢ m) added
-  not_theirs owner id v added owns all m apart k d lt e = apart (subst (λ (x : ℕ). owner x ≡ some id) e (owns _ (all k d lt)))
+  -- deeds that are others' to whoever has nothing of what a member has
+  abbrev Foreign : (Doer → Option ℕ) → ℕ → List Deed → Type 0
+  Foreign owner id added = (a : Account) → ((x : Doer) → Has a x → owner x ≢ some id) → All (IsOthers a) added
 
-  -- what others know of the history that a member's entries were added to
-  others_know : (log added : List Entry) (owner : ℕ → Option ℕ) (id k : ℕ) (u : Known) → ((m : ℕ) → owner m ≢ some id → All (λ e. e.mutator ≢ m) added) → k ≢ id → Knows c log owner k u → Knows c (log ++ added) owner k u
+  -- what others know of the log that a member's deeds were added to
+  others_know : (log added : List Deed) (owner : Doer → Option ℕ) (id k : ℕ) (u : Known) → Foreign owner id added → k ≢ id → Knows c log owner k u → Knows c (log ++ added) owner k u
   others_know log added owner id k u foreign apart knows = record {
     config = knows.config;
+    numbered = knows.numbered;
     range = knows.range;
-    own = bears_more log added (account_of u) knows.own (λ m w. foreign m (λ e. apart (some-injective k id (sym (knows.owns m w) ∙ e))));
+    own = bears_more log added (account_of u) knows.own (foreign (account_of u) (λ x h e. apart (some-injective k id (sym (knows.owns x h) ∙ e))));
     owns = knows.owns;
-    learnt = λ j d lt. bears_more log added _ (knows.learnt j d lt) (λ m w. foreign m (λ e. some-ne-none id (sym e ∙ knows.gone j d lt m w)));
+    learnt = λ j d lt. bears_more log added _ (knows.learnt j d lt) (foreign (get_or u.learnt j d) (λ x h e. some-ne-none id (sym e ∙ knows.gone j d lt x h)));
     gone = knows.gone;
   }
 
   -- and what it knows itself
-  knows_after : (log added : List Entry) (owner : ℕ → Option ℕ) (id : ℕ) (v : Known) → ((m : ℕ) → owner m ≢ some id → All (λ e. e.mutator ≢ m) added) → Knows c log owner id v → Knows c (log ++ added) owner id (record v { seen = log ++ added; inside = false })
+  knows_after : (log added : List Deed) (owner : Doer → Option ℕ) (id : ℕ) (v : Known) → Foreign owner id added → Knows c log owner id v → Knows c (log ++ added) owner id (record v { seen = log ++ added; inside = false })
   knows_after log added owner id v foreign knows = record {
     config = knows.config;
+    numbered = knows.numbered;
     range = knows.range;
-    own = bears_all (log ++ added) v.from v.to;
+    own = bears_all (log ++ added) (account_of (record v { seen = log ++ added })) refl;
     owns = knows.owns;
-    learnt = λ j d lt. bears_more log added _ (knows.learnt j d lt) (λ m w. foreign m (λ e. some-ne-none id (sym e ∙ knows.gone j d lt m w)));
+    learnt = λ j d lt. bears_more log added _ (knows.learnt j d lt) (foreign (get_or v.learnt j d) (λ x h e. some-ne-none id (sym e ∙ knows.gone j d lt x h)));
     gone = knows.gone;
   }
 
   give_turn : (s : S) (new id : ℕ) (v : Known) (r : Ringed) (kept : Keeps c s) (t : Turn) → IsTurn c s kept.log t → get_elem? s.views id ≡ some v → v.inside ≡ true
-      → GoesOn v.from v.to v.seen r.course.history → (d : SharedConfig) → v.config ≡ Some d → IsAsAsked d r → new ≡ word_of r.course.history
-      → Keeps c (stepped s TURN_WORD new id ((0, r) ∷ []) (record v { seen = r.course.history; inside = false }) gives)
+      → GoesOn v.from v.to (events_of v.seen) r.events → (d : SharedConfig) → v.config ≡ Some d → IsAsAsked d r → new ≡ word_of r.course.history
+      → Keeps c (stepped s TURN_WORD new id ((0, r) ∷ []) (record v { seen = seen_now (v, (0, r) ∷ []); inside = false }) gives)
   give_turn s new id v r kept (free was) is at inside goes d config asked number = absurd (both_ways v.inside (is.4 id v at) inside)
   give_turn s new id v r kept (taken by) is at inside goes d config asked number =
       let mine = is.2 id v at inside in
       let log = kept.log in
-      let added = goes.0 in
+      let did = goes.0 in
+      let added : List Deed = signed v.number did in
       let knows = kept.known id v at in
-      let foreign = not_theirs kept.owner id v added knows.owns goes.2 in
-      let grown : log ++ added ≡ r.course.history = ap (λ (xs : List Entry). xs ++ added) (sym mine.1) ∙ goes.1 in
-      let w : Known = record v { seen = r.course.history; inside = false } in
-      let below_new : AreBelow c.config.mutators (log ++ added) = All-append (λ (e : Entry). e.mutator < c.config.mutators) log added kept.below (λ j e lt. (let h = goes.2 j e lt in let top = knows.range in omega (arith, h.1, top))) in
+      let named = own_number v.number v.step (knows.numbered d config) in
+      let foreign : Foreign kept.owner id added = λ a apart. not_theirs kept.owner id (account_of v) named knows.owns a apart did goes.2 in
+      let now : List Deed = seen_now (v, (0, r) ∷ []) in
+      let since = done_is v.seen did r.events goes.1 in
+      let grown : log ++ added ≡ now = λ i. sym mine.1 i ++ signed v.number (sym since i) in
+      let w : Known = record v { seen = now; inside = false } in
+      let below_new : AreBelow c.config.mutators (log ++ added) = All-append (λ (x : Deed). IsAllowed 0 c.config.mutators x.event) log added kept.below
+      (All-map (λ (x : Deed). IsAllowed 0 c.config.mutators x.event) (λ (e : Event). record { by = v.number; event = e }) did (λ k e lt m of. (let h = goes.2 k e lt m of in let top = knows.range in (omega arith, omega (arith, h.1, top))))) in
+      let events : events_of now ≡ r.events = ap (λ (es : List Event). events_of (v.seen ++ signed v.number es)) since ∙ (events_then v.seen v.number did ∙ goes.1) in
+      let history : history_by now ≡ r.course.history = ap history_of events ∙ sym (led_history r.events r.course asked.led) in
       record {
-        log = r.course.history;
+        log = now;
         turn = free r;
         owner = kept.owner;
         has_word = still_there s.words new kept.has_word;
         stands = (
-          new_word s.words new kept.has_word ∙ number,
+          new_word s.words new kept.has_word ∙ (number ∙ ap word_of (sym history)),
           ap (λ (hs : List (Option Ringed)). set hs 0 (some r)) is.1,
-          refl,
+          events,
           subst (λ (x : SharedConfig). IsAsAsked x r) (knows.config d config) asked,
           others (λ k u. u.inside ≡ false) s.views id w refl (λ k u apart e. not_true u.inside (λ so. apart ((is.2 k u e so).0 ∙ sym mine.0))),
         );
-        known = others (Knows c r.course.history kept.owner) s.views id w
-            (subst (λ (xs : List Entry). Knows c xs kept.owner id (record v { seen = xs; inside = false })) grown (knows_after log added kept.owner id v foreign knows))
-            (λ k u apart e. subst (λ (xs : List Entry). Knows c xs kept.owner k u) grown (others_know log added kept.owner id k u foreign apart (kept.known k u e)));
+        known = others (Knows c now kept.owner) s.views id w
+            (subst (λ (xs : List Deed). Knows c xs kept.owner id (record v { seen = xs; inside = false })) grown (knows_after log added kept.owner id v foreign knows))
+            (λ k u apart e. subst (λ (xs : List Deed). Knows c xs kept.owner k u) grown (others_know log added kept.owner id k u foreign apart (kept.known k u e)));
         below = subst (AreBelow c.config.mutators) grown below_new;
       }
 
-  leaves_from : (id new : ℕ) (v : Known) (r : Ringed) → v.inside ≡ true → GoesOn v.from v.to v.seen r.course.history → (d : SharedConfig) → v.config ≡ Some d → IsAsAsked d r → new ≡ word_of r.course.history
+  leaves_from : (id new : ℕ) (v : Known) (r : Ringed) → v.inside ≡ true → GoesOn v.from v.to (events_of v.seen) r.events → (d : SharedConfig) → v.config ≡ Some d → IsAsAsked d r → new ≡ word_of r.course.history
       → Allows (Keeps c) slots id (v, (0, r) ∷ []) TURN_WORD (λ _. new) (λ _. Left (step slots TURN_WORD new 0 none) (v, (0, r) ∷ []) new)
   leaves_from id new v r inside goes d config asked number s k wide at below =
-      (record v { seen = r.course.history; inside = false }, gives, tt, give_turn s new id v r k k.turn k.stands at inside goes d config asked number, refl)
+      (record v { seen = seen_now (v, (0, r) ∷ []); inside = false }, gives, tt, give_turn s new id v r k k.turn k.stands at inside goes d config asked number, refl)
 
   -- the turn is given back
-  pub leaves : (id new : ℕ) (m : Me Ringed Known) (r : Ringed) → m.1 ≡ (0, r) ∷ [] → m.0.inside ≡ true → GoesOn m.0.from m.0.to m.0.seen r.course.history → (d : SharedConfig) → m.0.config ≡ Some d → IsAsAsked d r → new ≡ word_of r.course.history
+  pub leaves : (id new : ℕ) (m : Me Ringed Known) (r : Ringed) → m.1 ≡ (0, r) ∷ [] → m.0.inside ≡ true → GoesOn m.0.from m.0.to (events_of m.0.seen) r.events → (d : SharedConfig) → m.0.config ≡ Some d → IsAsAsked d r → new ≡ word_of r.course.history
       → Allows (Keeps c) slots id m TURN_WORD (λ _. new) (λ _. Left (step slots TURN_WORD new 0 none) m new)
   leaves id new m r carried inside goes d config asked number =
       subst (λ (y : Me Ringed Known). Allows (Keeps c) slots id y TURN_WORD (λ _. new) (λ _. Left (step slots TURN_WORD new 0 none) y new)) (λ i. (m.0, sym carried i)) (leaves_from id new m.0 r inside goes d config asked number)
 
   -- another view of a member that isn't inside leaves the turn as it is
-  turn_stays : (s : S) (id : ℕ) (w : Known) (log : List Entry) (t : Turn) → IsTurn c s log t → w.inside ≡ false
+  turn_stays : (s : S) (id : ℕ) (w : Known) (log : List Deed) (t : Turn) → IsTurn c s log t → w.inside ≡ false
       → IsTurn c (stepped s TURN_WORD (get_or s.words TURN_WORD 0) id [] w keeps) log t
   turn_stays s id w log (free r) is out =
       (ap (λ (ws : List ℕ). get_or ws TURN_WORD 0) (same_word s.words) ∙ is.0, is.1, is.2, is.3, others (λ k u. u.inside ≡ false) s.views id w out (λ k u apart e. is.4 k u e))
@@ -253,14 +268,14 @@ module _ (c : SharedConfig) (slots : ℕ) where
     below = kept.below;
   }
 
-  number_is : (s : S) (log : List Entry) (t : Turn) → IsTurn c s log t → get_or s.words TURN_WORD 0 / 2 ≡ length log % 9223372036854775808
-  number_is s log (free r) is = half (length log) _ is.0
-  number_is s log (taken by) is = half_odd (length log) _ is.0
+  number_is : (s : S) (log : List Deed) (t : Turn) → IsTurn c s log t → get_or s.words TURN_WORD 0 / 2 ≡ length (history_by log) % 9223372036854775808
+  number_is s log (free r) is = half (length (history_by log)) _ is.0
+  number_is s log (taken by) is = half_odd (length (history_by log)) _ is.0
 
   looks_from : (id : ℕ) (v : Known) → v.inside ≡ false → Allows (Keeps c) slots id (v, []) TURN_WORD (λ n. n) (Looked (step slots TURN_WORD 0 0 none) (v, []))
   looks_from id v out s k wide at below =
       let w : Known = record v { seen = k.log } in
-      let knows : Knows c k.log k.owner id w = record { config = (k.known id v at).config; range = (k.known id v at).range; own = bears_all k.log v.from v.to; owns = (k.known id v at).owns; learnt = (k.known id v at).learnt; gone = (k.known id v at).gone } in
+      let knows : Knows c k.log k.owner id w = record { config = (k.known id v at).config; numbered = (k.known id v at).numbered; range = (k.known id v at).range; own = bears_all k.log (account_of w) refl; owns = (k.known id v at).owns; learnt = (k.known id v at).learnt; gone = (k.known id v at).gone } in
       (w, keeps, tt, view_changes s k id w out knows, (refl, told c s k id v at, number_is s k.log k.turn k.stands))
 
   -- the word is looked at
@@ -275,7 +290,7 @@ module _ (c : SharedConfig) (slots : ℕ) where
   cuts_from id n v out s k wide at below =
       let w : Known = record v { cut = n } in
       let x : ℕ = get_or s.words TURN_WORD 0 in
-      let knows : Knows c k.log k.owner id w = record { config = (k.known id v at).config; range = (k.known id v at).range; own = (k.known id v at).own; owns = (k.known id v at).owns; learnt = (k.known id v at).learnt; gone = (k.known id v at).gone } in
+      let knows : Knows c k.log k.owner id w = record { config = (k.known id v at).config; numbered = (k.known id v at).numbered; range = (k.known id v at).range; own = (k.known id v at).own; owns = (k.known id v at).owns; learnt = (k.known id v at).learnt; gone = (k.known id v at).gone } in
       (w, keeps, tt, subst (λ y. Keeps c (stepped s TURN_WORD y id [] w keeps)) (sym (either_same x n)) (view_changes s k id w out knows), refl)
 
   -- a place is named at which the member's mutators are to be cut in two

@@ -1,28 +1,70 @@
--- What a member can tell of the history.
-use Rattle.std.specs.Prelude.{ℕ, ◌≡◌, ◌<◌, ◌≤◌, ◌++◌, List}
+-- What is done at a shared heap, by whom, and what a member can tell of it.
+use Rattle.std.specs.Prelude.{ℕ, ◌≡◌, ◌+◌, ◌%◌, ◌<◌, ◌≤◌, List, ◌++◌, map}
 use Rattle.std.specs.List.{All}
-use mathlib.Core.List.{IsPrefix}
 use Rattle.graph_heap.specs.declared.command.Entry.{Entry}
-use Rattle.heap_server.specs.Seen.{mine}
+use Rattle.heap_model.specs.Event.{Event, Command_done}
+use Rattle.heap_shared.specs.declared.deed.Deed.{Deed}
 use Rattle.heap_shared.specs.declared.rule.Account.{Account}
 use Rattle.heap_shared.specs.declared.rule.Known.{Known}
+use Rattle.heap_shared.specs.Past.{history_of}
+
+-- the events of a log
+abbrev pub events_of : List Deed → List Event
+events_of log = map (λ d. d.event) log
+
+-- the history that a log makes: an entry for each command
+abbrev pub history_by : List Deed → List Entry
+history_by log = history_of (events_of log)
+
+-- events, done by the member of this number
+abbrev pub signed : ℕ → List Event → List Deed
+signed n es = map (λ e. record { by = n; event = e }) es
 
 -- a mutator is one of those from the first number up to the second
 abbrev pub IsWithin : ℕ → ℕ → ℕ → Type 0
 IsWithin from to m = (from ≤ m) × (m < to)
 
--- What was seen begins a history, which has of the account's own mutators just the entries that were seen.
-abbrev pub BearsOut : List Entry → Account → Type 0
-BearsOut log a = IsPrefix a.seen log × ((m : ℕ) → IsWithin a.from a.to m → mine log m ≡ mine a.seen m)
+-- Whom a deed is of: a mutator, whose command it is, or the member of a number, who did it.
+pub data Doer : Type 0 where
+  mutator_of : ℕ → Doer
+  member_of : ℕ → Doer
 
--- a history goes on with entries of these mutators alone
-abbrev pub GoesOn : ℕ → ℕ → List Entry → List Entry → Type 0
-GoesOn from to old new = (added : List Entry) × (old ++ added ≡ new) × All (λ e. IsWithin from to e.mutator) added
+-- an event is a command of this mutator
+abbrev pub IsCommandOf : ℕ → Event → Type 0
+IsCommandOf m (Command_done k c reply) = k ≡ m
+IsCommandOf m e = ⊥
 
--- each entry is of one of so many mutators
-abbrev pub AreBelow : ℕ → List Entry → Type 0
-AreBelow mutators log = All (λ e. e.mutator < mutators) log
+-- a deed is one of a doer's
+abbrev pub IsOf : Doer → Deed → Type 0
+IsOf (mutator_of m) d = IsCommandOf m d.event
+IsOf (member_of n) d = d.by ≡ n
+
+-- A mutator is one of an account's; or a number is one of those that the account's member has or can give away: its own,
+-- and each one that comes so many steps later.
+abbrev pub Has : Account → Doer → Type 0
+Has a (mutator_of m) = IsWithin a.from a.to m
+Has a (member_of n) = n % a.step ≡ a.number
+
+-- a deed is of others than an account's
+abbrev pub IsOthers : Account → Deed → Type 0
+IsOthers a d = (x : Doer) → Has a x → IsOf x d → ⊥
+
+-- A log is what an account's member has seen, and then deeds of others alone.
+abbrev pub BearsOut : List Deed → Account → Type 0
+BearsOut log a = (added : List Deed) × (a.seen ++ added ≡ log) × All (IsOthers a) added
+
+-- an event that a member with these mutators may do: a command of one of them, or what the collector is asked to do
+abbrev pub IsAllowed : ℕ → ℕ → Event → Type 0
+IsAllowed from to e = (m : ℕ) → IsCommandOf m e → IsWithin from to m
+
+-- events go on with some that a member with these mutators may do
+abbrev pub GoesOn : ℕ → ℕ → List Event → List Event → Type 0
+GoesOn from to old new = (did : List Event) × (old ++ did ≡ new) × All (IsAllowed from to) did
+
+-- each command is of one of so many mutators
+abbrev pub AreBelow : ℕ → List Deed → Type 0
+AreBelow mutators log = All (λ d. IsAllowed 0 mutators d.event) log
 
 -- a member's own account
 abbrev pub account_of : Known → Account
-account_of v = record { from = v.from; to = v.to; seen = v.seen }
+account_of v = record { from = v.from; to = v.to; number = v.number; step = v.step; seen = v.seen }

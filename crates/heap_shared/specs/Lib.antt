@@ -1,3 +1,4 @@
+pub mod Happened
 pub mod Past
 pub mod Accounts
 pub mod Ring

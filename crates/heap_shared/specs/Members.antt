@@ -1,16 +1,18 @@
 -- What a member of a shared heap shows, and what its calls do.
-use Rattle.std.specs.Prelude.{ℕ, ◌≡◌, ◌≢◌, ◌≤◌, ◌%◌, Bool, true, false, List, [], ◌∷◌, ◌++◌, length, Option, Some, None, Result, Ok, Err}
+use Rattle.std.specs.Prelude.{ℕ, ◌≡◌, ◌≢◌, ◌+◌, ◌≤◌, ◌%◌, Bool, true, false, List, [], ◌∷◌, ◌++◌, length, Option, Some, None, Result, Ok, Err}
 use Rattle.std.specs.List.{All}
 use Rattle.graph_heap.specs.declared.command.Command.{Command}
 use Rattle.graph_heap.specs.declared.command.Entry.{Entry}
 use Rattle.graph_heap.specs.declared.command.Reply.{Reply}
 use Rattle.atomic_table.specs.Table.{Me}
 use Rattle.atomic_table.specs.Seated.{TableId}
-use Rattle.heap_model.specs.Event.{Course, Event, Command_done, Does}
+use Rattle.settings.specs.declared.config.Config.{Config}
+use Rattle.heap_model.specs.Event.{Course, Event, Command_done, Does, Runs}
 use Rattle.heap_model.specs.Settings.{HeapSettings, settings_of, settings_by}
 use Rattle.heap_model.specs.State.{HeapState}
 use Rattle.machine.specs.Headline.{AlwaysHolds}
-use Rattle.machine.specs.Space.{FindsSpace, FoundSpace}
+use Rattle.machine.specs.Space.{SpaceSuffices}
+use Rattle.heap_shared.specs.declared.deed.Deed.{Deed}
 use Rattle.heap_shared.specs.declared.rule.Account.{Account}
 use Rattle.heap_shared.specs.declared.rule.Known.{Known}
 use Rattle.heap_shared.specs.declared.member.NoTurn.{NoTurn}
@@ -21,21 +23,26 @@ use Rattle.heap_shared.specs.declared.member.NotDone.{NotDone}
 use Rattle.heap_shared.specs.declared.member.NotDone.TheVariants as undone
 use Rattle.heap_shared.specs.declared.member.NoEntry.{NoEntry}
 use Rattle.heap_shared.specs.declared.shared_heap.SharedConfig.{SharedConfig}
-use Rattle.heap_shared.specs.Accounts.{IsWithin, BearsOut, GoesOn, AreBelow}
+use Rattle.heap_shared.specs.Past.{IsLed}
+use Rattle.heap_shared.specs.Accounts.{IsWithin, BearsOut, GoesOn, AreBelow, IsAllowed, events_of, history_by, signed}
 use Rattle.heap_shared.specs.Ring.{Ringed, IsAsAsked, TellsEntry}
-use Rattle.heap_shared.specs.Turns.{word_of}
+use Rattle.heap_shared.specs.Turns.{word_of, done_since}
 
--- Which heap it is, its settings, and how many of the last entries it keeps; the member's own account, with what it has seen of the history up to its last turn or
--- look; the accounts that it has learnt; and the heap with its history, while it has the turn.
+-- Which heap it is, its settings, and how many of the last entries it keeps; the member's own account: its mutators, its
+-- number and the step to the next one that it can give away, and what it has seen of the log up to its last turn or look;
+-- the accounts that it has learnt; and while it has the turn the heap with its history, and what it did in this turn.
 pub record MemberView : Type 0 where
   pub heap : TableId
   pub settings : HeapSettings
   pub ring : ℕ
   pub from : ℕ
   pub to : ℕ
-  pub seen : List Entry
+  pub number : ℕ
+  pub step : ℕ
+  pub seen : List Deed
   pub learnt : List Account
   pub turn : Option Course
+  pub did : List Event
 
 -- the heap that is carried
 abbrev pub turn_of : List (ℕ × Ringed) → Option Course
@@ -50,18 +57,21 @@ shown_by id c m = record {
   ring = c.ring;
   from = m.0.from;
   to = m.0.to;
+  number = m.0.number;
+  step = m.0.step;
   seen = m.0.seen;
   learnt = m.0.learnt;
   turn = turn_of m.1;
+  did = done_since m.0.seen m.1;
 }
 
--- who has the turn at a heap that was asked for so carries it, with what it has seen and entries of its own mutators; the
--- number is what the word gets when it gives the turn back
+-- who has the turn at a heap that was asked for so carries it, led to by what it has seen and then by events that it may do;
+-- the number is what the word gets when it gives the turn back
 pub record HasHeap (c : SharedConfig) (word : ℕ) (m : Me Ringed Known) : Type 0 where
   pub held : Ringed
   pub inside : m.0.inside ≡ true
   pub carried : m.1 ≡ (0, held) ∷ []
-  pub goes : GoesOn m.0.from m.0.to m.0.seen held.course.history
+  pub goes : GoesOn m.0.from m.0.to (events_of m.0.seen) held.events
   pub asked : IsAsAsked c held
   pub number : word ≡ word_of held.course.history
 
@@ -72,35 +82,40 @@ IsMember c true word m = HasHeap c word m
 
 -- a member's own account, up to its last turn or look
 abbrev pub own_account : MemberView → Account
-own_account v = record { from = v.from; to = v.to; seen = v.seen }
+own_account v = record { from = v.from; to = v.to; number = v.number; step = v.step; seen = v.seen }
 
--- A history of the settings' mutators bears out the member's account, and those that it has learnt.
-pub record BearsAll (log : List Entry) (v : MemberView) : Type 0 where
+-- all events up to now, of a member that has the turn
+abbrev pub events_up_to : MemberView → List Event
+events_up_to v = events_of v.seen ++ v.did
+
+-- A log with commands of the settings' mutators alone bears out the member's account, and those that it has learnt.
+pub record BearsAll (log : List Deed) (v : MemberView) : Type 0 where
   pub own : BearsOut log (own_account v)
   pub learnt : All (BearsOut log) v.learnt
   pub below : AreBelow v.settings.limits.mutators log
 
--- A member that hasn't the turn asks for it: it has it, with a heap whose history bears out all accounts that it has; or
--- another has it, and nothing changes; or it has it already.
+-- A member that hasn't the turn asks for it: it has it, with a heap to which just that log led from one that was just made
+-- which bears out all accounts that it has; or another has it, and nothing changes; or it has it already.
 abbrev pub Enters : MemberView → Result (Unit {0}) NoTurn → MemberView → Type 0
 Enters old (Err turns.Inside) new = (old.turn ≢ None) × (new ≡ old)
 Enters old (Err turns.Taken) new = (old.turn ≡ None) × (new ≡ old)
-Enters old (Ok done) new = (r : Course) × (old.turn ≡ None) × (new ≡ record old { seen = r.history; turn = Some r })
-    × BearsAll r.history old × (settings_of r.heap ≡ old.settings)
+Enters old (Ok done) new = (log : List Deed) × (r : Course) × (old.turn ≡ None)
+    × (new ≡ record old { seen = log; turn = Some r; did = [] })
+    × BearsAll log old × IsLed (events_of log) r × (settings_of r.heap ≡ old.settings)
 
--- It gives the turn back, and has seen the history, which went on by entries of its own mutators alone; or it hasn't the
--- turn, and nothing changes.
+-- It gives the turn back, and has seen the log, which went on by what it did in the turn alone: commands of its own
+-- mutators, and what it asked of the collector; or it hasn't the turn, and nothing changes.
 abbrev pub Leaves : MemberView → Bool → MemberView → Type 0
 Leaves old false new = (old.turn ≡ None) × (new ≡ old)
-Leaves old true new = (r : Course) × (old.turn ≡ Some r) × GoesOn old.from old.to old.seen r.history
-    × (new ≡ record old { seen = r.history; turn = None })
+Leaves old true new = (old.turn ≢ None) × All (IsAllowed old.from old.to) old.did
+    × (new ≡ record old { seen = old.seen ++ signed old.number old.did; turn = None; did = [] })
 
 -- An event that is done while the member has the turn: what comes of it is one event of the heap with its history. Without
 -- the turn nothing is done.
 abbrev pub DoesIn : {A : Type 0} → Option Course → (A → Event) → MemberView → Option A → MemberView → Type 0
 DoesIn None event old answer new = (answer ≡ None) × (new ≡ old)
 DoesIn {A} (Some r) event old answer new = (a : A) × (k : Course) × (answer ≡ Some a) × Does r (event a) k
-    × (new ≡ record old { turn = Some k })
+    × (new ≡ record old { turn = Some k; did = old.did ++ event a ∷ [] })
 
 -- an event that is done where the member has the turn: without it nothing is done
 abbrev pub DoesInTurn : {A : Type 0} → (A → Event) → MemberView → Option A → MemberView → Type 0
@@ -122,33 +137,49 @@ abbrev pub Calls : MemberView → ℕ → Command → Result Reply NotDone → M
 Calls old m c (Err undone.Outside) new = (old.turn ≡ None) × (new ≡ old)
 Calls old m c (Err undone.NotYours) new = (old.turn ≢ None) × (¬ IsWithin old.from old.to m) × (new ≡ old)
 Calls old m c (Ok reply) new = (r : Course) × (k : Course) × (old.turn ≡ Some r) × IsWithin old.from old.to m
-    × Does r (Command_done m c reply) k × (new ≡ record old { turn = Some k })
+    × Does r (Command_done m c reply) k
+    × (new ≡ record old { turn = Some k; did = old.did ++ Command_done m c reply ∷ [] })
 
--- The length of the history is told, as it wraps, where the member hasn't the turn: it has then seen that much of it, and
--- that bears out all accounts that it has.
+-- The length of the history is told, as it wraps, where the member hasn't the turn: it has then seen that much of the log,
+-- and that bears out all accounts that it has.
 abbrev pub Places : MemberView → Option ℕ → MemberView → Type 0
 Places old None new = (old.turn ≢ None) × (new ≡ old)
-Places old (Some n) new = (old.turn ≡ None) × BearsAll new.seen old × (n ≡ length new.seen % 9223372036854775808)
-    × (new ≡ record old { seen = new.seen })
+Places old (Some n) new = (old.turn ≡ None) × BearsAll new.seen old
+    × (n ≡ length (history_by new.seen) % 9223372036854775808) × (new ≡ record old { seen = new.seen })
 
--- One more member of the same heap gets the mutators from this one on; it has seen the same. Nothing changes where the
--- member has the turn, where that isn't one of its mutators nor the next, or where there is no memory.
+-- One more member of the same heap gets the mutators from this one on, and every other number, beginning with the next; it
+-- has seen the same. Nothing changes where the member has the turn, where that isn't one of its mutators nor the next, or
+-- where there is no memory.
 abbrev pub Adds : MemberView → ℕ → Result MemberView NoMember → MemberView → Type 0
 Adds old from (Err members.Inside) new = (old.turn ≢ None) × (new ≡ old)
 Adds old from (Err members.NotYours) new = (old.turn ≡ None) × (¬ ((old.from ≤ from) × (from ≤ old.to))) × (new ≡ old)
 Adds old from (Err members.NoMemory) new = new ≡ old
 Adds old from (Ok made) new = (old.turn ≡ None) × (old.from ≤ from) × (from ≤ old.to)
-    × (new ≡ record old { to = from }) × (made ≡ record old { from = from; learnt = [] })
+    × (new ≡ record old { to = from; step = old.step + old.step })
+    × (made ≡ record old { from = from; number = old.number + old.step; step = old.step + old.step; learnt = [] })
 
--- Another member gives its turn back. Where both are of one heap, the one learns the other's account, and all that it had
--- learnt; else nothing.
+-- A member got from another the mutators from its last one on and every other number, and both have seen the same.
+pub record IsUpper (v made : MemberView) : Type 0 where
+  pub width : ℕ
+  pub next : made.number ≡ v.number + width
+  pub mine : v.step ≡ width + width
+  pub theirs : made.step ≡ width + width
+  pub joins : made.from ≡ v.to
+  pub low : v.from ≤ v.to
+  pub high : made.from ≤ made.to
+  pub seen : made.seen ≡ v.seen
+
+-- Where both members are of one heap, the one learns the other's account, and all that it had learnt; else nothing.
 abbrev pub Learns : MemberView → MemberView → MemberView → Type 0
-Learns old other new = (had : Bool) × (left : MemberView) × Leaves other had left
-    × (other.heap ≡ old.heap → new ≡ record old { learnt = old.learnt ++ own_account left ∷ left.learnt })
+Learns old other new =
+    (other.heap ≡ old.heap → new ≡ record old { learnt = old.learnt ++ own_account other ∷ other.learnt })
     × (other.heap ≢ old.heap → new ≡ old)
 
--- all that is promised of a heap with its history holds: now, whatever events are done next, and of the events that led here
-pub record IsPromised (r : Course) : Type 0 where
+-- What is promised of a heap with its history, in the turn of a member: all of what always holds; and the events that the
+-- log tells led to it from a heap that was just made, so that space sufficed for them, and suffices for these and whatever
+-- events are done next, in each configuration of its settings.
+pub record IsPromised (v : MemberView) (r : Course) : Type 0 where
   pub headline : AlwaysHolds r
-  pub space : FindsSpace r
-  pub found : FoundSpace r
+  pub led : IsLed (events_up_to v) r
+  pub space : (config : Config) (es : List Event) (new : Course) → v.settings ≡ settings_by config → Runs r es new
+      → SpaceSuffices config (events_up_to v ++ es)

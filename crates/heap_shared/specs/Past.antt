@@ -1,24 +1,34 @@
--- The past of a heap: its history, and the place of it at which the last cycle began.
-use Rattle.std.specs.Prelude.{ℕ, List, [], ◌∷◌, ◌++◌, length}
-use Rattle.graph_heap.specs.declared.command.Command.{Command}
+-- The past of a heap: the events that led to it, and the place of its history at which the last cycle began.
+use Rattle.std.specs.Prelude.{ℕ, ◌<◌, List, [], ◌∷◌, ◌++◌, length}
 use Rattle.graph_heap.specs.declared.command.Entry.{Entry}
-use Rattle.graph_heap.specs.declared.command.Reply.{Reply}
-use Rattle.heap_model.specs.Event.{Course}
+use Rattle.heap_model.specs.Event.{Course, Event, Command_done, Cycle_begun, Runs}
+use Rattle.heap_model.specs.Opening.{IsOpening}
+use Rattle.heap_model.specs.ReachedFrom.{opened}
 use Rattle.heap_model.specs.State.{HeapState}
 
--- its history, and that place
+-- the history that events make: an entry for each command
+abbrev pub history_of : List Event → List Entry
+history_of [] = []
+history_of (Command_done m c reply ∷ es) = (record { mutator = m; command = c; reply = reply }) ∷ history_of es
+history_of (e ∷ es) = history_of es
+
+-- the events, and that place
 pub record PastView : Type 0 where
-  pub history : List Entry
+  pub events : List Event
   pub place : ℕ
 
 -- a heap with its past
 abbrev pub course_of : HeapState → PastView → Course
-course_of h p = record { heap = h; history = p.history; place = p.place }
+course_of h p = record { heap = h; history = history_of p.events; place = p.place }
 
--- a command was done, with this reply
-abbrev pub with_entry : PastView → ℕ → Command → Reply → PastView
-with_entry p m c told = record { history = p.history ++ (record { mutator = m; command = c; reply = told }) ∷ []; place = p.place }
+-- an event was done
+abbrev pub with_event : PastView → Event → PastView
+with_event p Cycle_begun = record { events = p.events ++ Cycle_begun ∷ []; place = length (history_of p.events) }
+with_event p e = record { events = p.events ++ e ∷ []; place = p.place }
 
--- a cycle began
-abbrev pub begun_here : PastView → PastView
-begun_here p = record { history = p.history; place = length p.history }
+-- Events lead to a heap with its history, from one that was just made.
+pub record IsLed (es : List Event) (r : Course) : Type 0 where
+  pub first : HeapState
+  pub opening : IsOpening first
+  pub pages : 0 < length first.store.pages
+  pub runs : Runs (opened first) es r

@@ -1,21 +1,32 @@
--- The last entries of a history, which a shared heap keeps where it is asked for them.
-use Rattle.std.specs.Prelude.{ℕ, ◌≡◌, ◌≢◌, ◌<◌, ◌≤◌, ◌+◌, ◌-◌, ◌%◌, List, length, slice_get, Option, Some, None, Result, Ok, Err, if◌then◌else◌, nat_le}
+-- A shared heap with its past, and the last entries of its history, which it keeps where it is asked for them.
+use Rattle.std.specs.Prelude.{ℕ, ◌≡◌, ◌≢◌, ◌<◌, ◌≤◌, ◌+◌, ◌-◌, ◌%◌, List, [], ◌∷◌, ◌++◌, length, slice_get, Option, Some, None, Result, Ok, Err, if◌then◌else◌, nat_le}
 use Rattle.circular_buffer.specs.Buffer.{keep_last}
 use Rattle.graph_heap.specs.declared.command.Entry.{Entry}
-use Rattle.heap_model.specs.Event.{Course}
+use Rattle.heap_model.specs.Event.{Course, Event, Does}
 use Rattle.heap_model.specs.Settings.{settings_of, settings_by}
 use Rattle.heap_shared.specs.declared.member.NoEntry.{NoEntry}
 use Rattle.heap_shared.specs.declared.member.NoEntry.TheVariants.{NotYet, Gone}
 use Rattle.heap_shared.specs.declared.shared_heap.SharedConfig.{SharedConfig}
+use Rattle.heap_shared.specs.Past.{IsLed}
 
--- a heap with its history, and how many of the last entries of that it keeps
+-- a heap with its history, the events that led to it, and how many of the last entries of the history it keeps
 pub record Ringed : Type 0 where
   pub course : Course
+  pub events : List Event
   pub ring : ℕ
 
--- a heap of the settings that were asked for, which keeps as many entries
-abbrev pub IsAsAsked : SharedConfig → Ringed → Type 0
-IsAsAsked c r = (settings_of r.course.heap ≡ settings_by c.config) × (r.ring ≡ c.ring)
+-- A heap of the settings that were asked for, which keeps as many entries, and to which its events led from one that was
+-- just made.
+pub record IsAsAsked (c : SharedConfig) (r : Ringed) : Type 0 where
+  pub settings : settings_of r.course.heap ≡ settings_by c.config
+  pub ring : r.ring ≡ c.ring
+  pub led : IsLed r.events r.course
+
+-- an event is done: the heap goes on by it with its history, and it is the next of the events
+pub record GoesBy (r : Ringed) (e : Event) (k : Ringed) : Type 0 where
+  pub does : Does r.course e k.course
+  pub events : k.events ≡ r.events ++ e ∷ []
+  pub ring : k.ring ≡ r.ring
 
 -- The ring is the end of the history: its last entries, so many. Of these the one that was entered so many entries ago, 1 for
 -- the last.

@@ -1,36 +1,40 @@
 -- Members of a heap, who take turns.
-use Rattle.std.specs.Prelude.{ℕ, ◌≡◌, ◌≢◌, ◌+◌, ◌*◌, ◌/◌, ◌%◌, ◌<◌, ◌≤◌, true, false, List, [], ◌∷◌, ◌++◌, length, slice_index, Option, Some, None}
+use Rattle.std.specs.Prelude.{ℕ, ◌≡◌, ◌≢◌, ◌+◌, ◌-◌, ◌*◌, ◌/◌, ◌%◌, ◌<◌, ◌≤◌, true, false, List, [], ◌∷◌, ◌++◌, length, drop, slice_index, Option, Some, None}
 use Rattle.std.specs.List.{All}
 use mathlib.Core.Option as home
 use lib.ListN.{get_elem?}
 use Rattle.atomic_table.specs.Table.{State, Me, Step}
 use Rattle.graph_heap.specs.declared.command.Entry.{Entry}
+use Rattle.heap_model.specs.Event.{Event}
+use Rattle.heap_shared.specs.declared.deed.Deed.{Deed}
 use Rattle.heap_shared.specs.declared.rule.Account.{Account}
 use Rattle.heap_shared.specs.declared.rule.Known.{Known}
 use Rattle.heap_shared.specs.declared.rule.TheConstants.{TURN_WORD}
 use Rattle.heap_shared.specs.declared.shared_heap.SharedConfig.{SharedConfig}
-use Rattle.heap_shared.specs.Accounts.{IsWithin, BearsOut, AreBelow, account_of}
+use Rattle.heap_shared.specs.Accounts.{Doer, Has, BearsOut, AreBelow, account_of, events_of, history_by, signed}
 use Rattle.heap_shared.specs.Ring.{Ringed, IsAsAsked}
 
--- who has seen nothing of the history, and calls for all mutators
+-- who has seen nothing of the log, and has all mutators and all numbers
 abbrev pub newcomer : SharedConfig → Known
 newcomer c = record {
   config = Some c;
   from = 0;
   to = c.config.mutators;
+  number = 0;
+  step = 1;
   cut = 0;
   seen = [];
   learnt = [];
   inside = false;
 }
 
--- who keeps the mutators before the cut
+-- who keeps the mutators before the cut, and every other number, its own with them
 abbrev pub before_cut : Known → Known
-before_cut v = record v { to = v.cut }
+before_cut v = record v { to = v.cut; step = v.step + v.step }
 
--- who gets those from the cut on: it has seen the same, and hasn't the turn
+-- who gets the mutators from the cut on, and the other numbers: it has seen the same, and hasn't the turn
 abbrev pub behind_cut : Known → Known
-behind_cut v = record v { from = v.cut; learnt = []; inside = false }
+behind_cut v = record v { from = v.cut; number = v.number + v.step; step = v.step + v.step; learnt = []; inside = false }
 
 -- what a member of a heap of a configuration can tell: its account, and all that it has learnt; who is none tells nothing
 abbrev pub told_by : Option SharedConfig → Known → List Account
@@ -41,80 +45,93 @@ told_by (Some c) w = account_of w ∷ w.learnt
 abbrev pub learning : Known → Known → Known
 learning v w = record v { learnt = v.learnt ++ told_by w.config w }
 
--- who is no member, or no more: it calls for nobody, and can't say anything
+-- who takes back what it gave to another: the mutators from the cut on, and every other number
+abbrev pub rejoined : Known → Known → Known
+rejoined v w = record v { to = w.to; step = w.number - v.number }
+
+-- who is no member, or no more: it has no mutator and no number, and can't say anything
 abbrev pub nobody : Known
-nobody = record { config = None; from = 0; to = 0; cut = 0; seen = []; learnt = []; inside = false }
+nobody = record { config = None; from = 0; to = 0; number = 1; step = 1; cut = 0; seen = []; learnt = []; inside = false }
 
 -- the word at a history: twice its length, as it wraps
 abbrev pub word_of : List Entry → ℕ
-word_of log = (2 * length log) % 18446744073709551616
+word_of history = (2 * length history) % 18446744073709551616
 
 -- nobody has the turn, and this heap lies in the slot; or the member of this number has it
 pub data Turn : Type 0 where
   free : Ringed → Turn
   taken : ℕ → Turn
 
--- What the table is at a history, by who has the turn. Nobody else is inside, and who is has seen the whole history.
-abbrev pub IsTurn : SharedConfig → State Ringed Known → List Entry → Turn → Type 0
-IsTurn c s log (free r) = (slice_index s.words TURN_WORD ≡ word_of log) × (s.homes ≡ home.some r ∷ [])
-    × (r.course.history ≡ log) × IsAsAsked c r
+-- What the table is at a log, by who has the turn. The heap in the slot is one to which just this log led. Nobody else is
+-- inside, and who is has seen the whole log.
+abbrev pub IsTurn : SharedConfig → State Ringed Known → List Deed → Turn → Type 0
+IsTurn c s log (free r) = (slice_index s.words TURN_WORD ≡ word_of (history_by log)) × (s.homes ≡ home.some r ∷ [])
+    × (events_of log ≡ r.events) × IsAsAsked c r
     × ((k : ℕ) (v : Known) → get_elem? s.views k ≡ home.some v → v.inside ≡ false)
-IsTurn c s log (taken by) = (slice_index s.words TURN_WORD ≡ word_of log + 1) × (s.homes ≡ home.none ∷ [])
+IsTurn c s log (taken by) = (slice_index s.words TURN_WORD ≡ word_of (history_by log) + 1) × (s.homes ≡ home.none ∷ [])
     × ((k : ℕ) (v : Known) → get_elem? s.views k ≡ home.some v → v.inside ≡ true → (k ≡ by) × (v.seen ≡ log))
 
--- What the member of number k knows, at a history, where each mutator belongs to one member or to none: the history
--- bears out its account, and those that it has learnt; its mutators belong to it, and those of the learnt to nobody.
-pub record Knows (c : SharedConfig) (log : List Entry) (owner : ℕ → home.Option ℕ) (k : ℕ) (v : Known) : Type 0 where
+-- What the member of number k knows, at a log, where each mutator and each number belongs to one member or to none: its
+-- own number is one of its numbers; the log bears out its account, and those that it has learnt; what is its own belongs to
+-- it, and what is of the learnt to nobody.
+pub record Knows (c : SharedConfig) (log : List Deed) (owner : Doer → home.Option ℕ) (k : ℕ) (v : Known) : Type 0 where
   pub config : (d : SharedConfig) → v.config ≡ Some d → d ≡ c
+  pub numbered : (d : SharedConfig) → v.config ≡ Some d → v.number < v.step
   pub range : v.to ≤ c.config.mutators
   pub own : BearsOut log (account_of v)
-  pub owns : (m : ℕ) → IsWithin v.from v.to m → owner m ≡ home.some k
+  pub owns : (x : Doer) → Has (account_of v) x → owner x ≡ home.some k
   pub learnt : All (BearsOut log) v.learnt
-  pub gone : All (λ a. (m : ℕ) → IsWithin a.from a.to m → owner m ≡ home.none) v.learnt
+  pub gone : All (λ a. (x : Doer) → Has a x → owner x ≡ home.none) v.learnt
 
--- The rule: there is one history, of the heap's mutators; one member at most has the turn; and each knows what
--- is so.
+-- The rule: there is one log, whose commands are of the heap's mutators; one member at most has the turn; and each knows
+-- what is so.
 pub record Keeps (c : SharedConfig) (s : State Ringed Known) : Type 0 where
-  pub log : List Entry
+  pub log : List Deed
   pub turn : Turn
-  pub owner : ℕ → home.Option ℕ
+  pub owner : Doer → home.Option ℕ
   pub has_word : TURN_WORD < length s.words
   pub stands : IsTurn c s log turn
   pub known : (k : ℕ) (v : Known) → get_elem? s.views k ≡ home.some v → Knows c log owner k v
   pub below : AreBelow c.config.mutators log
 
--- what a history tells a member that steps on the word: it bears out each account that the member has, its own too, and
--- has entries of the configuration's mutators alone
-pub record Told (log : List Entry) (v : Known) : Type 0 where
+-- what a log tells a member that steps on the word: it bears out each account that the member has, its own too, and has
+-- commands of the configuration's mutators alone
+pub record Told (log : List Deed) (v : Known) : Type 0 where
   pub own : BearsOut log (account_of v)
   pub learnt : All (BearsOut log) v.learnt
   pub below : (d : SharedConfig) → v.config ≡ Some d → AreBelow d.config.mutators log
 
--- who had seen this has the turn, and the heap with its history, of which it is told
+-- who had seen this has the turn, and the heap to which just that log led of which it is told
 pub record HasTurn (v : Known) (found : ℕ) (m : Me Ringed Known) : Type 0 where
+  pub log : List Deed
   pub held : Ringed
-  pub has : m ≡ (record v { seen = held.course.history; inside = true }, (0, held) ∷ [])
-  pub told : Told held.course.history v
+  pub has : m ≡ (record v { seen = log; inside = true }, (0, held) ∷ [])
+  pub told : Told log v
+  pub events : events_of log ≡ held.events
   pub asked : (d : SharedConfig) → v.config ≡ Some d → IsAsAsked d held
-  pub word : found ≡ word_of held.course.history
+  pub word : found ≡ word_of (history_by log)
 
 -- the turn was taken where the word was the number expected; else nothing has changed
 abbrev pub Entered : Step Ringed → Me Ringed Known → ℕ → Me Ringed Known → Type 0
 Entered st m found n = (found ≡ st.first → HasTurn m.0 found n) × (found ≢ st.first → n ≡ m)
 
--- the history of what is carried
-abbrev pub history_in : List (ℕ × Ringed) → List Entry
-history_in [] = []
-history_in (x ∷ xs) = x.1.course.history
+-- what was done since this was seen, at the heap that is carried
+abbrev pub done_since : List Deed → List (ℕ × Ringed) → List Event
+done_since seen [] = []
+done_since seen (x ∷ xs) = drop (length seen) x.1.events
+
+-- what a member has seen, and what it did itself since then
+abbrev pub seen_now : Me Ringed Known → List Deed
+seen_now m = m.0.seen ++ signed m.0.number (done_since m.0.seen m.1)
 
 -- the turn was given back
 abbrev pub Left : Step Ringed → Me Ringed Known → ℕ → Me Ringed Known → Type 0
-Left st m stored n = n ≡ (record m.0 { seen = history_in m.1; inside = false }, [])
+Left st m stored n = n ≡ (record m.0 { seen = seen_now m; inside = false }, [])
 
--- all of the history was seen, and its length found, as it wraps
+-- all of the log was seen, and the length of its history found, as it wraps
 abbrev pub Looked : Step Ringed → Me Ringed Known → ℕ → Me Ringed Known → Type 0
 Looked st m found n = (n ≡ (record m.0 { seen = n.0.seen }, m.1)) × Told n.0.seen m.0
-    × (found / 2 ≡ length n.0.seen % 9223372036854775808)
+    × (found / 2 ≡ length (history_by n.0.seen) % 9223372036854775808)
 
 -- the number expected is where the member's mutators are cut in two
 abbrev pub Cut : Step Ringed → Me Ringed Known → ℕ → Me Ringed Known → Type 0

@@ -4,6 +4,7 @@
 #![tactic(auto)]
 
 mod crossing;
+mod deed;
 mod fitting;
 mod laws;
 mod member;
@@ -13,7 +14,8 @@ mod rule;
 mod shared_heap;
 
 pub use crossing::members_cross;
-pub use laws::histories_merge;
+pub use deed::{Deed, Happened};
+pub use laws::{histories_merge, logs_merge, no_event_is_hidden, nothing_is_done_between};
 pub use member::{Member, NoEntry, NoMember, NoTurn, NotDone};
 pub use past::Past;
 pub use ring::Ring;

@@ -1,22 +1,22 @@
 //! Members of a shared heap.
-ghost use Rattle.std.specs.Prelude.{◌≡◌, ◌<◌, ◌+◌, ◌%◌, [], IfOk, IfSome, MatchResult, Ok, Err, None};
+ghost use Rattle.std.specs.Prelude.{◌≡◌, ◌<◌, ◌+◌, ◌-◌, ◌%◌, [], IfOk, IfSome, MatchResult, Ok, Err, None};
 ghost use Rattle.std.specs.Fn.{FnOnceReturnsAt, FnOnceReturnsAtMut};
 ghost use Rattle.heap_model.specs.Settings.{settings_by};
 ghost use Rattle.machine.specs.Recorded.{begin_done, quantum_done};
-ghost use Rattle.heap_shared.specs.Members.{Enters, Leaves, Places, Calls, DoesInTurn, Finds, FindsEntry, Adds, Learns, IsPromised};
+ghost use Rattle.heap_shared.specs.Members.{Enters, Leaves, Places, Calls, DoesInTurn, Finds, FindsEntry, Adds, Learns, IsUpper, IsPromised};
 ghost use Rattle.heap_shared.specs.Methods.{IsMethodOf};
 ghost use mathlib.Core.List.{IsPrefix};
 
 use crate::fitting::fitting_first;
 use crate::rule::{
-    Cut, Enter, Halve, Known, Learn, Leave, Look, Spare, TURN_WORD, TurnRule, WORDS,
+    Cut, Enter, Halve, Known, Learn, Leave, Look, Rejoin, Spare, TURN_WORD, TurnRule, WORDS,
 };
 use crate::shared_heap::{SharedConfig, SharedHeap};
 use atomic_table::{Refused, Seat, Table};
 use graph_heap::{Command, Entry, NoMemory, Reply};
 use machine::{BudgetOutOfRange, Busy, Heap, Spent};
 use settings::Config;
-use std::alloc::Global;
+use std::alloc::{AllocFailed, Global};
 use std::marker::Model;
 use std::sync::Arc;
 
@@ -110,8 +110,9 @@ impl Member {
     pub fn new(alloc: Global, config: &Config) -> Result<Member, NoMemory>
         ensures settings { IfOk result (λ m. (m.settings ≡ settings_by config.now) × (m.ring ≡ 0)) }
         ensures mutators { IfOk result (λ m. (m.from ≡ 0) × (m.to ≡ config.now.mutators)) }
+        ensures numbers { IfOk result (λ m. (m.number ≡ 0) × (m.step ≡ 1)) }
         ensures seen { IfOk result (λ m. (m.seen ≡ []) × (m.learnt ≡ [])) }
-        ensures turn { IfOk result (λ m. m.turn ≡ None) }
+        ensures turn { IfOk result (λ m. (m.turn ≡ None) × (m.did ≡ [])) }
     {
         Member::with_ring(
             alloc,
@@ -127,8 +128,9 @@ impl Member {
     pub fn with_ring(alloc: Global, asked: &SharedConfig) -> Result<Member, NoMemory>
         ensures settings { IfOk result (λ m. (m.settings ≡ settings_by asked.now.config) × (m.ring ≡ asked.now.ring)) }
         ensures mutators { IfOk result (λ m. (m.from ≡ 0) × (m.to ≡ asked.now.config.mutators)) }
+        ensures numbers { IfOk result (λ m. (m.number ≡ 0) × (m.step ≡ 1)) }
         ensures seen { IfOk result (λ m. (m.seen ≡ []) × (m.learnt ≡ [])) }
-        ensures turn { IfOk result (λ m. m.turn ≡ None) }
+        ensures turn { IfOk result (λ m. (m.turn ≡ None) × (m.did ≡ [])) }
     {
         let heap = SharedHeap::new(alloc, asked)?;
         let mut slots = Vec::with_capacity(alloc, 1)?;
@@ -188,19 +190,24 @@ impl Member {
         ensures { MatchResult result (λ b. Adds self.old from (Ok b.value) self.new)
             (λ why. Adds self.old from (Err why) self.new) }
     {
-        if self.inside {
-            return Err(NoMember::Inside);
+        match Box::new(alloc, self.another(from)?) {
+            Ok(boxed) => Ok(boxed),
+            Err(AllocFailed { value: made }) => {
+                self.rejoin(made);
+                Err(NoMember::NoMemory)
+            }
         }
-        if from > self.to || from < self.from {
-            return Err(NoMember::NotYours);
-        }
-        // One without mutators comes first, so that none are given away where there is no box for them.
-        let to = self.to;
-        let Ok(mut boxed) = Box::new(alloc, self.another(to)?) else {
-            return Err(NoMember::NoMemory);
-        };
-        *boxed = self.another(from)?;
-        Ok(boxed)
+    }
+
+    /// Takes back what it gave to another member, which did nothing.
+    fn rejoin(&mut self, made: Member)
+        requires heap { (made.heap ≡ self.old.heap) × (self.old.turn ≡ None) × (made.turn ≡ None) }
+        requires half { IsUpper self.old made }
+        ensures { self.new ≡ record self.old { to = made.to; step = made.number - self.old.number } }
+    {
+        let Member { seat, to, .. } = made;
+        self.table.shared.join_seat::<Rejoin>(&mut self.seat, seat);
+        self.to = to;
     }
 
     /// Takes the turn, if nobody has it. It waits for nobody.
@@ -338,12 +345,12 @@ impl Member {
         Some(entry.ok_or(NoEntry::Gone))
     }
 
-    /// Learns what another member can tell of the history, once that has given the turn back, where both are of one heap; of
-    /// another heap it learns nothing. Nobody calls for the other one's mutators any more.
-    pub fn learn(&mut self, mut other: Member)
+    /// Learns what another member can tell of the log, where both are of one heap; of another heap it learns nothing. Nobody
+    /// calls for the other one's mutators any more.
+    pub fn learn(&mut self, other: Member)
+        requires { other.turn ≡ None }
         ensures { Learns self.old other self.new }
     {
-        other.leave();
         let Member { seat, .. } = other;
         let spare = self.table.shared.split_seat::<Spare>(&mut self.seat);
         let (fitting, _) = fitting_first(seat, spare);
@@ -355,7 +362,7 @@ impl Member {
     /// What is promised of the heap and its history, where the member has the turn. It does nothing.
     pub fn promise(&mut self)
         ensures same { self.new ≡ self.old }
-        ensures promised { IfSome self.old.turn IsPromised }
+        ensures promised { IfSome self.old.turn (IsPromised self.old) }
     {
         if self.inside {
             self.seat.slot_mut(&self.table.shared, 0).promise();

@@ -1,15 +1,20 @@
 //! The past of a heap, for proofs alone.
 ghost use Rattle.std.specs.Prelude.{◌≡◌, []};
-ghost use Rattle.heap_shared.specs.Past.{PastView, with_entry, begun_here};
+ghost use Rattle.heap_model.specs.Event.{Command_done};
+ghost use Rattle.machine.specs.Recorded.{begin_done, quantum_done};
+ghost use Rattle.heap_shared.specs.Past.{PastView, with_event};
 
+use crate::deed::Happened;
 use ghosts::Ghost;
-use graph_heap::{Command, Entry, Reply};
+use graph_heap::{Command, Reply};
+use machine::{BudgetOutOfRange, Busy, Spent};
 use std::marker::Model;
 
-/// The history of a heap, and the place of it at which the last cycle began. None is ever made: proofs alone speak of it.
+/// The events that led to a heap, and the place of its history at which the last cycle began. None is ever made: proofs
+/// alone speak of it.
 #[derive(Drop)]
 pub struct Past {
-    history: Vec<Entry>,
+    events: Vec<Happened>,
     place: u64,
 }
 
@@ -18,12 +23,12 @@ impl Model for Past {
 
     ghost Value = { PastView };
 
-    ghost view = { λ p. record { history = p.history.items; place = p.place } };
+    ghost view = { λ p. record { events = p.events.items; place = p.place } };
 }
 
 /// Nothing was done yet.
 pub(crate) fn no_past() -> Ghost<Past>
-    ensures { result.value ≡ record { history = []; place = 0 } }
+    ensures { result.value ≡ record { events = []; place = 0 } }
 {
     Ghost::new()
 }
@@ -37,18 +42,32 @@ pub(crate) fn entered(
     _reply: Reply,
 ) -> Ghost<Past>
     ghost after: { PastView }
-    requires { after ≡ with_entry past.now.value _mutator _command _reply }
-    ensures { result.value ≡ with_entry past.now.value _mutator _command _reply }
+    requires { after ≡ with_event past.now.value (Command_done _mutator _command _reply) }
+    ensures { result.value ≡ with_event past.now.value (Command_done _mutator _command _reply) }
 {
     Ghost::new()
 }
 
-/// This past, and a cycle that began.
+/// This past, and what came of beginning a cycle.
 #[inline(always)]
-pub(crate) fn begun(past: &Ghost<Past>) -> Ghost<Past>
+pub(crate) fn begun(past: &Ghost<Past>, _told: Result<(), Busy>) -> Ghost<Past>
     ghost after: { PastView }
-    requires { after ≡ begun_here past.now.value }
-    ensures { result.value ≡ begun_here past.now.value }
+    requires { after ≡ with_event past.now.value (begin_done _told) }
+    ensures { result.value ≡ with_event past.now.value (begin_done _told) }
+{
+    Ghost::new()
+}
+
+/// This past, and what came of a quantum of a budget.
+#[inline(always)]
+pub(crate) fn collected(
+    past: &Ghost<Past>,
+    _budget: u32,
+    _told: Result<Spent, BudgetOutOfRange>,
+) -> Ghost<Past>
+    ghost after: { PastView }
+    requires { after ≡ with_event past.now.value (quantum_done _budget _told) }
+    ensures { result.value ≡ with_event past.now.value (quantum_done _budget _told) }
 {
     Ghost::new()
 }

@@ -1,7 +1,7 @@
 //! The rule of the word by which members take turns, and what a step on it tells.
+use crate::deed::Deed;
 use crate::shared_heap::{SharedConfig, SharedHeap};
 use atomic_table::{Play, Split, TableRule};
-use graph_heap::Entry;
 use std::collections::LinkedList;
 
 /// How many words the table has. One counts: the others keep what lies beside the table in memory off its cache line.
@@ -10,12 +10,14 @@ pub const WORDS: usize = 32;
 /// The place of the word that counts.
 pub const TURN_WORD: usize = 16;
 
-/// What a member can tell of the history: the mutators from which on and below which it alone calls, and what it has seen.
-/// No value of it is made.
+/// What a member can tell of the log: the mutators from which on and below which it alone calls; its own number, and the
+/// step from that to the next of those that it alone has, or can give away; and what it has seen. No value of it is made.
 pub struct Account {
     pub from: u32,
     pub to: u32,
-    pub seen: LinkedList<Entry>,
+    pub number: u64,
+    pub step: u64,
+    pub seen: LinkedList<Deed>,
 }
 
 /// What a member knows: what was asked of the heap; its account; where its mutators were cut last; the accounts of
@@ -24,15 +26,17 @@ pub struct Known {
     pub config: Option<SharedConfig>,
     pub from: u32,
     pub to: u32,
+    pub number: u64,
+    pub step: u64,
     pub cut: u32,
-    pub seen: LinkedList<Entry>,
+    pub seen: LinkedList<Deed>,
     pub learnt: LinkedList<Account>,
     pub inside: bool,
 }
 
 /// One word counts, and there is one slot. The word is twice the length of the history, as it wraps, and one more while a
-/// member has the turn; the heap lies in the slot while none has it. What each member has seen begins the history, and
-/// of its own mutators the history has no more than that.
+/// member has the turn; the heap lies in the slot while none has it, and just the log led to it. What each member has seen
+/// begins the log, which goes on with what others did.
 pub struct TurnRule;
 
 impl TableRule<SharedHeap, Known, SharedConfig> for TurnRule {
@@ -108,6 +112,17 @@ impl atomic_table::Join<Known> for Learn {
     ghost use Rattle.heap_shared.specs.Turns.{learning, nobody};
 
     ghost both = { learning };
+
+    ghost spent = { nobody };
+}
+
+/// A member takes back what it gave to another, which did nothing.
+pub struct Rejoin;
+
+impl atomic_table::Join<Known> for Rejoin {
+    ghost use Rattle.heap_shared.specs.Turns.{rejoined, nobody};
+
+    ghost both = { rejoined };
 
     ghost spent = { nobody };
 }

@@ -1,16 +1,14 @@
 //! The heap that members share, with its history, which exists in proofs alone.
 ghost use Rattle.std.specs.Prelude.{◌≡◌, ◌+◌, ◌<◌, [], IfOk};
 ghost use Rattle.std.specs.Fn.{FnOnceReturnsAt, FnOnceReturnsAtMut};
-ghost use Rattle.heap_model.specs.Event.{Does};
 ghost use Rattle.heap_model.specs.Event as done;
-ghost use Rattle.heap_model.specs.Opening.{IsOpening};
 ghost use Rattle.machine.specs.Headline.{AlwaysHolds};
-ghost use Rattle.machine.specs.Space.{FindsSpace, FoundSpace};
 ghost use Rattle.machine.specs.Recorded.{begin_done, quantum_done};
 ghost use Rattle.heap_shared.specs.Methods.{IsMethodOf};
-ghost use Rattle.heap_shared.specs.Ring.{IsAsAsked, entry_ago};
+ghost use Rattle.heap_shared.specs.Past.{IsLed};
+ghost use Rattle.heap_shared.specs.Ring.{IsAsAsked, GoesBy, entry_ago};
 
-use crate::past::{Past, begun, entered, no_past};
+use crate::past::{Past, begun, collected, entered, no_past};
 use crate::ring::Ring;
 use ghosts::Ghost;
 use graph_heap::{Command, Entry, NoMemory, Reply};
@@ -26,11 +24,11 @@ pub struct SharedConfig {
     pub ring: usize,
 }
 
-/// A heap, and a ring of the last entries of its history. Contracts see it with the history of its commands, which is
-/// always legal, and of which the ring is the end; and with the capacity of the ring.
+/// A heap, and a ring of the last entries of its history. Contracts see it with the history of its commands, of which the
+/// ring is the end; with the events that led to it from a heap that was just made; and with the capacity of the ring.
 pub struct SharedHeap {
     heap: Heap,
-    history: Ghost<Past>,
+    past: Ghost<Past>,
     ring: Ring,
 }
 
@@ -39,7 +37,7 @@ impl Drop for SharedHeap {
     fn drop(self) {
         let SharedHeap {
             heap: _,
-            history: _,
+            past: _,
             ring: _,
         } = self;
     }
@@ -48,30 +46,32 @@ impl Drop for SharedHeap {
 impl Model for SharedHeap {
     ghost use Rattle.std.specs.Prelude.{◌≡◌};
     ghost use Rattle.circular_buffer.specs.Buffer.{keep_last};
-    ghost use Rattle.heap_model.specs.Event.{IsCourse};
-    ghost use Rattle.heap_shared.specs.Past.{course_of};
+    ghost use Rattle.heap_shared.specs.Past.{course_of, history_of, IsLed};
     ghost use Rattle.heap_shared.specs.Ring.{Ringed};
 
     ghost Value = { Ringed };
 
-    ghost view = { λ a. record { course = course_of a.heap a.history.value; ring = a.ring.entries.capacity } };
+    ghost view = { λ a. record {
+      course = course_of a.heap a.past.value;
+      events = a.past.value.events;
+      ring = a.ring.entries.capacity;
+    } };
 
-    ghost invariant = { λ a. IsCourse (course_of a.heap a.history.value)
-        × (a.ring.entries.items ≡ keep_last a.ring.entries.capacity a.history.value.history) };
+    ghost invariant = { λ a. IsLed a.past.value.events (course_of a.heap a.past.value)
+        × (a.ring.entries.items ≡ keep_last a.ring.entries.capacity (history_of a.past.value.events)) };
 }
 
 impl SharedHeap {
-    /// A new heap, without history. Refused only for lack of memory.
+    /// A new heap, at which nothing was done. Refused only for lack of memory.
     pub fn new(alloc: Global, asked: &SharedConfig) -> Result<SharedHeap, NoMemory>
-        ensures heap { IfOk result (λ r. IsOpening r.course.heap) }
         ensures asked { IfOk result (λ r. IsAsAsked asked.now r) }
-        ensures history { IfOk result (λ r. r.course.history ≡ []) }
+        ensures events { IfOk result (λ r. r.events ≡ []) }
     {
         let heap = Heap::new(alloc, &asked.config)?;
         let ring = Ring::new(alloc, asked.ring)?;
         Ok(SharedHeap {
             heap,
-            history: no_past(),
+            past: no_past(),
             ring,
         })
     }
@@ -86,11 +86,10 @@ impl SharedHeap {
     ) -> Reply
         requires callable { F.IsAlwaysCallable method }
         requires does { IsMethodOf mutator command (FnOnceReturnsAtMut F.FnOnce method) }
-        ensures does { Does self.old.course (done.Command_done mutator command result) self.new.course }
-        ensures ring { self.new.ring ≡ self.old.ring }
+        ensures { GoesBy self.old (done.Command_done mutator command result) self.new }
     {
         let reply = method(&mut self.heap);
-        self.history = entered(&self.history, mutator, command, reply);
+        self.past = entered(&self.past, mutator, command, reply);
         self.ring.enter(mutator, command, reply);
         reply
     }
@@ -114,28 +113,27 @@ impl SharedHeap {
 
     /// Begins a cycle of the collector, unless one is running.
     pub fn begin(&mut self) -> Result<(), Busy>
-        ensures does { Does self.old.course (begin_done result) self.new.course }
-        ensures ring { self.new.ring ≡ self.old.ring }
+        ensures { GoesBy self.old (begin_done result) self.new }
     {
-        self.heap.begin()?;
-        self.history = begun(&self.history);
-        Ok(())
+        let told = self.heap.begin();
+        self.past = begun(&self.past, told);
+        told
     }
 
     /// Spends units of a budget on the cycle that is running.
     pub fn quantum(&mut self, budget: u32) -> Result<Spent, BudgetOutOfRange>
-        ensures does { Does self.old.course (quantum_done budget result) self.new.course }
-        ensures ring { self.new.ring ≡ self.old.ring }
+        ensures { GoesBy self.old (quantum_done budget result) self.new }
     {
-        self.heap.quantum(budget)
+        let told = self.heap.quantum(budget);
+        self.past = collected(&self.past, budget, told);
+        told
     }
 
-    /// What the type promises, of whatever events led here and of whatever are done next. It does nothing.
+    /// What the type promises, of whatever events are done next. It does nothing.
     pub fn promise(&self)
         ensures headline { AlwaysHolds self.now.course }
-        ensures space { FindsSpace self.now.course }
-        ensures found { FoundSpace self.now.course }
+        ensures led { IsLed self.now.events self.now.course }
     {
-        let _history = &self.history;
+        let _past = &self.past;
     }
 }

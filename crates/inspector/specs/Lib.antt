@@ -4,7 +4,6 @@ pub mod Shapes
 pub mod Counted
 pub mod ClassLines
 pub mod NeededReport
-pub mod LoadReport
 pub mod Steps
 pub mod Made
 pub mod Cycles

@@ -14,7 +14,7 @@ use Rattle.sizing.specs.Measured.{together_in, page_demand_in}
 use Rattle.sizing.specs.Reckoned.{still_pages, moved_pages, fewest_pages, needed_pages}
 use Rattle.inspector.specs.ClassLines.{class_lines}
 use Rattle.inspector.specs.declared.pages_needed.lines.Scope.{Scope}
-use Rattle.inspector.specs.declared.pages_needed.lines.Scope.TheVariants.{Demand as By_demand, Pace as By_pace, Load as By_load}
+use Rattle.inspector.specs.declared.pages_needed.lines.Scope.TheVariants.{Demand as By_demand, Pace as By_pace}
 
 -- the line of a class, if its blocks are needed: its size in words, its blocks together, and the pages that they take
 abbrev pub blocks_line : Needed → ℕ → List ℕ
@@ -74,7 +74,6 @@ room_line None = codes "for this trace: no number of pages up to 4096 is known t
 abbrev pub verdict : Scope → Bool → List ℕ
 verdict By_demand true = codes ": suffice for this run, and for each that needs no more\n"
 verdict By_pace true = codes ": suffice for this run, and for each at this pace\n"
-verdict By_load true = codes ": suffice for the load\n"
 verdict scope false = codes ": may not suffice\n"
 
 -- how many pages are needed, out of how many
@@ -131,14 +130,14 @@ least_lines (Some least) from = codes "least pages " ++ (decimal least ++ (codes
 least_lines None from = codes "no number of pages up to 4096 is known to suffice\n"
 
 -- all that is reported of a pace with quanta of the configuration's schedule
-abbrev pub pace_report : Scope → Config → Pace → Option ℕ → Option ℕ → List ℕ
-pace_report scope c p least from =
+abbrev pub pace_report : Config → Pace → Option ℕ → Option ℕ → List ℕ
+pace_report c p least from =
     class_lines (pace_line p) CLASSES ++ quanta_line (quanta_needed c p c.pages) (c.collector_ticks * c.rate)
-    ++ pages_line scope (pages_needed c p c.pages) c.pages ++ least_lines least from
+    ++ pages_line By_pace (pages_needed c p c.pages) c.pages ++ least_lines least from
 
 -- what is reported of a measured pace, or that its blocks were too many to count
-abbrev pub IsPaceReport : Scope → Config → Option PaceTable → List ℕ → Type 0
-IsPaceReport scope c None text = text ≡ too_many
-IsPaceReport scope c (Some p) text =
+abbrev pub IsPaceReport : Config → Option PaceTable → List ℕ → Type 0
+IsPaceReport c None text = text ≡ too_many
+IsPaceReport c (Some p) text =
     (least : Option ℕ) × (from : Option ℕ) × IsLeast c (pace_in p) least × IsFrom c (pace_in p) from
-    × (text ≡ pace_report scope c (pace_in p) least from)
+    × (text ≡ pace_report c (pace_in p) least from)

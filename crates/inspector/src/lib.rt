@@ -7,7 +7,6 @@ mod cycles;
 mod fault;
 mod filling;
 mod lines;
-pub mod load_kept;
 pub mod pages_needed;
 mod reporting;
 mod shapes;

@@ -5,6 +5,5 @@ mod needed_text;
 mod pace_text;
 
 pub use from::fits_from;
-pub use lines::Scope;
 pub use needed_text::needed_report;
 pub use pace_text::pace_report;

@@ -1,5 +1,5 @@
 -- A cycle that begins, and a turn of actions.
-use Rattle.std.proofs.Common.{◌≡◌, ℕ, ◌+◌, ◌-◌, ◌<◌, ◌≤◌, ◌^◌, ◌⊎◌, inl, inr, Bool, true, false, [], length, refl, ap, ◌∙◌, subst, sym, arith}
+use Rattle.std.proofs.Common.{◌≡◌, ℕ, ◌+◌, ◌-◌, ◌<◌, ◌≤◌, ◌^◌, ◌⊎◌, inl, inr, Bool, true, false, length, refl, ap, ◌∙◌, subst, sym, arith}
 use Rattle.graph_heap.specs.Graph.{Graph}
 use Rattle.heap_model.specs.declared.phase.Phase.TheVariants as phases
 use Rattle.heap_model.specs.State.{HeapState}
@@ -19,9 +19,8 @@ use Rattle.heap_model.proofs.QuantumSpending.Quanta.{chain_units}
 use Rattle.nodes.specs.Acting.{Acts, ActsIn}
 use Rattle.nodes.proofs.Chains.{then_chain, heap_after_chain}
 use Rattle.nodes.proofs.Keeping.{relinked_twice}
-use Rattle.nodes.proofs.Linking.{none_linked}
 use Rattle.nodes.specs.declared.heap_fields.HeapFields.{HeapFields}
-use Rattle.nodes.specs.Grey.{grey_in, in_buffers, AreLinked}
+use Rattle.nodes.specs.Grey.{grey_in, AreLinked}
 use Rattle.nodes.specs.HeapFields.{state_of, IsHeap, AreHeapFields}
 use Rattle.machine.proofs.Doing.{present_agrees}
 
@@ -57,8 +56,8 @@ spent_nothing a budget w = record {
 
 module _ (a b d : HeapFields) (budget : ℕ) (s : HasSpent a b budget) where
   -- and a step does further ones
-  pub spends_on : Acts b (a.units + budget - b.units) d → d.grey.buffers ≡ b.grey.buffers → in_buffers a.grey.buffers ≡ [] → HasSpent a d budget × (b.units < d.units)
-  spends_on acts same none =
+  pub spends_on : Acts b (a.units + budget - b.units) d → d.grey.buffers ≡ b.grey.buffers → AreLinked d.nodes d.grey → HasSpent a d budget × (b.units < d.units)
+  spends_on acts same linked =
       let cost = acts.0 in
       let some = acts.2 in
       let room = acts.3 in
@@ -69,7 +68,7 @@ module _ (a b d : HeapFields) (budget : ℕ) (s : HasSpent a b budget) where
           more = omega (arith, units, more);
           within = omega (arith, units, some, room);
           chain = subst (λ n. Chain (state_of a) n (state_of d)) (let e : b.units - a.units + cost ≡ d.units - a.units = omega (arith, units, more) in e) whole;
-          heap = heap_after_chain b d s.heap cost acts.1 (ap length same) (none_linked d.nodes d.grey (ap in_buffers (same ∙ s.buffers) ∙ none));
+          heap = heap_after_chain b d s.heap cost acts.1 (ap length same) linked;
           buffers = same ∙ s.buffers;
         },
         omega (arith, units, some),

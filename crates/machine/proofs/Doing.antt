@@ -20,7 +20,7 @@ use Rattle.heap_model.proofs.Left.{change_left}
 use Rattle.nodes.specs.HeapFields.{IsHeap}
 use Rattle.machine.specs.Plan.{IsPlanned}
 use Rattle.machine.specs.Reading.{IsRefCell, IsWordCell}
-use Rattle.machine.specs.declared.plan.Cell.{Cell}
+use Rattle.arraylets.specs.declared.cells.Cell.{Cell}
 use Rattle.machine.specs.declared.plan.Write.{Write}
 use Rattle.machine.specs.declared.plan.Write.TheVariants as writes
 

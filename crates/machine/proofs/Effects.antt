@@ -13,7 +13,7 @@ use Rattle.heap_model.specs.State.{HeapState}
 use Rattle.heap_model.specs.Agreement.{Agrees}
 use Rattle.nodes.specs.declared.nodes.Referent.{Referent}
 use Rattle.machine.specs.declared.plan.Found.{Found}
-use Rattle.machine.specs.declared.plan.Cell.{Cell}
+use Rattle.arraylets.specs.declared.cells.Cell.{Cell}
 use Rattle.machine.specs.Reading.{Names, IsFound, FindsRef, FindsWord}
 
 abbrev Done : Type 0

@@ -10,7 +10,7 @@ use Rattle.size_classes.specs.Parts.{cells_of, part_in, column_in}
 use Rattle.heap_model.specs.Store.{Store}
 use Rattle.heap_model.specs.Reading.{block_of}
 use Rattle.arraylets.specs.declared.position.CellPosition.{CellPosition}
-use Rattle.machine.specs.declared.plan.Cell.{Cell}
+use Rattle.arraylets.specs.declared.cells.Cell.{Cell}
 use Rattle.machine.specs.declared.plan.Kind.{Kind}
 use Rattle.machine.specs.declared.plan.Kind.TheVariants as kinds
 use Rattle.machine.specs.Reading.{CanReach, position_in}

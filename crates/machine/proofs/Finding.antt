@@ -24,7 +24,7 @@ use Rattle.nodes.specs.HeapFields.{IsHeap}
 use Rattle.machine.proofs.Doing.{present_agrees}
 use Rattle.nodes.proofs.Representing.{follows}
 use Rattle.machine.specs.Reading.{Names, IsFound, IsRefPlace, IsWordPlace}
-use Rattle.machine.specs.declared.plan.Cell.{Cell}
+use Rattle.arraylets.specs.declared.cells.Cell.{Cell}
 use Rattle.nodes.specs.declared.nodes.Referent.{Referent}
 use Rattle.nodes.specs.Referent.{referent_of, CanFollow}
 

@@ -10,7 +10,7 @@ use Rattle.graph_heap.specs.Effect.{slot_at, static_at, admitted_effect}
 use Rattle.heap_model.specs.State.{HeapState}
 use Rattle.nodes.specs.declared.nodes.Referent.{Referent}
 use Rattle.machine.specs.declared.plan.Planned.{Planned}
-use Rattle.machine.specs.declared.plan.Cell.{Cell}
+use Rattle.arraylets.specs.declared.cells.Cell.{Cell}
 use Rattle.machine.specs.declared.plan.Write.{Write}
 use Rattle.machine.specs.declared.plan.Write.TheVariants as writes
 use Rattle.machine.specs.Reading.{Names, FindsRef, FindsWord}

@@ -19,7 +19,7 @@ use Rattle.heap_model.specs.State.{HeapState}
 use Rattle.heap_model.specs.Agreement.{Agrees}
 use Rattle.heap_model.proofs.Alike.Sameness.{told}
 use Rattle.nodes.specs.HeapFields.{IsHeap}
-use Rattle.machine.specs.declared.plan.Cell.{Cell}
+use Rattle.arraylets.specs.declared.cells.Cell.{Cell}
 use Rattle.machine.specs.declared.plan.Run.{Run}
 use Rattle.machine.specs.Plan.{Steps}
 use Rattle.machine.specs.Reading.{FindsWord}

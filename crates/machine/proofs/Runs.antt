@@ -32,7 +32,7 @@ use Rattle.heap_model.proofs.Agreements.Written.{cells_sum}
 use Rattle.heap_model.proofs.Alike.Sameness.{told, alike_back, alike_sym, known_root, known_ref, known_reaches, reaches_induction, reach_some}
 use Rattle.heap_model.specs.Written.{IsKnown}
 use Rattle.nodes.specs.HeapFields.{IsHeap}
-use Rattle.machine.specs.declared.plan.Cell.{Cell}
+use Rattle.arraylets.specs.declared.cells.Cell.{Cell}
 use Rattle.machine.specs.declared.plan.Run.{Run}
 use Rattle.machine.specs.declared.plan.Planned.{Planned}
 use Rattle.machine.specs.declared.plan.Write.TheVariants as writes

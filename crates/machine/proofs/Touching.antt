@@ -36,7 +36,7 @@ module _ (a : HeapFields) (w : AreHeapFields a) (new : Store) (pages : ℕ) (is 
   relinks = record { blocks = kept; pages = same_pages }
 
   pub touched_fields : AreHeapFields (record a { nodes = new })
-  touched_fields = flushed_heap a (record a { nodes = new }) w refl (grey_kept a (are_allocated a w) new (ap length same_pages) links) relinks refl (linked_still a new w.linked (are_allocated a w) links)
+  touched_fields = flushed_heap a (record a { nodes = new }) w refl (grey_kept a (are_allocated a w) new (ap length same_pages) links) relinks refl (linked_still a new w.linked (are_allocated a w) (ap length same_pages) links)
 
   still : state_of (record a { nodes = new }) ≡ record (state_of a) { store = new }
   still = store_kept a (are_allocated a w) new (ap length same_pages) links

@@ -25,7 +25,7 @@ use Rattle.nodes.specs.Referent.{CanFollow}
 use Rattle.nodes.specs.declared.heap_fields.HeapFields.{HeapFields}
 use Rattle.nodes.specs.HeapFields.{state_of, IsHeap, AreHeapFields}
 use Rattle.machine.specs.Plan.{IsPlanned, CanPerform, DoesEach}
-use Rattle.machine.specs.declared.plan.Cell.{Cell}
+use Rattle.arraylets.specs.declared.cells.Cell.{Cell}
 use Rattle.machine.specs.declared.plan.Write.{Write}
 use Rattle.machine.specs.declared.plan.Write.TheVariants as writes
 use Rattle.machine.proofs.Doing.{present_agrees, at_present, founded, planned_alike, heap_after, agrees_after}

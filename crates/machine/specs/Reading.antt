@@ -16,7 +16,7 @@ use Rattle.nodes.specs.declared.nodes.Referent.{Referent}
 use Rattle.arraylets.specs.declared.position.CellPosition.{CellPosition}
 use Rattle.arraylets.specs.CellPosition.{ref_position, word_position}
 use Rattle.machine.specs.declared.plan.Found.{Found}
-use Rattle.machine.specs.declared.plan.Cell.{Cell}
+use Rattle.arraylets.specs.declared.cells.Cell.{Cell}
 use Rattle.machine.specs.declared.plan.Kind.{Kind}
 use Rattle.machine.specs.declared.plan.Kind.TheVariants as kinds
 

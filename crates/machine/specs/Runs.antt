@@ -13,7 +13,7 @@ use Rattle.graph_heap.specs.Reach.{Reaches}
 use Rattle.size_classes.specs.declared.parts.TheConstants.{PART_CELLS}
 use Rattle.heap_model.specs.State.{HeapState}
 use Rattle.heap_model.specs.Agreement.{Agrees}
-use Rattle.machine.specs.declared.plan.Cell.{Cell}
+use Rattle.arraylets.specs.declared.cells.Cell.{Cell}
 use Rattle.machine.specs.declared.plan.Run.{Run}
 use Rattle.machine.specs.Plan.{Steps}
 use Rattle.machine.specs.Reading.{IsWordCell}

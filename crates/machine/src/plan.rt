@@ -2,6 +2,7 @@
 ghost use Rattle.std.specs.Prelude.{◌≡◌};
 ghost use Rattle.machine.specs.Plan.{planned_reply, write_to};
 
+use arraylets::Cell;
 use graph_heap::{Refusal, Reply, Shape};
 
 /// What a command does: its reply, and the one write of the heap.
@@ -87,14 +88,6 @@ impl Target {
 pub enum Kind {
     Ref,
     Word,
-}
-
-/// Where a cell of an object stands: in a block, a main copy of a part of the object, by its number
-/// among the cells there.
-#[derive(Clone, Copy, Debug, PartialEq, Eq)]
-pub struct Cell {
-    pub block: usize,
-    pub index: usize,
 }
 
 /// Words of an object that stand in a row: as many as `count`, each in the next cell of one block, from a cell on.

@@ -1,18 +1,17 @@
 -- Marking on its way, whatever phase and units the fields have.
-use Rattle.std.proofs.Common.{◌≡◌, ◌≢◌, ℕ, ◌+◌, ◌-◌, ◌<◌, ◌≤◌, ◌^◌, ◌==◌, Bool, true, false, [], ◌∷◌, ◌++◌, List, length, ap, ◌∙◌, sym, subst, refl, arith}
+use Rattle.std.proofs.Common.{◌≡◌, ◌≢◌, ℕ, ◌+◌, ◌-◌, ◌<◌, ◌≤◌, ◌^◌, ◌==◌, if◌then◌else◌, Bool, true, false, [], ◌∷◌, ◌++◌, List, length, ap, ◌∙◌, sym, subst, refl, arith}
 use Rattle.heap_model.specs.declared.phase.Phase.TheVariants as phases
-use Rattle.heap_model.specs.Action.{Action, Chain, Nothing_done, Shades, Was_marked, Is_marked, Scans_header, Ends_marking, goes_to}
+use Rattle.heap_model.specs.Action.{Action, Relinks, Chain, Nothing_done, Shades, Was_marked, Is_marked, Scans_header, Ends_marking, goes_to}
 use Rattle.heap_model.specs.Grey.{AreGrey}
 use Rattle.heap_model.specs.State.{HeapState, seen, width_at}
-use Rattle.heap_model.specs.Store.{record_of}
+use Rattle.heap_model.specs.Store.{Store, is_allocated, record_of}
 use Rattle.nodes.specs.declared.heap_fields.HeapFields.{HeapFields}
-use Rattle.nodes.specs.Grey.{grey_in, in_buffers}
+use Rattle.nodes.specs.Grey.{grey_in, AreLinked}
 use Rattle.nodes.specs.HeapFields.{state_of}
-use Rattle.nodes.proofs.Chains.{then_action, then_chain, heap_after_chain}
-use Rattle.nodes.proofs.Linking.{none_linked}
+use Rattle.nodes.proofs.Chains.{relinked_action, then_action, then_chain, heap_after_chain}
 use Rattle.marker.specs.Scanning.{scanning, IsScanning}
 use Rattle.marker.proofs.Acting.{some_of}
-use Rattle.marker.proofs.Scanned.{all_scanned, none_left, cell_small}
+use Rattle.marker.proofs.InScan.{part_allocated, all_scanned, none_left, cell_small}
 
 -- shading is the same in each place
 pub shades_at : (h k : HeapState) (x part cell units : ℕ) → Shades h x k → Shades (record h { phase = phases.Marking part cell; units = units }) x (record k { phase = phases.Marking part cell; units = units })
@@ -43,21 +42,35 @@ run_scanned h b k part cell n m units chain rest =
     (then_chain h (state_of (scanning b part (cell + n) (units + n))) (state_of (scanning k part (cell + n + m) (units + n + m))) n m chain rest))
 
 -- actions lead from a heap between two steps to one
-pub still_scanning : (a b : HeapFields) (part cell to at n : ℕ) → IsScanning a part cell → ((units : ℕ) → Chain (state_of (scanning a part cell units)) n (state_of (scanning b to at (units + n)))) → b.grey.buffers ≡ a.grey.buffers → in_buffers a.grey.buffers ≡ [] → IsScanning b to at
-still_scanning a b part cell to at n is chain buffers empty =
-    (is.0 + n, heap_after_chain (scanning a part cell is.0) (scanning b to at (is.0 + n)) is.1 n (chain is.0) (ap length buffers) (none_linked b.nodes b.grey (ap in_buffers buffers ∙ empty)))
+pub still_scanning : (a b : HeapFields) (part cell to at n : ℕ) → IsScanning a part cell → ((units : ℕ) → Chain (state_of (scanning a part cell units)) n (state_of (scanning b to at (units + n)))) → b.grey.buffers ≡ a.grey.buffers → AreLinked b.nodes b.grey → IsScanning b to at
+still_scanning a b part cell to at n is chain buffers linked = (is.0 + n, heap_after_chain (scanning a part cell is.0) (scanning b to at (is.0 + n)) is.1 n (chain is.0) (ap length buffers) linked)
+
+-- blocks were threaded anew: a part is as wide as before
+relinked_width : (h : HeapState) (s : Store) → Relinks h.store s → (part : ℕ) → (part ≢ 0 → is_allocated h.store (part - 1) ≡ true) → (seen (record h { store = s })).width part ≡ (seen h).width part
+relinked_width h s links part allocated = by_null (part == 0) refl
+  where
+    by_null : (t : Bool) → (part == 0) ≡ t → (if t then 0 else width_at (record_of s (part - 1))) ≡ (if t then 0 else width_at (record_of h.store (part - 1)))
+    by_null true e = refl
+    by_null false e = ap width_at (links.blocks.nodes (part - 1) (allocated (grind (arith, e))))
 
 -- a grey part is taken, and its header scanned
-pub header_scanned : (a b : HeapFields) (part cell next units : ℕ) → IsScanning a part cell → (part ≢ 0 → width_at (record_of a.nodes (part - 1)) ≤ cell) → b ≡ record a { grey = record a.grey { first = b.grey.first } }
+pub header_once : (a b : HeapFields) (part cell next units : ℕ) → IsScanning a part cell → (part ≢ 0 → width_at (record_of a.nodes (part - 1)) ≤ cell) → Relinks a.nodes b.nodes → b ≡ record a { nodes = b.nodes; grey = b.grey }
     → (front : List ℕ) × (back : List ℕ) × (grey_in a.nodes a.grey ≡ front ++ next ∷ back) × (grey_in b.nodes b.grey ≡ front ++ back)
-    → Action (state_of (scanning a part cell units)) 1 (state_of (scanning b next 0 (units + 1)))
-header_scanned a b part cell next units is done same q =
+    → Action (record (state_of (scanning a part cell units)) { store = b.nodes }) 1 (state_of (scanning b next 0 (units + 1)))
+header_once a b part cell next units is done links same q =
     let h = state_of (scanning a part cell units) in
-    let after : HeapState = goes_to h 1 (phases.Marking next 0) in
-    let taken : grey_in a.nodes (record a.grey { first = b.grey.first }) ≡ q.0 ++ q.1 = ap (λ (x : HeapFields). grey_in x.nodes x.grey) (sym same) ∙ q.3 in
-    subst (λ (x : HeapFields). Action h 1 (state_of (scanning x next 0 (units + 1)))) (sym same)
-    (subst (λ xs. Action h 1 (record after { grey = xs })) (sym taken)
-    (Scans_header part cell next q.0 q.1 refl (all_scanned (scanning a part cell is.0) is.1 part cell refl done) q.2))
+    let linked : HeapState = record h { store = b.nodes } in
+    let after : HeapState = goes_to linked 1 (phases.Marking next 0) in
+    let scanned = all_scanned (scanning a part cell is.0) is.1 part cell refl done ∙ sym (relinked_width h b.nodes links part (part_allocated (scanning a part cell is.0) is.1 part cell refl)) in
+    subst (λ (x : HeapFields). Action linked 1 (state_of (scanning x next 0 (units + 1)))) (sym same)
+    (subst (λ xs. Action linked 1 (record after { grey = xs })) (sym q.3) (Scans_header part cell next q.0 q.1 refl scanned q.2))
+
+-- that is a chain, too
+pub header_scanned : (a b : HeapFields) (part cell next units : ℕ) → IsScanning a part cell → (part ≢ 0 → width_at (record_of a.nodes (part - 1)) ≤ cell) → Relinks a.nodes b.nodes → b ≡ record a { nodes = b.nodes; grey = b.grey }
+    → (front : List ℕ) × (back : List ℕ) × (grey_in a.nodes a.grey ≡ front ++ next ∷ back) × (grey_in b.nodes b.grey ≡ front ++ back)
+    → Chain (state_of (scanning a part cell units)) 1 (state_of (scanning b next 0 (units + 1)))
+header_scanned a b part cell next units is done links same q =
+    relinked_action (state_of (scanning a part cell units)) (state_of (scanning b next 0 (units + 1))) b.nodes 1 links (header_once a b part cell next units is done links same q)
 
 -- no part is grey: marking ends
 pub marking_ends : (a : HeapFields) (part cell units : ℕ) → IsScanning a part cell → (part ≢ 0 → width_at (record_of a.nodes (part - 1)) ≤ cell) → grey_in a.nodes a.grey ≡ []
@@ -85,8 +98,8 @@ place_small a part cell is = by_null (part == 0) refl
     by_null false z = cell_small (scanning a part cell is.0) is.1 part cell refl (grind arith)
 
 -- a part was taken, and nothing else was written
-pub taken_same : (a b : HeapFields) → b ≡ record a { grey = record a.grey { first = b.grey.first } } → b ≡ record a { nodes = b.nodes; grey = b.grey }
-taken_same a b e = e ∙ ap (λ (x : HeapFields). record a { nodes = x.nodes; grey = x.grey }) (sym e)
+pub taken_same : (a b : HeapFields) → b ≡ record a { nodes = b.nodes; grey = record a.grey { first = b.grey.first } } → b ≡ record a { nodes = b.nodes; grey = b.grey }
+taken_same a b e = e ∙ ap (λ g. record a { nodes = b.nodes; grey = g }) (sym (ap (λ (x : HeapFields). x.grey) e))
 
 -- marking goes on at the phase's cell
 pub begun : (a : HeapFields) (part cell : ℕ) → a.phase ≡ phases.Marking part cell → Chain (state_of a) 0 (state_of (scanning a part cell (a.units + 0)))

@@ -8,12 +8,26 @@ ghost use Rattle.heap_model.specs.declared.phase.Phase.TheVariants as phases;
 ghost use Rattle.nodes.specs.Acting.{Acts};
 ghost use Rattle.nodes.specs.Grey.{in_buffers, AreLinked};
 ghost use Rattle.nodes.specs.HeapFields.{state_of, AreHeapFields};
+ghost use Rattle.marker.specs.Scanned.{scanned_at, scanned_next, ScansOne};
 ghost use Rattle.marker.specs.Scanning.{scanning, IsScanning, Scans};
 
 use heap_model::cost::{SCAN, TURN};
 use heap_model::phase::Phase;
 use nodes::{HeapFields, Nodes};
 use satb_barrier::{pop_grey, shade};
+
+/// What a marking action scanned.
+#[derive(Clone, Copy, Debug, PartialEq, Eq)]
+pub enum Scanned {
+    /// A root cell.
+    Root,
+    /// The header of a grey part, whose cells are scanned next.
+    Header,
+    /// A reference cell of the part in scan.
+    Cell,
+    /// Nothing: all roots are scanned, or no part is grey.
+    Nothing,
+}
 
 /// The part in scan, by reference, 0 for none yet; its next cell; and how many of its cells are references.
 #[derive(Clone, Copy, Debug, PartialEq, Eq)]
@@ -28,6 +42,69 @@ struct Scan {
 struct Step {
     scan: Scan,
     units: u32,
+}
+
+/// Does one marking action. In roots the next root cell is scanned. In marking the next reference cell of the part in
+/// scan is; where none is left, a grey part is taken and its header scanned. What a cell names is corrected to the main
+/// copy, and that is shaded. Where nothing is left to be scanned, nothing is done. The buffers are empty.
+#[inline(always)]
+pub fn scan_one(heap: &mut HeapFields) -> Scanned
+    requires heap { AreHeapFields heap.old }
+    requires buffers { in_buffers heap.old.grey.buffers ≡ [] }
+    ensures answer { result ≡ scanned_next (state_of heap.old) }
+    ensures acts { ScansOne heap.old result heap.new }
+    ensures buffers { heap.new.grey.buffers ≡ heap.old.grey.buffers }
+    ensures linked { AreLinked heap.new.nodes heap.new.grey }
+{
+    match heap.phase {
+        Phase::Roots { next } => root_one(heap, next),
+        Phase::Marking { part, cell } => mark_one(heap, part, cell),
+        Phase::Idle | Phase::Sweeping { .. } | Phase::Moving(_) => Scanned::Nothing,
+    }
+}
+
+/// Does one action in roots.
+fn root_one(heap: &mut HeapFields, next: usize) -> Scanned
+    requires heap { AreHeapFields heap.old }
+    requires phase { heap.old.phase ≡ phases.Roots next }
+    ensures answer { result ≡ scanned_at (state_of heap.old) (phases.Roots next) }
+    ensures acts { ScansOne heap.old result heap.new }
+    ensures buffers { heap.new.grey.buffers ≡ heap.old.grey.buffers }
+    ensures linked { AreLinked heap.new.nodes heap.new.grey }
+{
+    if heap.roots.cells().len() <= next {
+        return Scanned::Nothing;
+    }
+    scan_root(heap, next);
+    Scanned::Root
+}
+
+/// Does one action in marking. The buffers are empty.
+fn mark_one(heap: &mut HeapFields, part: u64, cell: u32) -> Scanned
+    requires heap { AreHeapFields heap.old }
+    requires buffers { in_buffers heap.old.grey.buffers ≡ [] }
+    requires phase { heap.old.phase ≡ phases.Marking part cell }
+    ensures answer { result ≡ scanned_at (state_of heap.old) (phases.Marking part cell) }
+    ensures acts { ScansOne heap.old result heap.new }
+    ensures buffers { heap.new.grey.buffers ≡ heap.old.grey.buffers }
+    ensures linked { AreLinked heap.new.nodes heap.new.grey }
+{
+    let scan = scan_at(heap, part, cell as usize);
+    if (cell as usize) < scan.width {
+        scan_cell(heap, part, cell as usize);
+        let cell = cell + 1;
+        heap.charge(SCAN, Phase::Marking { part, cell });
+        return Scanned::Cell;
+    }
+    let Some(next) = pop_grey(heap) else {
+        return Scanned::Nothing;
+    };
+    let place = Phase::Marking {
+        part: next,
+        cell: 0,
+    };
+    heap.charge(SCAN, place);
+    Scanned::Header
 }
 
 /// Scans a root cell: it is corrected to the main copy, and that is shaded.
@@ -57,6 +134,7 @@ pub fn scan_roots(heap: &mut HeapFields, next: usize, room: u32)
     requires room { 0 < room }
     ensures acts { Acts heap.old room heap.new }
     ensures buffers { heap.new.grey.buffers ≡ heap.old.grey.buffers }
+    ensures linked { AreLinked heap.new.nodes heap.new.grey }
 {
     let left = heap.roots.cells().len().saturating_sub(next);
     if left == 0 {
@@ -79,6 +157,7 @@ pub fn scan_parts(heap: &mut HeapFields, part: u64, cell: u32, room: u32)
     requires room { 0 < room }
     ensures acts { Acts heap.old room heap.new }
     ensures buffers { heap.new.grey.buffers ≡ heap.old.grey.buffers }
+    ensures linked { AreLinked heap.new.nodes heap.new.grey }
 {
     let mut scan = scan_at(heap, part, cell as usize);
     let mut units = 0;
@@ -126,6 +205,7 @@ fn scan_next(heap: &mut HeapFields, scan: Scan, room: u32) -> Option<Step>
         → Action (state_of (scanning heap.old scan.part scan.cell units)) TURN
         (goes_to (state_of (scanning heap.new scan.part scan.cell units)) TURN (phases.Sweeping 0 0)) }
     ensures buffers { heap.new.grey.buffers ≡ heap.old.grey.buffers }
+    ensures linked { AreLinked heap.new.nodes heap.new.grey }
     ensures same { heap.new ≡ record heap.old { nodes = heap.new.nodes; grey = heap.new.grey } }
 {
     if scan.cell < scan.width {
@@ -143,16 +223,16 @@ fn scan_next(heap: &mut HeapFields, scan: Scan, room: u32) -> Option<Step>
     Some(Step { scan, units: SCAN })
 }
 
-/// Scans `count` reference cells of a part, from one on. The buffers are empty.
+/// Scans `count` reference cells of a part, from one on.
 fn scan_cells(heap: &mut HeapFields, part: u64, cell: usize, count: usize)
     requires heap { IsScanning heap.old part cell }
-    requires buffers { in_buffers heap.old.grey.buffers ≡ [] }
     requires some { part ≢ 0 }
     requires within { cell + count ≤ width_at (record_of heap.old.nodes (part - 1)) }
     ensures acts { (units : ℕ) → Chain (state_of (scanning heap.old part cell units)) count
         (state_of (scanning heap.new part (cell + count) (units + count))) }
     ensures width { width_at (record_of heap.new.nodes (part - 1)) ≡ width_at (record_of heap.old.nodes (part - 1)) }
     ensures buffers { heap.new.grey.buffers ≡ heap.old.grey.buffers }
+    ensures linked { AreLinked heap.new.nodes heap.new.grey }
     ensures same { heap.new ≡ record heap.old { nodes = heap.new.nodes; grey = heap.new.grey } }
 {
     let mut scanned = 0;
@@ -161,9 +241,8 @@ fn scan_cells(heap: &mut HeapFields, part: u64, cell: usize, count: usize)
     }
 }
 
-/// Scans the next reference cell of a part: it is corrected to the main copy, and that is shaded. Null stays as it is,
-/// and the cells after it are scanned too, up to the first that isn't null, this many in all at most. Answers how many
-/// it scanned.
+/// Scans the next reference cell of a part. If it is null, the cells after it are scanned too, up to the first that
+/// isn't, this many in all at most. Answers how many it scanned.
 #[inline(always)]
 fn scan_run(heap: &mut HeapFields, part: u64, cell: usize, most: usize) -> usize
     requires heap { IsScanning heap.old part cell }
@@ -175,6 +254,7 @@ fn scan_run(heap: &mut HeapFields, part: u64, cell: usize, most: usize) -> usize
         (state_of (scanning heap.new part (cell + result) (units + result))) }
     ensures width { width_at (record_of heap.new.nodes (part - 1)) ≡ width_at (record_of heap.old.nodes (part - 1)) }
     ensures buffers { heap.new.grey.buffers ≡ heap.old.grey.buffers }
+    ensures linked { AreLinked heap.new.nodes heap.new.grey }
     ensures same { heap.new ≡ record heap.old { nodes = heap.new.nodes; grey = heap.new.grey } }
 {
     let block = part as usize - 1;
@@ -182,10 +262,28 @@ fn scan_run(heap: &mut HeapFields, part: u64, cell: usize, most: usize) -> usize
     if reference == 0 {
         return 1 + nulls_from(&heap.nodes, block, cell + 1, most - 1);
     }
-    let main = heap.nodes.follow(reference).reference;
+    scan_cell(heap, part, cell);
+    1
+}
+
+/// Scans a reference cell of a part: it is corrected to the main copy, and that is shaded.
+#[inline(always)]
+fn scan_cell(heap: &mut HeapFields, part: u64, cell: usize)
+    requires heap { IsScanning heap.old part cell }
+    requires some { part ≢ 0 }
+    requires within { cell < width_at (record_of heap.old.nodes (part - 1)) }
+    ensures acts { (units : ℕ) → Action (state_of (scanning heap.old part cell units)) SCAN
+        (state_of (scanning heap.new part (cell + 1) (units + 1))) }
+    ensures width { width_at (record_of heap.new.nodes (part - 1)) ≡ width_at (record_of heap.old.nodes (part - 1)) }
+    ensures buffers { heap.new.grey.buffers ≡ heap.old.grey.buffers }
+    ensures linked { AreLinked heap.new.nodes heap.new.grey }
+    ensures same { heap.new ≡ record heap.old { nodes = heap.new.nodes; grey = heap.new.grey } }
+{
+    let block = part as usize - 1;
+    let reference = heap.nodes.cell(block, cell);
+    let main = heap.nodes.resolve(reference).reference;
     heap.nodes.set_cell(block, cell, main);
     shade(heap, main);
-    1
 }
 
 /// How many cells of a block, from one on and at most `most`, are null before the first that isn't.

@@ -1,5 +1,7 @@
 -- The heap behind a play, and the graph heap to which its history leads.
-use Rattle.std.proofs.Common.{◌≡◌, ℕ, List, Option, Ok, ap, ◌∙◌, sym, subst}
+use Rattle.std.proofs.Common.{◌≡◌, ℕ, List, Option, Ok, inl, inr, refl, ap, ◌∙◌, sym, subst}
+use Rattle.std.specs.Prelude.{Result}
+use Rattle.trace.specs.declared.fault.PlayFault.{PlayFault}
 use Rattle.graph_heap.specs.declared.command.Limits.{Limits}
 use Rattle.graph_heap.specs.declared.command.Entry.{Entry}
 use Rattle.graph_heap.specs.Graph.{Graph, opening}
@@ -8,10 +10,11 @@ use Rattle.settings.specs.declared.config.Config.{Config}
 use Rattle.heap_model.specs.Event.{Course, present_of}
 use Rattle.heap_model.specs.Settings.{settings_of, settings_by}
 use Rattle.machine.proofs.Space.{runs_settings}
-use Rattle.streams.specs.Streams.{Given}
+use Rattle.streams.specs.Streams.{Given, Taken}
 use Rattle.player.specs.declared.style.Style.{Style}
+use Rattle.player.specs.declared.style.Style.TheVariants.{Nothing}
 use Rattle.player.specs.New.{IsNew}
-use Rattle.player.specs.Playing.{Session, PlayedUpTo}
+use Rattle.player.specs.Playing.{Session, OrHeld, PlayedUpTo}
 use Rattle.player.proofs.Promised.{up_to_reaches}
 
 -- the heap behind a play has the configuration's settings
@@ -19,6 +22,11 @@ pub played_settings : (config : Config) (n : Option ℕ) (style : Style) (given 
 played_settings config n style given old new is p =
     let r = up_to_reaches n style given old new (Ok tt) p in
     runs_settings r.0 old.player.course new.player.course r.1 ∙ is.settings
+
+-- where nothing is written no sink is flushed
+pub not_held : (taken : Taken) (result : Result (Unit {0}) PlayFault) (EndsSo : Result (Unit {0}) PlayFault → Type 0) → OrHeld Nothing taken result EndsSo → EndsSo result
+not_held taken result EndsSo (inl ends) = ends
+not_held taken result EndsSo (inr held) = absurd (held.1 refl)
 
 -- the graph heap to which the history of a course leads
 pub graph_at : (r s : Course) (l : Limits) (history : List Entry) (g : Graph) → s ≡ r → l ≡ r.heap.limits → history ≡ s.history → IsLegal (opening s.heap.limits) s.history

@@ -1,16 +1,13 @@
 -- How many reads and writes failed of a run that ends so.
-use Rattle.std.proofs.Common.{◌≡◌, ℕ, ◌+◌, ◌<◌, Bool, true, false, List, [], length, inl, inr, refl, sym, subst, ap, ◌∙◌, arith}
+use Rattle.std.proofs.Common.{◌≡◌, ℕ, ◌+◌, Bool, true, false, [], inl, inr, refl, sym, subst, ap, ◌∙◌}
 use Rattle.std.specs.Prelude.{Result, Ok, Err}
 use Rattle.std.specs.Result.{IsErrAnd}
 use Rattle.graph_heap.specs.Graph.{Graph, opening}
-use Rattle.graph_heap.specs.declared.command.Entry.{Entry}
 use Rattle.settings.specs.declared.config.Config.{Config as Settings}
 use Rattle.settings.specs.Config.{limits_of}
 use Rattle.trace.proofs.LinesProcessed.{reached_by}
 use Rattle.trace.specs.declared.fault.PlayFault.{PlayFault}
 use Rattle.trace.specs.declared.fault.PlayFault.TheVariants as texts
-use Rattle.trace.specs.declared.version.Version.{Version}
-use Rattle.trace.specs.declared.version.Version.TheVariants.{First, Second}
 use Rattle.trace.specs.LinesProcessed.{Reached, ProcessingEnds, reads_failed, writes_failed}
 use Rattle.trace.specs.TextLine.{Text as LineText}
 use Rattle.streams.specs.Streams.{Given, Taken}
@@ -18,26 +15,19 @@ use Rattle.trace.specs.declared.transcripts.histories.Checked.{Checked}
 use Rattle.trace.specs.Histories.{EntriesChecked, HistoryStops}
 use Rattle.trace.specs.Scripts.{ReadScripts, AreScripts, ScriptsRead, ScriptStops}
 use Rattle.player.specs.declared.style.Style.TheVariants.{Nothing}
-use Rattle.player.specs.Player.{entries_in}
-use Rattle.player.specs.Playing.{Session, session, Played, text_written}
+use Rattle.player.specs.Playing.{Session, session, StopsText, Played}
 use Rattle.player.specs.Surveying.{NewRun, Surveyed}
-use Rattle.player.proofs.Lines.{ends_otherwise, nothing_written}
+use Rattle.player.proofs.Lines.{nothing_fails}
 use Rattle.pictures.specs.GraphDrawn.{GraphDrawn}
 use Rattle.inspector.specs.Taking.{TellsCycles}
 use Rattle.plans.specs.Live.{TellsMostLive}
 use Rattle.sizing.specs.Measuring.{RunMeasured}
-use Rattle.sizing.specs.AllocationProfile.{AllocationProfile}
-use Rattle.sizing.specs.declared.arrivals.keeping.Conformance.{Conformance}
-use Rattle.sizing.specs.Metering.{NoEvent}
-use Rattle.sizing.specs.Keeping.{LoadChecked}
 use Rattle.settings.specs.declared.fault.ConfigFault.{ConfigFault}
 use Rattle.documents.specs.declared.toml_table.ReadFault.{ReadFault}
 use Rattle.documents.specs.declared.toml_table.ReadFault.TheVariants as settings
 use Rattle.metronome.specs.declared.fault.RunFault.{RunFault}
 use Rattle.metronome.specs.declared.fault.RunFault.TheVariants.{Text}
 use Rattle.metronome.specs.Faults.{of_settings, IsUnreadable, failed_reads, failed_writes}
-use Rattle.metronome.specs.Files.{KnownFile}
-use Rattle.metronome.specs.Loaded.{LoadRead}
 use Rattle.metronome.specs.Jobs.{finish}
 use Rattle.metronome.specs.declared.answer_job.Answer.{Answer}
 use Rattle.metronome.specs.declared.answer_job.Question.{Question}
@@ -109,13 +99,6 @@ unreadable_written failed fault u = refl
 pub unreadable_unwritten : {A : Type 0} (r : Result A RunFault) (failed : Bool) (fault : RunFault) → IsErrAnd r (λ e. e ≡ fault) → IsUnreadable failed fault → failed_writes r ≡ 0
 unreadable_unwritten r failed fault h u = writes_so r fault h ∙ unreadable_written failed fault u
 
-load_written : (file : KnownFile) (fault : RunFault) → LoadRead file (Err fault) → failed_writes {A = Unit {0}} (Err fault) ≡ 0
-load_written file (Text texts.Write) u = elim u [ ]
-load_written file fault u = refl
-
-pub load_fault_unwritten : {A : Type 0} (r : Result A RunFault) (file : KnownFile) (fault : RunFault) → IsErrAnd r (λ e. e ≡ fault) → LoadRead file (Err fault) → failed_writes r ≡ 0
-load_fault_unwritten r file fault h u = writes_so r fault h ∙ load_written file fault u
-
 settings_written : (why : ReadFault ConfigFault) → failed_writes {A = Unit {0}} (Err (of_settings why)) ≡ 0
 settings_written (settings.Refused why) = refl
 settings_written settings.NoMemory = refl
@@ -145,25 +128,9 @@ scripts_unwritten given mutators how (inl none) = ap writes_failed none.0
 scripts_unwritten given mutators how (inr w) =
     unwritten how (λ e. (let v = subst (AreScripts given mutators) e w in ends_unwritten (ScriptStops mutators) (λ text g k stops. stops) (reached_by v.over) given.ended tt v.over.ends))
 
-pub load_unwritten : (l : AllocationProfile) (k : ℕ) (given : Given) (how : Result Conformance PlayFault) → LoadChecked l k given how → writes_failed how ≡ 0
-load_unwritten l k given how w =
-    unwritten how (λ e. (let v = subst (LoadChecked l k given) e w in ends_unwritten NoEvent (λ text g m stops. (let z = stops.0 in cc)) (reached_by v.over) given.ended tt v.over.ends))
-
 -- where nothing is written no write fails
-nothing_told : (version : Version) (entries : List Entry) → text_written Nothing version entries ≡ []
-nothing_told First entries = nothing_written entries
-nothing_told Second entries = nothing_written entries
-
-cut_of_nothing : (version : Version) (entries : List Entry) (n : ℕ) → n < length (text_written Nothing version entries) → ⊥
-cut_of_nothing version entries n few =
-    let none : length (text_written Nothing version entries) ≡ 0 = ap length (nothing_told version entries) in
-    omega (arith, few, none)
-
 nothing_cut : (given : Given) (old new : Session) → Played Nothing given old new (Err texts.Write) → ⊥
-nothing_cut given old new p = elim p.over.ends [
-  | inl e ↦ ends_otherwise Nothing (reached_by p.over) given.ended new (Err texts.Write) e refl
-  | inr w ↦ cut_of_nothing p.over.version (entries_in p.over.events) w.1.0.0 w.1.0.1
-]
+nothing_cut given old new p = ends_unwritten (StopsText Nothing) nothing_fails (reached_by p.over) given.ended new p.over.ends
 
 pub surveyed_unwritten : {F : Type 0} (Tells : (config : Settings) (given : Given) → NewRun config given → F → Type 0) (config : Settings) (given : Given) (how : Result F PlayFault) → Surveyed Tells config given how → writes_failed how ≡ 0
 surveyed_unwritten Tells config given (Err texts.Write) w = absurd (nothing_cut given (session w.0 []) w.1 w.2)

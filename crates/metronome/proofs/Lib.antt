@@ -4,10 +4,9 @@ pub mod Reading
 pub mod Telling
 mod MadeText
 pub mod Sharing
-pub mod Covering
 pub mod Failing
 pub mod Below
 pub mod Alive
 mod Trials
 mod Obeying
-mod LoadsRead
+pub mod Flushing

@@ -1,5 +1,5 @@
 -- From the bytes of files to what a request does.
-use Rattle.std.proofs.Common.{◌≡◌, ℕ, ◌<◌, ◌≤◌, ◌⊎◌, inl, inr, Bool, true, false, List, [], ◌++◌, length, length-take, take, take_all, append-nil, Option, Some, None, ap, ◌∙◌, sym, subst, refl, arith}
+use Rattle.std.proofs.Common.{◌≡◌, ℕ, ◌+◌, ◌<◌, ◌≤◌, ◌⊎◌, inl, inr, Bool, true, false, List, [], ◌++◌, length, length-take, take, take_all, append-nil, Option, Some, None, ap, ◌∙◌, sym, subst, refl, arith}
 use Rattle.std.specs.Borrow.{Bor}
 use Rattle.std.specs.Str.{bytes_eq}
 use Rattle.std.proofs.Math.Seq.{take-append_seam}
@@ -17,16 +17,13 @@ use Rattle.streams.specs.Streams.{Given, Taken, Stays, Begins, given_by}
 use Rattle.metronome.specs.declared.fault.Ending.{Ending}
 use Rattle.trace.proofs.LinesProcessed.{stays_on}
 use Rattle.trace.specs.declared.fault.PlayFault.TheVariants as texts
-use Rattle.command_line.specs.declared.job.Job.TheVariants.{Pages}
-use Rattle.command_line.specs.declared.job.Sizing.TheVariants.{Load}
 use Rattle.metronome.specs.declared.fault.RunFault.{RunFault}
 use Rattle.metronome.specs.declared.fault.RunFault.TheVariants.{Text}
 use Rattle.metronome.specs.Faults.{failed_reads, IsUnreadable}
 use Rattle.metronome.specs.Files.{KnownFile, KnownFiles, no_file, IsOpened, IsFront, document_bytes}
-use Rattle.metronome.specs.Loaded.{LoadRead}
 use Rattle.metronome.specs.Texts.{IsRest}
-use Rattle.metronome.specs.Done.{JobDone, JobCountsReads}
-use Rattle.metronome.specs.Run.{load_file, other_file, IsGivenOf, JobDoneOn}
+use Rattle.metronome.specs.Done.{JobDone}
+use Rattle.metronome.specs.Run.{other_file, IsGivenOf, JobDoneOn}
 
 -- where known bytes stay known, what is a beginning of those is one of these
 pub begins_on : (old new : Option (List ℕ)) (given : List ℕ) (ended : Bool) → Stays old new → IfSome new (λ all. Begins given ended all) → IfSome old (λ all. Begins given ended all)
@@ -68,40 +65,35 @@ rest_read given text f = (
   ],
 )
 
--- of what is too long nothing else is said
-pub long_first : {A : Type 0} (bytes : List ℕ) (said other : A) → 65536 < length bytes → (if nat_lt 65536 (length bytes) then said else other) ≡ said
-long_first bytes said other long = by_test (nat_lt 65536 (length bytes)) (grind arith)
+-- of a configuration that is too long nothing else is said
+long_fault : (bytes : List ℕ) → 65536 < length bytes → file_fault bytes ≡ Some faults.TooLong
+long_fault bytes long = by_test (nat_lt 65536 (length bytes)) (grind arith)
   where
-    by_test : (b : Bool) → b ≡ true → (if b then said else other) ≡ said
+    by_test : (b : Bool) → b ≡ true → (if b then Some faults.TooLong else fault_in (document_of bytes)) ≡ Some faults.TooLong
     by_test true e = refl
     by_test false e = absurd (cc)
 
--- so it says the same of a configuration as all its bytes
-long_fault : (bytes : List ℕ) → 65536 < length bytes → file_fault bytes ≡ Some faults.TooLong
-long_fault bytes long = long_first bytes (Some faults.TooLong) (fault_in (document_of bytes)) long
-
+-- so a beginning of it that is too long says the same as all its bytes
 long_read : (all cut : List ℕ) (r : Result Config (ReadFault ConfigFault)) → 65536 < length all → 65536 < length cut → IsRead cut r → IsRead all r
 long_read all cut (Ok config) long few h = absurd (let no : Some faults.TooLong ≡ None = sym (long_fault cut few) ∙ h.0 in cc)
 long_read all cut (Err (Refused fault)) long few h = long_fault all long ∙ sym (long_fault cut few) ∙ h
 long_read all cut (Err NoMemory) long few h = absurd (let short = h.short in omega (arith, short, few))
 
--- Says bytes r: what is read of a document, of which those that are too long all say the same.
-module _ {A : Type 0} (Says : List ℕ → A → Type 0) (long : (all cut : List ℕ) (r : A) → 65536 < length all → 65536 < length cut → Says cut r → Says all r) where
-  read_whole : (all : List ℕ) (r : A) → Says (document_bytes all) r → Says all r
-  read_whole all r h = elim (le_or (length all) 65536) [
-    | inl short ↦ subst (λ b. Says b r) (take_all 65537 all (omega (arith, short))) h
-    | inr large ↦ long all (document_bytes all) r large (omega (arith, large, length-take 65537 all)) h
-  ]
-    where
-      le_or : (a b : ℕ) → (a ≤ b) ⊎ (b < a)
-      le_or a b = grind arith
+read_whole : (all : List ℕ) (r : Result Config (ReadFault ConfigFault)) → IsRead (document_bytes all) r → IsRead all r
+read_whole all r h = elim (le_or (length all) 65536) [
+  | inl short ↦ subst (λ b. IsRead b r) (take_all 65537 all (omega (arith, short))) h
+  | inr large ↦ long_read all (document_bytes all) r large (omega (arith, large, length-take 65537 all)) h
+]
+  where
+    le_or : (a b : ℕ) → (a ≤ b) ⊎ (b < a)
+    le_or a b = grind arith
 
-  pub known_read : (known : Option (List ℕ)) (bytes : List ℕ) (r : A) → IfSome known (λ all. bytes ≡ document_bytes all) → Says bytes r → IfSome known (λ all. Says all r)
-  known_read None bytes r e h = tt
-  known_read (Some all) bytes r e h = read_whole all r (subst (λ b. Says b r) e h)
+known_read : (known : Option (List ℕ)) (bytes : List ℕ) (r : Result Config (ReadFault ConfigFault)) → IfSome known (λ all. bytes ≡ document_bytes all) → IsRead bytes r → IfSome known (λ all. IsRead all r)
+known_read None bytes r e h = tt
+known_read (Some all) bytes r e h = read_whole all r (subst (λ b. IsRead b r) e h)
 
 pub config_seen : (known : Option (List ℕ)) (bytes seen : List ℕ) (r : Result Config (ReadFault ConfigFault)) → IfSome known (λ all. bytes ≡ document_bytes all) → seen ≡ bytes → IsRead seen r → IfSome known (λ all. IsRead all r)
-config_seen known bytes seen r e same h = known_read IsRead long_read known bytes r e (subst (λ b. IsRead b r) same h)
+config_seen known bytes seen r e same h = known_read known bytes r e (subst (λ b. IsRead b r) same h)
 
 -- what can't be read, by whether something failed
 pub unreadable_so : (p q : Bool) (fault : RunFault) → (IsTrue p → IsTrue q) → IsUnreadable p fault → IsUnreadable q fault
@@ -117,30 +109,26 @@ pub or_right : (a b : Bool) → IsTrue b → IsTrue (a || b)
 or_right true b t = refl
 or_right false b t = t
 
--- a load that ends in a failed read is of a file of which one failed
-load_failed : (file : KnownFile) (fault : RunFault) → 0 < failed_reads {A = Ending} (Err fault) → LoadRead file (Err fault) → IsTrue file.failed
-load_failed file (Text texts.Read) few r = r
-load_failed file fault few r = absurd (omega (arith, few))
+-- a job that ends in a failed read is of a source of which one failed
+pub reads_told : {S : Type 0} (file : KnownFile) (failures : S → ℕ) (old new : S) (how : Result Ending RunFault) → failures old ≡ 0 → ((later : S) → 0 < failures later → IsTrue file.failed) → failures new ≡ failures old + failed_reads how → 0 < failed_reads how
+    → IsTrue file.failed
+reads_told file failures old new how none fails counts few = fails new (omega (arith, none, counts, few))
 
-module _ {S : Type 0} (files : KnownFiles) (file : KnownFile) (failures : S → ℕ) (old new : S) (none : failures old ≡ 0) (fails : (later : S) → 0 < failures later → IsTrue file.failed) where
-  -- a job that ends in a failed read is of a source of which one failed, or of such a load
-  pub reads_told : (job : Job) (how : Result Ending RunFault) → JobCountsReads files job failures old new how → 0 < failed_reads how → IsTrue (file.failed || (load_file files job).failed)
-  reads_told (Pages (Load name)) how (inl e) few = or_left _ _ (fails new (omega (arith, e, few)))
-  reads_told (Pages (Load name)) how (inr (fault, so, read, same)) few = or_right file.failed _ (load_failed (files.named name.now) fault (subst (λ (r : Result Ending RunFault). 0 < failed_reads r) so few) read)
-  reads_told job how e few = or_left _ _ (fails new (omega (arith, e, few)))
+-- a job from a source is one from the file that its source is of
+pub job_on : (given : Given) (file : KnownFile) (input : Option (List ℕ)) (job : Job) (config : Config) (taken : Taken) (how : Result Ending RunFault) → given.before ≡ [] → Stays file.bytes input → JobDone job config given taken how → IsGivenOf input given how
+    → (0 < failed_reads how → IsTrue file.failed) → JobDoneOn file job config taken how
+job_on given file input job config taken how first stays done is reads = (given, first, (λ none. begins_on file.bytes input given.after given.ended stays (is none)), done, reads)
+
+-- so it is one from the file of which its source was opened
+pub job_from : {S : Type 0} (file : KnownFile) (given : S → List ℕ) (ended : S → Bool) (failures : S → ℕ) (input : S → Option (List ℕ)) (old new : S) (job : Job) (config : Config) (taken : Taken) (how : Result Ending RunFault) → IsOpened given failures input file old
+    → JobDone job config (given_by given ended old new) taken how → failures new ≡ failures old + failed_reads how → IsGivenOf (input old) (given_by given ended old new) how → JobDoneOn file job config taken how
+job_from file given ended failures input old new job config taken how opened done counts is =
+    job_on (given_by given ended old new) file (input old) job config taken how opened.0 opened.2 done is (reads_told file failures old new how opened.1 opened.3 counts)
+
+pub job_of : (file other : KnownFile) (job : Job) (config : Config) (taken : Taken) (how : Result Ending RunFault) → other ≡ file → JobDoneOn file job config taken how → JobDoneOn other job config taken how
+job_of file other job config taken how e done = subst (λ f. JobDoneOn f job config taken how) (sym e) done
 
 module _ (files : KnownFiles) where
-  -- a job from a source is one from the file that its source is of
-  pub job_on : (given : Given) (file : KnownFile) (input : Option (List ℕ)) (job : Job) (config : Config) (taken : Taken) (how : Result Ending RunFault) → given.before ≡ [] → Stays file.bytes input
-      → JobDone files job config given taken how → IsGivenOf input given how → (0 < failed_reads how → IsTrue (file.failed || (load_file files job).failed)) → JobDoneOn files file job config taken how
-  job_on given file input job config taken how first stays done is reads = (given, first, (λ none. begins_on file.bytes input given.after given.ended stays (is none)), done, reads)
-
-  -- so it is one from the file of which its source was opened
-  pub job_from : {S : Type 0} (file : KnownFile) (given : S → List ℕ) (ended : S → Bool) (failures : S → ℕ) (input : S → Option (List ℕ)) (old new : S) (job : Job) (config : Config) (taken : Taken) (how : Result Ending RunFault) → IsOpened given failures input file old
-      → JobDone files job config (given_by given ended old new) taken how → JobCountsReads files job failures old new how → IsGivenOf (input old) (given_by given ended old new) how → JobDoneOn files file job config taken how
-  job_from file given ended failures input old new job config taken how opened done counts is =
-      job_on (given_by given ended old new) file (input old) job config taken how opened.0 opened.2 done is (reads_told files file failures old new opened.1 opened.3 job how counts)
-
   -- a request's other file is standard input, or that of its name, or it has none
   pub other_input : (file : Option (Bor (List ℕ))) (name : Bor (List ℕ)) → file ≡ Some name → true ≡ bytes_eq name.now (codes "-") → other_file files file ≡ files.input
   other_input file name so e = ap (other_file files) so ∙ ap (λ b. if b then files.input else files.named name.now) (sym e)
@@ -150,6 +138,3 @@ module _ (files : KnownFiles) where
 
   pub other_none : (file : Option (Bor (List ℕ))) → file ≡ None → other_file files file ≡ no_file
   other_none file so = ap (other_file files) so
-
-  pub job_of : (file other : KnownFile) (job : Job) (config : Config) (taken : Taken) (how : Result Ending RunFault) → other ≡ file → JobDoneOn files file job config taken how → JobDoneOn files other job config taken how
-  job_of file other job config taken how e done = subst (λ f. JobDoneOn files f job config taken how) (sym e) done

@@ -16,7 +16,6 @@ use Rattle.inspector.specs.declared.cycles.cycle.Cycles.{Cycles}
 use Rattle.inspector.specs.declared.cycles.text.Layout.{Layout}
 use Rattle.inspector.specs.Taking.{CyclesTaken}
 use Rattle.inspector.specs.CyclesText.{cycles_told}
-use Rattle.inspector.specs.declared.pages_needed.lines.Scope.TheVariants.{Pace as By_pace}
 use Rattle.inspector.specs.NeededReport.{IsPaceReport}
 use Rattle.sizing.specs.declared.measured.Measured.{Measured}
 use Rattle.sizing.specs.Measured.{least_units, HasUnits}
@@ -50,7 +49,7 @@ verdict (Wrong line) = WrongReply
 pub record TellsPace (config : Config) (m : Measured) (text : List ℕ) : Type 0 where
   pub slow : Config
   pub units : HasUnits config (least_units config m.budget) slow
-  pub report : IsPaceReport By_pace slow m.pace text
+  pub report : IsPaceReport slow m.pace text
 
 -- the answer with a text, if there is memory for it
 abbrev pub Offers : Result (String Global) AllocError → Ending → Result Answer PlayFault → Type 0

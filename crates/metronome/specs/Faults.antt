@@ -1,5 +1,5 @@
 -- The faults of the crates below, as faults of a run.
-use Rattle.std.specs.Prelude.{ℕ, ◌≡◌, ◌+◌, Bool, IsTrue, Result, Err}
+use Rattle.std.specs.Prelude.{ℕ, Bool, IsTrue, Result, Err}
 use Rattle.settings.specs.declared.fault.ConfigFault.{ConfigFault}
 use Rattle.documents.specs.declared.toml_table.ReadFault.{ReadFault}
 use Rattle.documents.specs.declared.toml_table.ReadFault.TheVariants as settings
@@ -34,7 +34,3 @@ failed_reads _ = 0
 abbrev pub failed_writes : {A : Type 0} → Result A RunFault → ℕ
 failed_writes (Err (Text why)) = writes_failed {A = Unit {0}} (Err why)
 failed_writes _ = 0
-
--- a run counts the failed reads of its source
-abbrev pub CountsReads : {S A : Type 0} → (S → ℕ) → S → S → Result A RunFault → Type 0
-CountsReads failures old new result = failures new ≡ failures old + failed_reads result

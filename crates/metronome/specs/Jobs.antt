@@ -13,7 +13,7 @@ use Rattle.player.specs.declared.style.Style.{Style}
 use Rattle.player.specs.declared.style.Style.TheVariants.{Entries}
 use Rattle.player.specs.New.{IsNew}
 use Rattle.player.specs.Player.{PlayerState}
-use Rattle.player.specs.Playing.{session, Played, text_written}
+use Rattle.player.specs.Playing.{session, OrHeld, IsSentUpTo, Played, text_written}
 use Rattle.metronome.specs.declared.fault.Ending.{Ending}
 use Rattle.metronome.specs.declared.fault.Ending.TheVariants.{Done}
 use Rattle.metronome.specs.declared.fault.RunFault.{RunFault}
@@ -30,12 +30,14 @@ abbrev pub ends_as : Result (Unit {0}) PlayFault → Result Ending RunFault
 ends_as (Ok all) = Ok Done
 ends_as (Err fault) = Err (Text fault)
 
--- A new player played a trace, and what the style says was written.
+-- A new player played a trace, and what the style says was written. What the sink has not sent on is of lines that were
+-- read at once.
 abbrev pub TracePlayed : Style → Config → Given → Taken → Result Ending RunFault → Type 0
 TracePlayed style config given taken result =
     NotBegun given taken result
     ⊎ ((old : PlayerState) × (new : PlayerState) × (how : Result (Unit {0}) PlayFault) × IsNew config old
-    × Played style given (session old taken.before) (session new taken.after) how × (result ≡ ends_as how))
+    × OrHeld style taken how (Played style given (session old taken.before) (session new taken.after))
+    × IsSentUpTo style given (session old taken.before) (session new taken.after) taken.sent × (result ≡ ends_as how))
 
 -- how a run ends whose scripts and budgets were all done, or not
 abbrev pub finish : Bool → Result Ending RunFault

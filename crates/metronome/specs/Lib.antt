@@ -13,6 +13,5 @@ pub mod Answered
 pub mod Texts
 pub mod Demand
 pub mod Bounds
-pub mod Loaded
 pub mod Done
 pub mod Run

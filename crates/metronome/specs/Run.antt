@@ -1,5 +1,5 @@
 -- What a run of the program does, by the request that its words give and the bytes of its files.
-use Rattle.std.specs.Prelude.{◌≡◌, ℕ, ◌<◌, ◌⊎◌, ◌||◌, IsTrue, if◌then◌else◌, List, [], ◌++◌, codes, Option, Some, None, IfSome, Result, Ok, Err}
+use Rattle.std.specs.Prelude.{◌≡◌, ℕ, ◌<◌, ◌≤◌, ◌⊎◌, ◌||◌, IsTrue, if◌then◌else◌, List, [], ◌++◌, length, codes, Option, Some, None, IfSome, Result, Ok, Err}
 use Rattle.std.specs.Borrow.{Bor}
 use Rattle.std.specs.Str.{bytes_eq}
 use Rattle.settings.specs.declared.config.Config.{Config}
@@ -7,17 +7,17 @@ use Rattle.settings.specs.declared.fault.ConfigFault.{ConfigFault}
 use Rattle.documents.specs.ConfigFile.{IsRead}
 use Rattle.command_line.specs.Words.{IsAskedForBy, AsksForHelp}
 use Rattle.command_line.specs.declared.job.Job.{Job}
-use Rattle.command_line.specs.declared.job.Job.TheVariants.{Pages}
-use Rattle.command_line.specs.declared.job.Sizing.TheVariants.{Load}
 use Rattle.command_line.specs.declared.job.Request.{Request}
 use Rattle.documents.specs.declared.toml_table.ReadFault.{ReadFault}
 use Rattle.streams.specs.Streams.{Given, Taken, Begins}
 use Rattle.metronome.specs.declared.fault.Ending.{Ending}
 use Rattle.metronome.specs.declared.fault.Ending.TheVariants.{Done}
 use Rattle.metronome.specs.declared.fault.RunFault.{RunFault}
+use Rattle.metronome.specs.declared.fault.RunFault.TheVariants.{Text}
+use Rattle.trace.specs.declared.fault.PlayFault.TheVariants.{Write}
 use Rattle.metronome.specs.Files.{KnownFile, KnownFiles, no_file}
 use Rattle.metronome.specs.Done.{JobDone}
-use Rattle.metronome.specs.Faults.{of_settings, failed_reads, IsUnreadable, IsOfWords}
+use Rattle.metronome.specs.Faults.{of_settings, failed_reads, failed_writes, IsUnreadable, IsOfWords}
 use Rattle.metronome.specs.Told.{TextWritten}
 
 -- the line that says why words are refused
@@ -28,24 +28,26 @@ words_line text = codes "metronome: " ++ (text ++ codes "\n")
 abbrev pub NothingDone : RunFault → Taken → Result Ending RunFault → Type 0
 NothingDone fault taken how = (how ≡ Err fault) × (taken.after ≡ taken.before)
 
+-- How a run ends that was done so, while its sink had sent on so much: a write had failed, and no other was tried; or the sink
+-- was flushed, and all that it took is sent on; or not all could be.
+abbrev pub Flushes : ℕ → Taken → Result Ending RunFault → Result Ending RunFault → Type 0
+Flushes sent taken done how =
+    ((0 < failed_writes done) × (how ≡ done) × (taken.sent ≡ sent))
+    ⊎ ((failed_writes done ≡ 0) × (sent ≤ taken.sent)
+    × (((how ≡ done) × (taken.sent ≡ length taken.after))
+    ⊎ ((how ≡ Err (Text Write)) × (taken.sent < length taken.after))))
+
 -- what a run was given is a beginning of these bytes, or all of them where it found their end, if they are known and no
 -- read failed
 abbrev pub IsGivenOf : Option (List ℕ) → Given → Result Ending RunFault → Type 0
 IsGivenOf bytes given how = failed_reads how ≡ 0 → IfSome bytes (λ all. Begins given.after given.ended all)
 
+-- a job was done from the beginning of this file on; where it ended in a failed read, one failed of it
+abbrev pub JobDoneOn : KnownFile → Job → Config → Taken → Result Ending RunFault → Type 0
+JobDoneOn file job config taken how = (given : Given) × (given.before ≡ []) × IsGivenOf file.bytes given how
+    × JobDone job config given taken how × (0 < failed_reads how → IsTrue file.failed)
+
 module _ (files : KnownFiles) where
-  -- what is known of the file of a job's load, if it has one
-  abbrev pub load_file : Job → KnownFile
-  load_file (Pages (Load file)) = files.named file.now
-  load_file job = no_file
-
-  -- A job was done from the beginning of this file on; where it ended in a failed read, one failed of it or of the file of
-  -- the job's load.
-  abbrev pub JobDoneOn : KnownFile → Job → Config → Taken → Result Ending RunFault → Type 0
-  JobDoneOn file job config taken how = (given : Given) × (given.before ≡ []) × IsGivenOf file.bytes given how
-      × JobDone files job config given taken how
-      × (0 < failed_reads how → IsTrue (file.failed || (load_file job).failed))
-
   -- what is known of a request's other file: of standard input, or of the file of its name; none, where it has no other
   -- file
   abbrev pub other_file : Option (Bor (List ℕ)) → KnownFile
@@ -74,3 +76,8 @@ module _ (files : KnownFiles) where
       ((request : Request) × IsAskedForBy words request × Obeyed request taken how)
       ⊎ ((AsksForHelp words × (help : List ℕ) × TextWritten Done help taken how)
       ⊎ ((fault : RunFault) × IsOfWords fault × NothingDone fault taken how))
+
+  -- A run was done, and then its sink was flushed.
+  abbrev pub RunFlushed : List (List ℕ) → Taken → Result Ending RunFault → Type 0
+  RunFlushed words taken how = (sent : ℕ) × (done : Result Ending RunFault)
+      × RunDone words (record taken { sent = sent }) done × Flushes sent taken done how

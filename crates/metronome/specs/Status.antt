@@ -15,7 +15,6 @@ ending_status endings.WrongReply = 7
 abbrev pub fault_status : RunFault → ℕ
 fault_status (faults.Words text) = 2
 fault_status (faults.Config why) = 3
-fault_status (faults.Load why) = 3
 fault_status (faults.Text (texts.Line number why)) = 4
 fault_status (faults.Text texts.Read) = 5
 fault_status (faults.Text texts.Write) = 5

@@ -52,7 +52,7 @@ fn player_after<S: Source, K: Sink>(
     after: Option<u32>,
 ) -> Result<Player, RunFault>
     ensures play { PlayerAfter after config.now (given_by S.given S.ended source.old source.new)
-        (taken_by K.taken sink.old sink.new) result }
+        (taken_by K.taken K.sent sink.old sink.new) result }
     ensures settings { IfOk result (λ player. settings_of player.course.heap ≡ settings_by config.now) }
     ensures reads { S.failures source.new ≡ S.failures source.old + failed_reads result }
     ensures input { failed_reads result ≡ 0 → Stays (S.input source.old) (S.input source.new) }
@@ -80,7 +80,7 @@ fn tell<K: Sink>(
     sink: &mut K,
 ) -> Result<Ending, RunFault>
     requires { settings_of player.now.course.heap ≡ settings_by config.now }
-    ensures told { Tells telling.entry config.now player.now (taken_by K.taken sink.old sink.new) result }
+    ensures told { Tells telling.entry config.now player.now (taken_by K.taken K.sent sink.old sink.new) result }
     ensures reads { failed_reads result ≡ 0 }
     ensures writes { K.failures sink.new ≡ K.failures sink.old + failed_writes result }
 {
@@ -109,7 +109,7 @@ pub fn after_play<S: Source, K: Sink>(
     telling: Telling,
 ) -> Result<Ending, RunFault>
     ensures done { AfterPlay (Tells telling.entry config.now) after config.now
-        (given_by S.given S.ended source.old source.new) (taken_by K.taken sink.old sink.new) result }
+        (given_by S.given S.ended source.old source.new) (taken_by K.taken K.sent sink.old sink.new) result }
     ensures reads { S.failures source.new ≡ S.failures source.old + failed_reads result }
     ensures input { failed_reads result ≡ 0 → Stays (S.input source.old) (S.input source.new) }
     ensures writes { K.failures sink.new ≡ K.failures sink.old + failed_writes result }

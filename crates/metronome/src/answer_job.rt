@@ -8,7 +8,7 @@ ghost use Rattle.metronome.specs.Answered.{EntriesTaken, verdict, told_of, Tells
 
 use crate::fault::{Ending, RunFault};
 use graph_heap::Reference;
-use inspector::pages_needed::{Scope, pace_report};
+use inspector::pages_needed::pace_report;
 use inspector::{Layout, Log, cycles_text};
 use plans::{LiveMeter, run_plans};
 use player::survey_run;
@@ -75,7 +75,7 @@ fn pace_text(alloc: Global, config: &Config, measured: &Measured) -> Result<Stri
     ensures { IfOk result (λ text. TellsPace config.now measured.now (string_bytes text)) }
 {
     let slow = measured.slowest(config);
-    pace_report(alloc, &slow, &measured.pace, Scope::Pace)
+    pace_report(alloc, &slow, &measured.pace)
 }
 
 /// The answer with a text, if there was memory for it.
@@ -125,7 +125,7 @@ fn answer_to<S: Source>(
 /// Writes an answer.
 fn write_answer<K: Sink>(answer: &Answer, sink: &mut K) -> Result<Ending, RunFault>
     ensures written { TextWritten answer.now.ending (string_bytes answer.now.text)
-        (taken_by K.taken sink.old sink.new) result }
+        (taken_by K.taken K.sent sink.old sink.new) result }
     ensures reads { failed_reads result ≡ 0 }
     ensures writes { K.failures sink.new ≡ K.failures sink.old + failed_writes result }
 {
@@ -142,7 +142,7 @@ pub fn answer_job<S: Source, K: Sink>(
     question: Question,
 ) -> Result<Ending, RunFault>
     ensures done { Answered question config.now (given_by S.given S.ended source.old source.new)
-        (taken_by K.taken sink.old sink.new) result }
+        (taken_by K.taken K.sent sink.old sink.new) result }
     ensures reads { S.failures source.new ≡ S.failures source.old + failed_reads result }
     ensures input { failed_reads result ≡ 0 → Stays (S.input source.old) (S.input source.new) }
     ensures writes { K.failures sink.new ≡ K.failures sink.old + failed_writes result }

@@ -21,7 +21,7 @@ fn tell_needed<K: Sink>(
     text: &[u8],
     sink: &mut K,
 ) -> Result<Ending, RunFault>
-    ensures told { NeededTold config.now text.now (taken_by K.taken sink.old sink.new) result }
+    ensures told { NeededTold config.now text.now (taken_by K.taken K.sent sink.old sink.new) result }
     ensures reads { failed_reads result ≡ 0 }
     ensures writes { K.failures sink.new ≡ K.failures sink.old + failed_writes result }
 {
@@ -39,7 +39,7 @@ pub fn demand_job<S: Source, K: Sink>(
     sink: &mut K,
 ) -> Result<Ending, RunFault>
     ensures done { DemandTold config.now (given_by S.given S.ended source.old source.new)
-        (taken_by K.taken sink.old sink.new) result }
+        (taken_by K.taken K.sent sink.old sink.new) result }
     ensures reads { S.failures source.new ≡ S.failures source.old + failed_reads result }
     ensures input { failed_reads result ≡ 0 → Stays (S.input source.old) (S.input source.new) }
     ensures writes { K.failures sink.new ≡ K.failures sink.old + failed_writes result }

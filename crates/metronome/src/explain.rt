@@ -8,7 +8,6 @@ mod document;
 mod example;
 mod fields;
 mod lines;
-mod load;
 mod odd_bytes;
 mod part;
 mod quoted;
@@ -22,7 +21,6 @@ use command_line::{Request, read_words};
 use config::tell_config;
 use document::{read_refused, tell_not_toml, tell_too_long};
 use lines::explain_line;
-use load::explain_load;
 use reply::explain_reply;
 use settings::ConfigFault;
 use silence::Silence;
@@ -75,7 +73,6 @@ fn explain_request<O: Opener, E: Write>(
                 *fault,
             )
         }
-        Err(RunFault::Load(fault)) => explain_load(alloc, request, opener, errors, *fault),
         Err(RunFault::Text(PlayFault::Line(number, fault))) => {
             explain_line(alloc, request, opener, errors, *number, *fault)
         }

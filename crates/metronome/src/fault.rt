@@ -8,7 +8,6 @@ ghost use Rattle.metronome.specs.Status.{ending_status, fault_status};
 use documents::ReadFault;
 use graph_heap::NoMemory;
 use settings::ConfigFault;
-use sizing::DocumentFault;
 use streams::WriteFailed;
 use thiserror::Error;
 use trace::PlayFault;
@@ -43,9 +42,6 @@ pub enum RunFault {
     /// The configuration is refused.
     #[error("config: {0}")]
     Config(ConfigFault),
-    /// The load is refused.
-    #[error("load: {0}")]
-    Load(DocumentFault),
     /// A line is wrong; a file can't be opened, or a read failed; a write failed; or memory was refused.
     #[error("{0}")]
     Text(PlayFault),
@@ -61,7 +57,7 @@ impl RunFault {
     {
         match self {
             RunFault::Words(_) => 2,
-            RunFault::Config(_) | RunFault::Load(_) => 3,
+            RunFault::Config(_) => 3,
             RunFault::Text(PlayFault::Line(..)) => 4,
             RunFault::Text(PlayFault::Read | PlayFault::Write) => 5,
             RunFault::Text(PlayFault::NoMemory) => 6,

@@ -11,7 +11,7 @@ use std::io::{self, Input, Read};
 use streams::{ReadSource, Source};
 use trace::PlayFault;
 
-/// The most bytes of a configuration or a load that are read: one more than it may have.
+/// The most bytes of a configuration that are read: one more than it may have.
 pub const DOCUMENT_BYTES: usize = 65537;
 
 /// How many bytes of a source are asked for at a time.
@@ -143,7 +143,7 @@ pub fn read_bytes<S: Source>(
     }
 }
 
-/// The bytes of a configuration or a load.
+/// The bytes of a configuration.
 pub fn read_document<O: Opener>(alloc: Global, opener: &O, name: &str) -> Result<Vec<u8>, RunFault>
     ensures bytes { IfOk result (λ bytes. IfSome ((O.known opener.now).named name.now).bytes
         (λ all. bytes.items ≡ document_bytes all)) }

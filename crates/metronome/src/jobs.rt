@@ -1,5 +1,5 @@
 //! What each subcommand does, from a source to a sink. Each ends in a failed read or write exactly where one failed.
-ghost use Rattle.std.specs.Prelude.{◌≡◌, ◌+◌, ◌≤◌, ◌++◌, length, map, replicate, IfOk, OnOk, OnErr};
+ghost use Rattle.std.specs.Prelude.{◌≡◌, ◌+◌, ◌≤◌, ◌++◌, map, replicate, vec_len, IfOk, OnOk, OnErr};
 ghost use Rattle.heap_model.specs.Settings.{settings_by};
 ghost use Rattle.streams.specs.Streams.{failed, GrowsByPart, given_by, taken_by, Stays};
 ghost use Rattle.player.specs.declared.style.Style.TheVariants.{Entries};
@@ -29,7 +29,7 @@ pub fn play_job<S: Source, K: Sink>(
     style: Style,
 ) -> Result<Ending, RunFault>
     ensures done { TracePlayed style config.now (given_by S.given S.ended source.old source.new)
-        (taken_by K.taken sink.old sink.new) result }
+        (taken_by K.taken K.sent sink.old sink.new) result }
     ensures reads { S.failures source.new ≡ S.failures source.old + failed_reads result }
     ensures input { failed_reads result ≡ 0 → Stays (S.input source.old) (S.input source.new) }
     ensures writes { K.failures sink.new ≡ K.failures sink.old + failed_writes result }
@@ -55,16 +55,16 @@ fn run_scripts<T: Threads + Wait + Sync>(
     rt: &T,
     alloc: Global,
     config: &Config,
-    scripts: &[Vec<Command>],
+    scripts: Vec<Vec<Command>>,
     turns: u32,
     budget: u32,
 ) -> Result<Outcome, NoMemory>
-    requires { length scripts.now ≤ config.now.mutators }
-    ensures { IfOk result (IsOutcome (settings_by config.now) (map (λ s. s.items) scripts.now)
+    requires { vec_len scripts ≤ config.now.mutators }
+    ensures { IfOk result (IsOutcome (settings_by config.now) (map (λ s. s.items) scripts.items)
         (replicate turns budget)) }
 {
     let budgets = budgets_of(alloc, turns, budget)?;
-    play_threads(rt, alloc, config, scripts, budgets.as_slice(), &OpenGate)
+    play_threads(rt, alloc, config, scripts, budgets, &OpenGate)
 }
 
 /// Runs scripts on threads beside this many quanta of a budget, and writes the history.
@@ -78,13 +78,13 @@ pub fn threads_job<S: Source, K: Sink, T: Threads + Wait + Sync>(
     budget: u32,
 ) -> Result<Ending, RunFault>
     ensures done { ScriptsRun turns budget config.now (given_by S.given S.ended source.old source.new)
-        (taken_by K.taken sink.old sink.new) result }
+        (taken_by K.taken K.sent sink.old sink.new) result }
     ensures reads { S.failures source.new ≡ S.failures source.old + failed_reads result }
     ensures input { failed_reads result ≡ 0 → Stays (S.input source.old) (S.input source.new) }
     ensures writes { K.failures sink.new ≡ K.failures sink.old + failed_writes result }
 {
     let (version, scripts) = read_scripts(alloc, source, &config.limits())?;
-    let outcome = run_scripts(rt, alloc, config, scripts.as_slice(), turns, budget)?;
+    let outcome = run_scripts(rt, alloc, config, scripts, turns, budget)?;
     write_history(sink, version, outcome.recorded.history())?;
     finished(outcome.all)
 }

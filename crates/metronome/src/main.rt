@@ -8,7 +8,6 @@ mod explain;
 mod fault;
 mod files;
 mod jobs;
-mod load_job;
 mod measuring;
 mod plan_job;
 mod progress;
@@ -24,7 +23,7 @@ use run::{run, tell};
 use std::env;
 use std::io::{self, ErrorKind};
 use std::process::ExitCode;
-use streams::WriteSink;
+use streams::{BufferedSink, WriteSink};
 
 /// The words of the command line; the first is the program's name.
 fn words_of(rt: &HostRuntime) -> Result<Vec<String>, RunFault> {
@@ -45,7 +44,7 @@ fn main(rt: HostRuntime) -> ExitCode {
             rt.alloc(),
             words.as_slice(),
             &HostFiles { host: &rt },
-            &mut WriteSink::new(io::writer(&rt)),
+            &mut BufferedSink::new(WriteSink::new(io::writer(&rt))),
             &mut rt.stderr(),
         ),
         Err(fault) => {

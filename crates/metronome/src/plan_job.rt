@@ -51,7 +51,7 @@ fn draw_plans<K: Sink>(
     sink: &mut K,
 ) -> Result<Ending, RunFault>
     ensures told { ReportTold (IsPlansPicture (option_map (λ said. said.items) classes.now) config.now live)
-        (taken_by K.taken sink.old sink.new) result }
+        (taken_by K.taken K.sent sink.old sink.new) result }
     ensures reads { failed_reads result ≡ 0 }
     ensures writes { K.failures sink.new ≡ K.failures sink.old + failed_writes result }
 {
@@ -70,7 +70,7 @@ pub fn plan_job<K: Sink>(
     sink: &mut K,
 ) -> Result<Ending, RunFault>
     ensures told { ReportTold (TellsPlans draw (option_map (λ said. said.items) classes.now) config.now live)
-        (taken_by K.taken sink.old sink.new) result }
+        (taken_by K.taken K.sent sink.old sink.new) result }
     ensures reads { failed_reads result ≡ 0 }
     ensures writes { K.failures sink.new ≡ K.failures sink.old + failed_writes result }
 {

@@ -5,9 +5,9 @@ ghost use Rattle.metronome.specs.declared.fault.Ending.{Ending};
 ghost use Rattle.metronome.specs.declared.fault.RunFault.{RunFault};
 ghost use Rattle.streams.specs.Streams.{given_by, taken_by, Stays};
 ghost use Rattle.command_line.specs.declared.job.Job.TheVariants as jobs;
-ghost use Rattle.metronome.specs.Done.{JobDone, JobCountsReads, style_of, layout_of};
+ghost use Rattle.metronome.specs.Done.{JobDone, style_of, layout_of};
 ghost use Rattle.metronome.specs.Faults.{failed_reads, failed_writes};
-ghost use Rattle.metronome.specs.Run.{IsGivenOf, Obeyed, RunDone, words_line};
+ghost use Rattle.metronome.specs.Run.{IsGivenOf, Obeyed, RunDone, RunFlushed, Flushes, words_line};
 ghost use Rattle.metronome.specs.Status.{status_of};
 
 use crate::after::{Telling, after_play};
@@ -17,7 +17,6 @@ use crate::explain::explain;
 use crate::fault::{Ending, RunFault};
 use crate::files::{Opener, open_file, read_document};
 use crate::jobs::{play_job, threads_job};
-use crate::load_job::load_job;
 use crate::plan_job::plan_job;
 use crate::progress::ToldSource;
 use crate::time_job::time_job;
@@ -42,8 +41,8 @@ struct Host<'a, O: Opener, T: Threads + Wait + Sync> {
     opener: &'a O,
 }
 
-/// Runs the program: does what the words ask for, after the first, which is the program's name, writes the fault
-/// to the error stream if there is one, and answers the exit status. A failed write to the error stream changes
+/// Runs the program: does what the words ask for, after the first, which is the program's name, has the sink send on what
+/// waits in it, writes the fault to the error stream if there is one, and answers the exit status. A failed write to the error stream changes
 /// no status, nor does what is told there beside the fault, where the words ask for that.
 pub fn run<S, O, K, E, T>(
     rt: &T,
@@ -60,16 +59,31 @@ where
     E: Write,
     T: Threads + Wait + Sync,
     ensures { (how : Result Ending RunFault) × (result ≡ status_of how)
-        × RunDone (O.known opener.now) (map S.text words.now) (taken_by K.taken sink.old sink.new) how
+        × RunFlushed (O.known opener.now) (map S.text words.now) (taken_by K.taken K.sent sink.old sink.new) how
         × (K.failures sink.new ≡ K.failures sink.old + failed_writes how) }
 {
     let host = Host { rt, alloc, opener };
-    let how = perform(&host, words, sink, errors);
+    let how = flushed(perform(&host, words, sink, errors), sink);
     if let Err(fault) = &how {
         tell(errors, fault);
     }
     explain(alloc, words, opener, errors, &how);
     status_of(&how)
+}
+
+/// How a run ends once all that waits in its sink is sent on. After a failed write nothing is tried any more.
+fn flushed<K: Sink>(how: Result<Ending, RunFault>, sink: &mut K) -> Result<Ending, RunFault>
+    ensures taken { K.taken sink.new ≡ K.taken sink.old }
+    ensures ends { Flushes (K.sent sink.old) (taken_by K.taken K.sent sink.old sink.new) how result }
+    ensures writes { K.failures sink.new + failed_writes how ≡ K.failures sink.old + failed_writes result }
+{
+    if let Err(RunFault::Text(PlayFault::Write)) = how {
+        return how;
+    }
+    match sink.flush() {
+        Ok(()) => how,
+        Err(_) => Err(RunFault::Text(PlayFault::Write)),
+    }
 }
 
 /// The exit status of a run.
@@ -105,7 +119,7 @@ fn perform<S: AsStr, O: Opener, K: Sink, E: Write, T: Threads + Wait + Sync>(
     errors: &mut E,
 ) -> Result<Ending, RunFault>
     ensures done { RunDone (O.known host.now.opener.now) (map S.text words.now)
-        (taken_by K.taken sink.old sink.new) result }
+        (taken_by K.taken K.sent sink.old sink.new) result }
     ensures writes { K.failures sink.new ≡ K.failures sink.old + failed_writes result }
 {
     let request = match read_words(host.alloc, words) {
@@ -128,7 +142,7 @@ fn obey<O: Opener, K: Sink, E: Write, T: Threads + Wait + Sync>(
     errors: &mut E,
 ) -> Result<Ending, RunFault>
     ensures done { Obeyed (O.known host.now.opener.now) request.now
-        (taken_by K.taken sink.old sink.new) result }
+        (taken_by K.taken K.sent sink.old sink.new) result }
     ensures writes { K.failures sink.new ≡ K.failures sink.old + failed_writes result }
 {
     let bytes = read_document(host.alloc, host.opener, request.config)?;
@@ -156,8 +170,9 @@ fn serve<S: Source + Drop, K: Sink, E: Write, O: Opener, T: Threads + Wait + Syn
     errors: &mut E,
 ) -> Result<Ending, RunFault>
     requires { S.given source ≡ [] }
-    ensures done { (after : S) × JobDone (O.known host.now.opener.now) request.now.job config.now (given_by S.given S.ended source after)
-        (taken_by K.taken sink.old sink.new) result × JobCountsReads (O.known host.now.opener.now) request.now.job S.failures source after result
+    ensures done { (after : S)
+        × JobDone request.now.job config.now (given_by S.given S.ended source after) (taken_by K.taken K.sent sink.old sink.new) result
+        × (S.failures after ≡ S.failures source + failed_reads result)
         × IsGivenOf (S.input source) (given_by S.given S.ended source after) result }
     ensures writes { K.failures sink.new ≡ K.failures sink.old + failed_writes result }
 {
@@ -178,9 +193,9 @@ fn work<S: Source, K: Sink, O: Opener, T: Threads + Wait + Sync>(
     source: &mut S,
     sink: &mut K,
 ) -> Result<Ending, RunFault>
-    ensures done { JobDone (O.known host.now.opener.now) job.now config.now
-        (given_by S.given S.ended source.old source.new) (taken_by K.taken sink.old sink.new) result }
-    ensures reads { JobCountsReads (O.known host.now.opener.now) job.now S.failures source.old source.new result }
+    ensures done { JobDone job.now config.now (given_by S.given S.ended source.old source.new)
+        (taken_by K.taken K.sent sink.old sink.new) result }
+    ensures reads { S.failures source.new ≡ S.failures source.old + failed_reads result }
     ensures input { failed_reads result ≡ 0 → Stays (S.input source.old) (S.input source.new) }
     ensures writes { K.failures sink.new ≡ K.failures sink.old + failed_writes result }
 {
@@ -213,7 +228,7 @@ fn work<S: Source, K: Sink, O: Opener, T: Threads + Wait + Sync>(
             after_play(alloc, config, source, sink, *after, Telling::Graph(*most))
         }
         Job::DrawTime => time_job(alloc, config, source, sink),
-        Job::Pages { by } => pages_job(host, config, source, sink, *by),
+        Job::Pages { by } => pages_job(alloc, config, source, sink, *by),
         Job::Plan {
             live,
             classes,
@@ -241,24 +256,22 @@ fn layout_of(csv: bool) -> Layout
 }
 
 /// Tells how many pages suffice for a trace.
-fn pages_job<S: Source, K: Sink, O: Opener, T: Threads + Wait + Sync>(
-    host: &Host<O, T>,
+fn pages_job<S: Source, K: Sink>(
+    alloc: Global,
     config: &Config,
     source: &mut S,
     sink: &mut K,
     by: Sizing,
 ) -> Result<Ending, RunFault>
-    ensures done { JobDone (O.known host.now.opener.now) (jobs.Pages by.entry) config.now
-        (given_by S.given S.ended source.old source.new) (taken_by K.taken sink.old sink.new) result }
-    ensures reads { JobCountsReads (O.known host.now.opener.now) (jobs.Pages by.entry) S.failures source.old source.new result }
+    ensures done { JobDone (jobs.Pages by) config.now (given_by S.given S.ended source.old source.new)
+        (taken_by K.taken K.sent sink.old sink.new) result }
+    ensures reads { S.failures source.new ≡ S.failures source.old + failed_reads result }
     ensures input { failed_reads result ≡ 0 → Stays (S.input source.old) (S.input source.new) }
     ensures writes { K.failures sink.new ≡ K.failures sink.old + failed_writes result }
 {
-    let alloc = host.alloc;
     match by {
         Sizing::Demand => demand_job(alloc, config, source, sink),
         Sizing::Pace => answer_job(alloc, config, source, sink, Question::Pace),
-        Sizing::Load(file) => load_job(alloc, config, source, sink, host.opener, file),
         Sizing::Plan => answer_job(alloc, config, source, sink, Question::Plan),
     }
 }

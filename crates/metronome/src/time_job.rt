@@ -32,7 +32,7 @@ pub fn time_job<S: Source, K: Sink>(
     sink: &mut K,
 ) -> Result<Ending, RunFault>
     ensures done { TimeDrawn config.now (given_by S.given S.ended source.old source.new)
-        (taken_by K.taken sink.old sink.new) result }
+        (taken_by K.taken K.sent sink.old sink.new) result }
     ensures reads { S.failures source.new ≡ S.failures source.old + failed_reads result }
     ensures input { failed_reads result ≡ 0 → Stays (S.input source.old) (S.input source.new) }
     ensures writes { K.failures sink.new ≡ K.failures sink.old + failed_writes result }

@@ -29,7 +29,7 @@ pub fn tell_text<E: Drop, K: Sink>(
     text: Result<String, E>,
     sink: &mut K,
 ) -> Result<Ending, RunFault>
-    ensures told { MadeTextTold text (taken_by K.taken sink.old sink.new) result }
+    ensures told { MadeTextTold text (taken_by K.taken K.sent sink.old sink.new) result }
     ensures reads { failed_reads result ≡ 0 }
     ensures writes { K.failures sink.new ≡ K.failures sink.old + failed_writes result }
 {

@@ -113,13 +113,13 @@ learns_none check None was other n why some none is told = absurd (subst IsTruth
 learns_none check (Some s) was None n why some none is told = (refl, refl, told ∙ ap status_number is)
 learns_none check (Some s) was (Some o) n why some none is told = absurd (subst IsTruth none tt)
 
-pub learns_one : (check after : ℕ) (old new : Option MemberView) (was later : ℕ) (other gone : Option MemberView) (s k o : MemberView) (n : ℕ)
-    → old ≡ Some s → new ≡ Some k → other ≡ Some o → gone ≡ None → later ≡ 0 → Learns s o k → n ≡ status_number Done
+pub learns_one : (check after : ℕ) (old new : Option MemberView) (was later : ℕ) (other gone : Option MemberView) (s k o out : MemberView) (had : Bool) (n : ℕ)
+    → old ≡ Some s → new ≡ Some k → other ≡ Some o → gone ≡ None → later ≡ 0 → Leaves o had out → Learns s out k → n ≡ status_number Done
     → LearnsSeat (held_by check old) (held_by was other) (held_by after new) (held_by later gone) n
-learns_one check after old new was later other gone s k o n is left theirs none zero met told =
+learns_one check after old new was later other gone s k o out had n is left theirs none zero leaves met told =
     subst (λ (x : Option MemberView). LearnsSeat (held_by check x) (held_by was other) (held_by after new) (held_by later gone) n) (sym is)
     (subst (λ (x : Option MemberView). LearnsSeat (Ok s) (held_by was x) (held_by after new) (held_by later gone) n) (sym theirs)
-    (k, met, ap (held_by after) left, ap (held_by later) none ∙ ap (λ (c : ℕ). Err (absence (c == 0))) zero, told))
+    (had, out, k, leaves, met, ap (held_by after) left, ap (held_by later) none ∙ ap (λ (c : ℕ). Err (absence (c == 0))) zero, told))
 
 -- who was asked to leave hasn't the turn
 pub left_out : (old : Result MemberView Status) (had : Result Bool Status) (new : Result MemberView Status) → Asks Leaves old had new → IfOk new (λ s. s.turn ≡ None)

@@ -87,15 +87,16 @@ abbrev pub ShapesSeat : Result MemberView Status → ℕ → Command → Result 
 ShapesSeat old m c new before told =
     DoesSeat old m c new (λ outcome. (told.0 ≡ answered outcome) × (told.1 ≡ shape_told before outcome))
 
--- A seat at a new heap of these settings, which keeps so many of its last entries: it calls for all mutators, nothing was
--- done yet, and it hasn't the turn.
+-- A seat at a new heap of these settings, which keeps so many of its last entries: it calls for all mutators, has all
+-- numbers, has seen an empty log, which is all that was done, as no one else has a number; and it hasn't the turn.
 pub record IsNewSeat (ring : ℕ) (s : Settings) (m : MemberView) : Type 0 where
   pub config : Config
   pub of : IsOf s config
   pub settings : (m.settings ≡ settings_by config) × (m.ring ≡ ring)
   pub mutators : (m.from ≡ 0) × (m.to ≡ config.mutators)
+  pub numbers : (m.number ≡ 0) × (m.step ≡ 1)
   pub seen : (m.seen ≡ []) × (m.learnt ≡ [])
-  pub turn : m.turn ≡ None
+  pub turn : (m.turn ≡ None) × (m.did ≡ [])
 
 -- what a closed handle holds after one more seat was asked for: that seat, or nothing
 abbrev pub made_of : Result MemberView Status → Result MemberView Status
@@ -124,7 +125,8 @@ AddsSeat old (Err why) from new after status =
 abbrev pub LearnsSeat : Result MemberView Status → Result MemberView Status → Result MemberView Status
     → Result MemberView Status → ℕ → Type 0
 LearnsSeat (Ok s) (Ok other) new after status =
-    (k : MemberView) × Learns s other k × (new ≡ Ok k) × (after ≡ Err Closed) × (status ≡ status_number Done)
+    (had : Bool) × (left : MemberView) × (k : MemberView) × Leaves other had left × Learns s left k × (new ≡ Ok k)
+    × (after ≡ Err Closed) × (status ≡ status_number Done)
 LearnsSeat (Ok s) (Err why) new after status = (new ≡ Ok s) × (after ≡ Err why) × (status ≡ status_number why)
 LearnsSeat (Err why) was new after status = (new ≡ Err why) × (after ≡ was) × (status ≡ status_number why)
 

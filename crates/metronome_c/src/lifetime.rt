@@ -11,7 +11,7 @@ use crate::metronome::Metronome;
 use crate::status::Status;
 use crate::text::VERSION;
 use machine::Heap;
-use settings::{Config, Ranges, Settings};
+use settings::{Config, Settings};
 
 /// Makes a heap of these settings, where the handle is closed and the program was built for this version. Of a program
 /// for another one nothing is read but that version.
@@ -40,7 +40,7 @@ fn create(heap: &mut Metronome, settings: &Settings) -> u32
     if !heap.is_closed() {
         return Status::BadHandle.number();
     }
-    let config = match Config::check(Ranges::Library, settings) {
+    let config = match Config::check_for_library(settings) {
         Ok(config) => config,
         Err(fault) => return Status::of_fault(fault).number(),
     };

@@ -3,7 +3,7 @@ ghost use Rattle.std.specs.Prelude.{◌≡◌};
 ghost use Rattle.metronome_c.specs.Limit.{limit_of, TellsLimit};
 
 use crate::status::Status;
-use settings::{Config, LEAST_BUDGET, Ranges, Settings};
+use settings::{Config, LEAST_BUDGET, Settings};
 
 /// The units that a cycle takes at most, and the quanta of the schedule.
 #[repr(C)]
@@ -32,7 +32,7 @@ impl CycleLimit {
 pub extern "C" fn metronome_cycle_limit(settings: &Settings, limit: &mut CycleLimit) -> u32
     ensures { TellsLimit settings.now limit.old limit.new result }
 {
-    match Config::check(Ranges::Library, settings) {
+    match Config::check_for_library(settings) {
         Ok(config) => {
             *limit = CycleLimit::from_config(&config);
             Status::Done.number()

@@ -10,7 +10,7 @@ ghost use Rattle.bulk.specs.Lists.{gets};
 ghost use Rattle.paced.specs.Pacing.{shape_words};
 ghost use Rattle.metronome_c.specs.Held.{is_kept};
 ghost use Rattle.graph_heap.specs.declared.command.Command.TheVariants as commands;
-ghost use Rattle.metronome_c.specs.Steps.{Makes};
+ghost use Rattle.metronome_c.specs.Steps.{Makes, Steps};
 ghost use Rattle.metronome_c.specs.Asking.{Asks, AsksHeap, AsksPaying, AsksTold, AsksToldWithShape};
 
 use crate::answer::{Answer, MetronomeShape};
@@ -171,6 +171,19 @@ impl Metronome {
         Answer::from_outcome(self.ask_paying(shape, |inner| inner.make(mutator, dst, shape)))
     }
 
+    /// Makes an object of a shape in the heap, if there is one, and nothing is paid for. It is no closure's call, so that it is
+    /// written into each function that makes objects of one kind.
+    #[inline(always)]
+    fn make_unpaid(&mut self, mutator: u32, dst: u32, shape: Shape) -> Answer
+        ensures { Steps (held_in self.old) mutator (commands.New dst shape) (held_in self.new) result }
+    {
+        if !self.is_open() {
+            return Answer::from_outcome(Err(self.why_empty()));
+        }
+        let reply = self.handle.lend().heap.make(mutator, dst, shape);
+        Answer::from_outcome(Ok(reply))
+    }
+
     /// Makes an object of a shape in the heap, if there is one: once its words were paid for, where a plan is kept.
     #[inline(always)]
     pub(crate) fn make(&mut self, mutator: u32, dst: u32, shape: Shape) -> Answer
@@ -179,7 +192,7 @@ impl Metronome {
         if self.keeps_plan() {
             return self.make_kept(mutator, dst, shape);
         }
-        self.answer(|inner| inner.make(mutator, dst, shape))
+        self.make_unpaid(mutator, dst, shape)
     }
 
     /// Asks the heap for a reply, if there is one, and tells it.

@@ -1,9 +1,10 @@
 -- Actions one after the other, of the fields of a heap.
 use Rattle.std.proofs.Common.{◌≡◌, ℕ, zero, suc, ◌+◌, ◌<◌, ◌≤◌, ◌^◌, false, [], length, ap, ◌∙◌, sym, subst, arith}
-use Rattle.heap_model.specs.Action.{Action, Chain, Nothing_done, Then, goes_to}
+use Rattle.heap_model.specs.Action.{Action, Relinks, Chain, Nothing_done, Then, goes_to}
 use Rattle.heap_model.specs.declared.phase.Phase.{Phase}
 use Rattle.heap_model.specs.Settings.{HeapSettings}
 use Rattle.heap_model.specs.State.{HeapState}
+use Rattle.heap_model.specs.Store.{Store}
 use Rattle.heap_model.specs.Written.{records}
 use Rattle.heap_model.proofs.Bound.{chain_limit}
 use Rattle.heap_model.proofs.Grey.Few.{rests_empty}
@@ -16,9 +17,13 @@ use Rattle.nodes.specs.Grey.{AreLinked}
 use Rattle.nodes.specs.HeapFields.{state_of, AreHeapFields}
 use Rattle.nodes.proofs.Representing.{still}
 
+-- one action, after blocks were threaded anew
+pub relinked_action : (h after : HeapState) (s : Store) (cost : ℕ) → Relinks h.store s → Action (record h { store = s }) cost after → Chain h cost after
+relinked_action h after s cost links action = subst (λ n. Chain h n after) (let e : 0 + cost ≡ cost = omega arith in e) (Then 0 cost h after s Nothing_done links action)
+
 -- one action
 pub one_action : (h after : HeapState) (cost : ℕ) → Action h cost after → Chain h cost after
-one_action h after cost action = subst (λ n. Chain h n after) (let e : 0 + cost ≡ cost = omega arith in e) (Then 0 cost h after h.store Nothing_done still action)
+one_action h after cost action = relinked_action h after h.store cost still action
 
 -- another action
 pub then_action : (h j after : HeapState) (u cost : ℕ) → Chain h u j → Action j cost after → Chain h (u + cost) after

@@ -1,17 +1,17 @@
 -- The links of allocated blocks: where one is read or written, and where another word of a block is.
-use Rattle.std.proofs.Common.{◌≡◌, ◌≢◌, ℕ, ◌+◌, ◌<◌, ◌≤◌, true, List, Option, length, set, get_or, ap, ◌∙◌, sym, subst, arith, refl, length-set, inl, inr}
+use Rattle.std.proofs.Common.{◌≡◌, ◌≢◌, ℕ, ◌+◌, ◌<◌, ◌≤◌, true, false, List, Option, length, set, get_or, ap, ◌∙◌, sym, subst, arith, refl, length-set, inl, inr}
 use Rattle.std.proofs.lemmas.Bool.{cases_eq}
 use Rattle.std.proofs.lemmas.List.{get_or-set_same, get_or-set_other}
 use Rattle.heap_model.specs.Action.{KeepsBlocks}
-use Rattle.heap_model.specs.Pages.{Page}
 use Rattle.heap_model.specs.Store.{Store, IsStore, size_at, is_allocated, record_of}
+use Rattle.heap_model.proofs.State.{allocated_pages}
 use Rattle.headers.proofs.Written.{link_written}
 use Rattle.pages.specs.declared.page.PageRow.{PageRow}
-use Rattle.pages.specs.Together.{joined, pages_in}
+use Rattle.pages.specs.Together.{joined}
 use Rattle.pages.proofs.Writing.{WritesBlock}
 use Rattle.size_classes.specs.Sizes.{size_of}
 use Rattle.nodes.specs.Joined.{IsHeader, AreBlockRecords}
-use Rattle.nodes.specs.Links.{KeepsLinks}
+use Rattle.nodes.specs.Links.{KeepsLinks, LeavesLinks}
 use Rattle.nodes.proofs.Joining.{AllocatedBlock, still_nodes, through}
 use Rattle.nodes.proofs.Places.{allocated_place, apart}
 use Rattle.nodes.proofs.Writing.{in_words, four, header_inside, others_stay, cell_within, allocated_here, block, later}
@@ -27,10 +27,11 @@ module _ (s : Store) (whole : IsStore s) (a : ℕ) (allocated : is_allocated s a
     ]
   ]
 
-  pub keeps_links : (pages : List (Option Page)) (k v : ℕ) → k < size_at s a → k ≢ 3 → KeepsLinks s (record { pages = pages; words = set s.words (a + k) v })
-  keeps_links pages k v l ne = record {
+  pub keeps_links : (k v : ℕ) → k < size_at s a → k ≢ 3 → KeepsLinks s (record s { words = set s.words (a + k) v })
+  keeps_links k v l ne = record {
     len = omega (arith, length-set s.words (a + k) v);
     each = λ b other. get_or-set_other s.words (a + k) (b + 3) v 0 (no_link k l ne b other);
+    fresh = λ b was now. absurd (let z : true ≡ false = sym now ∙ allocated_pages s (record s { words = set s.words (a + k) v }) b refl ∙ was in cc);
   }
 
   -- its link is written
@@ -53,10 +54,10 @@ module _ (s t : Store) (is : s ≡ t) (whole : IsStore s) (a : ℕ) (allocated :
   allocated' : is_allocated s a ≡ true
   allocated' = subst (λ (x : Store). is_allocated x a ≡ true) (sym is) allocated
 
-  pub links_by : (pages : List (Option Page)) (k v : ℕ) (words : List ℕ) → k < size_at s a → k ≢ 3 → words ≡ set s.words (a + k) v → KeepsLinks t (record { pages = pages; words = words })
-  links_by pages k v words l ne e =
-      subst (λ (x : Store). KeepsLinks x (record { pages = pages; words = words })) is
-      (subst (λ w. KeepsLinks s (record { pages = pages; words = w })) (sym e) (keeps_links s whole a allocated' pages k v l ne))
+  pub links_by : (k v : ℕ) (words : List ℕ) → k < size_at s a → k ≢ 3 → words ≡ set s.words (a + k) v → KeepsLinks t (record s { words = words })
+  links_by k v words l ne e =
+      subst (λ (x : Store). KeepsLinks x (record s { words = words })) is
+      (subst (λ w. KeepsLinks s (record s { words = w })) (sym e) (keeps_links s whole a allocated' k v l ne))
 
   pub blocks_by : (v : ℕ) (words : List ℕ) → words ≡ set s.words (a + 3) v → KeepsBlocks t (record { pages = s.pages; words = words })
   blocks_by v words e =
@@ -80,12 +81,15 @@ module _ (rows : List (Option PageRow)) (words : List ℕ) (t : Store) (is : joi
   big = four (joined rows words) are.whole a was_allocated
 
   pub recoloured_links : (v : ℕ) → new ≡ set words (a + 1) v → KeepsLinks t (joined rows new)
-  recoloured_links v e = links_by (joined rows words) t is are.whole a allocated (pages_in rows new) 1 v new (omega (arith, big)) (λ z. absurd (omega arith)) e
+  recoloured_links v e =
+      through rows words new are.together a here (later rows words t is are a allocated new 1 v (omega arith) (omega (arith, big)) e) (λ x. KeepsLinks t x)
+      (links_by (joined rows words) t is are.whole a allocated 1 v new (omega (arith, big)) (λ z. absurd (omega arith)) e)
 
   pub rewritten_links : (i v : ℕ) → i < length (record_of t a).cells → new ≡ set words (a + (4 + i)) v → KeepsLinks t (joined rows new)
   rewritten_links i v within e =
       let l = cell_within (joined rows words) are.whole a was_allocated i (subst (λ (x : Store). i < length (record_of x a).cells) (sym is) within) in
-      links_by (joined rows words) t is are.whole a allocated (pages_in rows new) (4 + i) v new l (λ z. absurd (omega arith)) e
+      through rows words new are.together a here (later rows words t is are a allocated new (4 + i) v (omega arith) l e) (λ x. KeepsLinks t x)
+      (links_by (joined rows words) t is are.whole a allocated (4 + i) v new l (λ z. absurd (omega arith)) e)
 
   module _ (v : ℕ) (e : new ≡ set words (a + 3) v) where
     link_write : WritesBlock words new a (size_of here.row.class)
@@ -109,3 +113,7 @@ module _ (rows : List (Option PageRow)) (words : List ℕ) (t : Store) (is : joi
           through rows words new are.together a here link_write (λ x. KeepsBlocks t x)
           (blocks_by (joined rows words) t is are.whole a allocated v new e);
     }
+
+-- the records of pages were written, and no word: the same blocks are allocated, with the links that they had
+pub left_links : (rows : List (Option PageRow)) (words : List ℕ) (t : Store) → joined rows words ≡ t → (new : Store) → new.words ≡ words → KeepsBlocks t new → LeavesLinks t new
+left_links rows words t is new same kept b now = (sym (kept.allocated b) ∙ now, ap (λ w. get_or w (b + 3) 0) (same ∙ ap (λ (x : Store). x.words) is))

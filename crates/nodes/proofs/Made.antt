@@ -1,5 +1,6 @@
 -- A part made, as the code knows it: of the value t as which the fields s are seen.
-use Rattle.std.proofs.Common.{◌≡◌, ◌≢◌, ℕ, ◌+◌, ◌*◌, ◌/◌, ◌<◌, ◌≤◌, true, false, List, ◌∷◌, Option, Some, length, get_or, set, replicate, ap, ◌∙◌, sym, subst, arith}
+use Rattle.std.proofs.Common.{◌≡◌, ◌≢◌, ℕ, ◌+◌, ◌*◌, ◌/◌, ◌<◌, ◌≤◌, true, false, List, ◌∷◌, Option, Some, length, get_or, set, replicate, ap, ◌∙◌, sym, subst, arith, inl, inr}
+use Rattle.std.proofs.lemmas.Bool.{cases_eq}
 use Rattle.std.proofs.lemmas.List.{length-replicate}
 use Rattle.heap_model.specs.Header.{Header, HeaderFits, header_word}
 use Rattle.heap_model.specs.Block.{cell_count, new_record, new_words, spliced}
@@ -159,10 +160,18 @@ module _ (rows : List (Option PageRow)) (words : List ℕ) (t : Store) (is : joi
         word_after (pages_in after mid) mid new whole_mid address (size_of block.row.class) block.size now_allocated write b still ne 3 (allocated_place (joined after mid) b whole_mid still).size
         ∙ word_kept (pages_in rows words) words mid kept b was 3 (omega (arith, low))
 
+    -- and that of the block itself
+    link_fresh : (b : ℕ) → is_allocated (joined rows words) b ≡ false → is_allocated (joined after new) b ≡ true → link_of (joined after new) b ≡ 0
+    link_fresh b was now = elim (cases_eq b address) [
+      | inl e ↦ ap (λ n. get_or new (n + 3) 0) e ∙ ap (λ w. get_or w (address + 3) 0) begun
+          ∙ word_spliced mid (address ∷ header_word h ∷ identity ∷ 0 ∷ replicate cells 0) address 3 (omega (arith, words_fit, others_length)) (omega (arith, others_length))
+      | inr ne ↦ absurd (let z : true ≡ false = sym now ∙ adds_made.same b ne ∙ ap (λ (x : Store). is_allocated x b) (sym is) ∙ was in cc)
+    ]
+
     pub links_made : KeepsLinks t (joined after new)
     links_made =
         subst (λ (x : Store). KeepsLinks x (joined after new)) is
-        (record { len = omega (arith, write.len, kept.len); each = link_after })
+        (record { len = omega (arith, write.len, kept.len); each = link_after; fresh = link_fresh })
 
 -- the block was taken as the pages say
 pub takes_by : (s t : Store) → s ≡ t → (class page index address : ℕ) (new : List (Option Page)) → page_for s.pages class ≡ Some page → page_for t.pages class ≡ Some (address / 2048)

@@ -16,11 +16,13 @@ use Rattle.pages.specs.declared.page.PageRow.{PageRow}
 use Rattle.pages.specs.Together.{joined, pages_in, Together, KeepsAllocated}
 use Rattle.pages.proofs.Writing.{WritesBlock}
 use Rattle.nodes.specs.Joined.{IsHeader, AreBlockRecords}
+use Rattle.nodes.specs.Links.{CopiesLink}
 use Rattle.nodes.specs.Moving.{CanMove}
 use Rattle.nodes.proofs.Blocks.{block_by}
 use Rattle.nodes.proofs.Carried.{moves_then}
-use Rattle.nodes.proofs.Headers.{header_after}
+use Rattle.nodes.proofs.Headers.{header_after, word_after}
 use Rattle.nodes.proofs.Joining.{AllocatedBlock, allocated_block, writes_first, writes_spliced, same_pages, still_store, still_together, word_kept, word_spliced}
+use Rattle.nodes.proofs.Linked.{no_link}
 use Rattle.nodes.proofs.Moving.{clash, from, target, received, forwarded, words_after, after_move, four, source_words, target_words, source_allocated, target_free, target_size, size_after, same_allocated, received_store, moved_store, target_allocated, moves}
 use Rattle.nodes.proofs.Places.{allocated_place}
 
@@ -231,6 +233,49 @@ module _ (rows : List (Option PageRow)) (words : List ℕ) (t : Store) (is : joi
               (subst (λ o. IfSome o (λ p. MovesBlock (joined rows words) (joined after second) (address_of p.class page index) (address_of p.class to place))) (sym can.from)
               (moves_then (pages_in rows words) words mid kept are.whole (joined after second) (address_of can.source.class page index) (address_of can.source.class to place) old_allocated
               (both (λ x. MovesBlock midway x (address_of can.source.class page index) (address_of can.source.class to place)) (moves midway whole page index to can place free))))
+
+          -- the link of a block that was allocated
+          link_mid : (x : ℕ) → is_allocated (joined rows words) x ≡ true → get_or mid (x + 3) 0 ≡ get_or words (x + 3) 0
+          link_mid x was = let low = (allocated_place (joined rows words) x are.whole was).size in word_kept (pages_in rows words) words mid kept x was 3 (omega (arith, low))
+
+          link_first : (x : ℕ) → is_allocated (joined rows words) x ≡ true → get_or first (x + 3) 0 ≡ get_or words (x + 3) 0
+          unfolding is_allocated
+          link_first x was =
+              let there : is_allocated midway x ≡ true = was in
+              let source : is_allocated midway a ≡ true = ap (is_allocated midway) from_is ∙ old_allocated in
+              ap (λ w. get_or w (x + 3) 0) first_is ∙ get_or-set_other mid a (x + 3) b 0 (λ e. no_link midway whole a source 0 (omega (arith, (allocated_place midway a whole source).size)) (λ z. absurd (omega (arith, z))) x there (omega (arith, e))) ∙ link_mid x was
+
+          link_second : (x : ℕ) → is_allocated (joined rows words) x ≡ true → get_or second (x + 3) 0 ≡ get_or words (x + 3) 0
+          unfolding is_allocated
+          link_second x was =
+              let ne : x ≢ new_at = λ e. clash was (ap (is_allocated midway) e ∙ target_free midway whole page index to can place free) in
+              let still : is_allocated (joined after first) x ≡ true =
+              ap (λ (g : List (Option Page)). is_allocated (record { pages = g; words = first }) x) pages_first ∙ same_allocated midway whole page index to can place free x ne ∙ was in
+              let sound : IsStore (joined after first) = store_with first (let l : length first ≡ length mid = ap (λ w. length w) first_is ∙ length-set mid a b in omega (arith, l)) pages_first in
+              word_after (pages_in after first) first second sound b (size_of target_block.row.class) target_block.size target_allocated_then copies x still (λ e. ne (e ∙ target_is)) 3 (allocated_place (joined after first) x sound still).size
+              ∙ link_first x was
+
+          -- and of the copy
+          link_copied : get_or second (b + 3) 0 ≡ get_or words (a + 3) 0
+          unfolding is_allocated
+          link_copied =
+              let fit = both_fit first first_is in
+              ap (λ w. get_or w (b + 3) 0) second_is ∙ word_spliced first (words_at first a size) b 3 (omega (arith, fit.1, copy_length)) (omega (arith, copy_length, four_words))
+              ∙ get_or-take size (drop a first) 3 0 (omega (arith, four_words)) ∙ get_or-drop a first 3 0
+              ∙ link_first a (ap (is_allocated midway) from_is ∙ old_allocated)
+
+          copies_link : CopiesLink (joined rows words) (joined after second) (address_of can.source.class page index) (address_of can.source.class to place)
+          copies_link = record {
+            copy =
+                ap (λ n. get_or second (n + 3) 0) (sym (b_is ∙ ap (λ n. 2048 * to + place * n) source_there)) ∙ link_copied
+                ∙ ap (λ n. get_or words (n + 3) 0) from_is;
+            each = link_second;
+          }
+
+          pub copies_by : IfSome (page_at t.pages page) (λ p. CopiesLink t (joined after second) (address_of p.class page index) (address_of p.class to place))
+          copies_by =
+              subst (λ (x : Store). IfSome (page_at x.pages page) (λ p. CopiesLink x (joined after second) (address_of p.class page index) (address_of p.class to place))) is
+              (subst (λ o. IfSome o (λ p. CopiesLink (joined rows words) (joined after second) (address_of p.class page index) (address_of p.class to place))) (sym can.from) copies_link)
 
           pub pages_by : IfSome (page_at t.pages to) (λ q. pages_in after second ≡ set t.pages to (Some (record (with_allocated q place true) { is_target = true })))
           pages_by =

@@ -1,18 +1,25 @@
 -- Looks at blocks of a page, as actions of the sweeper.
-use Rattle.std.proofs.Common.{◌≡◌, ℕ, ◌+◌, Bool, true, false, Some, set, get_or, ap, ◌∙◌, sym, subst, refl, arith}
+use Rattle.std.proofs.Common.{◌≡◌, ℕ, ◌+◌, ◌<◌, Bool, true, false, List, length, Option, None, Some, set, get_or, ap, ◌∙◌, sym, subst, refl, inl, inr, arith}
 use Rattle.std.specs.Prelude.{slice_get, IfSome, IsSomeAnd}
+use Rattle.std.proofs.lemmas.Bool.{cases_lt, cases_eq}
+use Rattle.std.proofs.lemmas.List.{length-set, get_or-set_same, get_or_past}
+use Rattle.std.proofs.lemmas.Option.{none-some}
 use Rattle.heap_model.specs.declared.phase.Phase.TheVariants as phases
-use Rattle.heap_model.specs.Action.{Action, Chain, Nothing_done, Then, Frees, Relinks, Frees_block, Passes_block, goes_to}
+use Rattle.heap_model.specs.Action.{Action, Chain, Nothing_done, Then, Frees, Relinks, KeepsBlocks, Frees_block, Passes_block, goes_to}
 use Rattle.heap_model.specs.Header.{header_in}
 use Rattle.heap_model.specs.Pages.{Page, page_at, with_allocated}
 use Rattle.heap_model.specs.State.{HeapState, seen, same_colour}
-use Rattle.heap_model.specs.Store.{Store, IsStore, is_allocated, record_of, address_of}
+use Rattle.heap_model.specs.Store.{Store, IsStore, is_allocated, record_of, size_at, address_of}
 use Rattle.heap_model.proofs.State.{behind}
 use Rattle.pages.specs.Sweeping.{has_colour, LooksAt, It_stays, It_goes, Looks, No_look, Then_one}
 use Rattle.pages.specs.Together.{KeepsAllocated}
 use Rattle.nodes.specs.Joined.{IsHeader}
+use Rattle.nodes.specs.Links.{LeavesLinks}
+use Rattle.nodes.specs.Pages.{blocks_on}
 use Rattle.nodes.specs.Sweeping.{Sweeps}
 use Rattle.nodes.proofs.Freeing.{allocated_at, frees_by, freed_store_by, freed_headers}
+use Rattle.nodes.proofs.Joining.{word_kept}
+use Rattle.nodes.proofs.Places.{allocated_place}
 use Rattle.nodes.proofs.Writing.{colour_is}
 
 -- pages and words are a store, and word 1 of each allocated block is a header
@@ -45,6 +52,17 @@ module _ (s new : Store) (page block : ℕ) (p : Page) (there : page_at s.pages 
     headers = freed_headers s s refl sound.whole page block new.pages new.words kept allocated_there given sound.headers;
   }
 
+  -- a block that is allocated still has its link
+  links_left : LeavesLinks s new
+  unfolding is_allocated size_at
+  links_left b now = elim (cases_eq b (address_of p.class page block)) [
+    | inl e ↦ absurd (let z : true ≡ false = sym now ∙ ap (is_allocated new) e ∙ freed.gone in cc)
+    | inr ne ↦ (
+      sym (freed.same b ne) ∙ now,
+      (let low = (allocated_place new b freed_sound.whole now).size in let still : is_allocated (record { pages = new.pages; words = s.words }) b ≡ true = now in word_kept new.pages s.words new.words kept b still 3 (omega (arith, low))),
+    )
+  ]
+
 look_sound : (colour : Bool) (page block : ℕ) (s after : Store) → LooksAt colour page block s after → IsSound s → IsSound after
 look_sound colour page block s after (It_stays p there below stays) sound = sound
 look_sound colour page block s after (It_goes p new there allocated goes pages kept) sound = freed_sound s new page block p there allocated pages kept sound
@@ -52,6 +70,16 @@ look_sound colour page block s after (It_goes p new there allocated goes pages k
 looks_sound : (colour : Bool) (page from : ℕ) (s : Store) (count : ℕ) (after : Store) → Looks colour page from s count after → IsSound s → IsSound after
 looks_sound colour page from s count after No_look sound = sound
 looks_sound colour page from s count after (Then_one n mid new looks look) sound = look_sound colour page (from + n) mid new look (looks_sound colour page from s n mid looks sound)
+
+look_leaves : (colour : Bool) (page block : ℕ) (s after : Store) → LooksAt colour page block s after → IsSound s → LeavesLinks s after
+look_leaves colour page block s after (It_stays p there below stays) sound b now = (now, refl)
+look_leaves colour page block s after (It_goes p new there allocated goes pages kept) sound b now = links_left s new page block p there allocated pages kept sound b now
+
+looks_leave : (colour : Bool) (page from : ℕ) (s : Store) (count : ℕ) (after : Store) → Looks colour page from s count after → IsSound s → LeavesLinks s after
+looks_leave colour page from s count after No_look sound b now = (now, refl)
+looks_leave colour page from s count after (Then_one n mid new looks look) sound b now =
+    let last = look_leaves colour page (from + n) mid new look (looks_sound colour page from s n mid looks sound) b now in
+    let first = looks_leave colour page from s n mid looks sound b last.0 in (first.0, last.1 ∙ first.1)
 
 -- a look is an action
 look_acts : (h : HeapState) (colour : Bool) → h.mark_parity ≡ colour → (page block : ℕ) → h.phase ≡ phases.Sweeping page block → (s after : Store) → LooksAt colour page block s after → IsSound s
@@ -88,3 +116,30 @@ module _ (s t new : Store) (is : s ≡ t) (whole : IsStore s) (headers : (b : �
   sweeps_by = λ h store es ep.
       subst (λ (x : Store). Chain (record h { store = x }) n (goes_to (record h { store = new }) n (phases.Sweeping page (from + n)))) (is ∙ sym store)
       (looks_chain h colour es page from ep s n new looks sound)
+
+  pub left_by : LeavesLinks t new
+  left_by = subst (λ (x : Store). LeavesLinks x new) is (looks_leave colour page from s n new looks sound)
+
+  -- and where the page was closed then
+  pub left_and_closed : (pages : List (Option Page)) → KeepsBlocks new (record new { pages = pages }) → LeavesLinks t (record new { pages = pages })
+  left_and_closed pages kept b now = left_by b (sym (kept.allocated b) ∙ now)
+
+-- ---- how many pages there are, and blocks of the page, stays
+page_low : (pages : List (Option Page)) (page : ℕ) (p : Page) → page_at pages page ≡ Some p → page < length pages
+page_low pages page p there = elim (cases_lt page (length pages)) [ inl l ↦ l | inr l ↦ absurd (none-some p (sym (get_or_past pages page None l) ∙ there)) ]
+
+look_stays : (colour : Bool) (page block : ℕ) (s after : Store) → LooksAt colour page block s after
+    → (length after.pages ≡ length s.pages) × (blocks_on (page_at after.pages page) ≡ blocks_on (page_at s.pages page))
+look_stays colour page block s after (It_stays p there below stays) = (refl, refl)
+look_stays colour page block s after (It_goes p new there allocated goes pages kept) = (
+  ap length pages ∙ length-set s.pages page (Some (with_allocated p block false)),
+  ap blocks_on (ap (λ l. page_at l page) pages ∙ get_or-set_same s.pages page (Some (with_allocated p block false)) None (page_low s.pages page p there))
+      ∙ length-set p.allocated block false ∙ sym (ap blocks_on there),
+)
+
+pub looks_stay : (colour : Bool) (page from : ℕ) (s : Store) (count : ℕ) (after : Store) → Looks colour page from s count after
+    → (length after.pages ≡ length s.pages) × (blocks_on (page_at after.pages page) ≡ blocks_on (page_at s.pages page))
+looks_stay colour page from s count after No_look = (refl, refl)
+looks_stay colour page from s count after (Then_one n mid new looks look) =
+    let a = looks_stay colour page from s n mid looks in let b = look_stays colour page (from + n) mid new look in
+    (b.0 ∙ a.0, b.1 ∙ a.1)

@@ -1,9 +1,10 @@
 -- The first pages have their words, and the blocks are as they were.
-use Rattle.std.proofs.Common.{◌≡◌, ℕ, ◌+◌, ◌-◌, ◌*◌, ◌/◌, ◌≤◌, true, List, ◌++◌, Option, Some, None, length, min, replicate, get_or, ap, ◌∙◌, sym, subst, arith, refl}
+use Rattle.std.proofs.Common.{◌≡◌, ℕ, ◌+◌, ◌-◌, ◌*◌, ◌/◌, ◌≤◌, true, false, List, ◌++◌, Option, Some, None, length, min, replicate, get_or, ap, ◌∙◌, sym, subst, arith, refl}
 use Rattle.heap_model.specs.Action.{KeepsBlocks}
 use Rattle.std.proofs.lemmas.Option.{slice_get-get_or}
 use Rattle.heap_model.specs.Pages.{Page, page_at}
 use Rattle.heap_model.specs.Store.{Store, IsStore, is_allocated}
+use Rattle.heap_model.proofs.State.{allocated_pages}
 use Rattle.pages.specs.declared.page.PageRow.{PageRow}
 use Rattle.pages.specs.Together.{joined, pages_in, KeepsAllocated}
 use Rattle.pages.proofs.Telling.{length-pages}
@@ -48,7 +49,11 @@ module _ (rows : List (Option PageRow)) (words : List ℕ) (t : Store) (is : joi
       (through (KeepsBlocks (joined rows words)) (record { allocated = λ b. refl; nodes = λ b h. node_kept (pages_in rows words) words new kept b h are.whole }))
 
   pub touched_links : KeepsLinks t (joined rows new)
-  touched_links = subst (λ (x : Store). KeepsLinks x (joined rows new)) is (record { len = kept.len; each = λ b h. word_stays b h 3 (omega arith) })
+  touched_links = subst (λ (x : Store). KeepsLinks x (joined rows new)) is (record {
+    len = kept.len;
+    each = λ b h. word_stays b h 3 (omega arith);
+    fresh = λ b was now. absurd (let z : true ≡ false = sym now ∙ allocated_pages (joined rows words) (joined rows new) b (first_pages rows words first pages new e are.together all) ∙ was in cc);
+  })
 
 -- a page that wasn't touched is free
 pub untouched_free : (s t : Store) → s ≡ t → IsStore s → (page : ℕ) → length s.words / 2048 ≤ page → page_at t.pages page ≡ None

@@ -1,10 +1,16 @@
 -- What the next steps of the collector do.
 use Rattle.std.specs.Prelude.{◌≡◌, ◌⊎◌, ℕ, ◌<◌, ◌≤◌, Bool, true, false}
 use Rattle.heap_model.specs.declared.phase.Phase.TheVariants as phases
-use Rattle.heap_model.specs.Action.{Chain}
+use Rattle.heap_model.specs.Action.{Action, Chain, Relinks}
 use Rattle.heap_model.specs.QuantumSpending.{NextCosts}
+use Rattle.heap_model.specs.Store.{Store}
 use Rattle.nodes.specs.declared.heap_fields.HeapFields.{HeapFields}
 use Rattle.nodes.specs.HeapFields.{state_of}
+
+-- One action is done, before which blocks may have been threaded anew.
+abbrev pub ActsOnce : HeapFields → ℕ → HeapFields → Type 0
+ActsOnce old cost new =
+    (linked : Store) × Relinks old.nodes linked × Action (record (state_of old) { store = linked }) cost (state_of new)
 
 -- Actions are done, one after the other, and what they cost together is within the room.
 abbrev pub Acts : HeapFields → ℕ → HeapFields → Type 0

@@ -3,7 +3,6 @@
 //! and what they represent.
 #![tactic(auto)]
 
-mod buffer;
 pub mod grey;
 pub mod heap_fields;
 pub mod nodes;

@@ -10,10 +10,10 @@ ghost use Rattle.heap_model.specs.Pages as page_list;
 ghost use Rattle.heap_model.specs.Action.{KeepsBlocks, MovesBlock, closed, allocated_on, is_choosable};
 ghost use Rattle.heap_model.specs.Store.{size_in, is_allocated, address_of, Adds};
 ghost use Rattle.pages.specs.Places.{FindsAllocated};
-ghost use Rattle.nodes.specs.Links.{KeepsLinks};
+ghost use Rattle.nodes.specs.Links.{KeepsLinks, LeavesLinks, CopiesLink};
 ghost use Rattle.nodes.specs.Moving.{CanMove};
 ghost use Rattle.nodes.specs.Pages.{blocks_on};
-ghost use Rattle.nodes.specs.Sweeping.{Sweeps};
+ghost use Rattle.nodes.specs.Sweeping.{Sweeps, SweepsAndCloses};
 ghost use Rattle.nodes.specs.Touching.{touched};
 
 use graph_heap::{NoMemory, Shape};
@@ -105,10 +105,23 @@ impl Nodes {
     pub fn sweep(&mut self, page: usize, index: usize, count: usize, colour: bool)
         requires page { page < length self.old.pages }
         requires blocks { IsSomeAnd (page_at self.old.pages page) (λ p. index + count ≤ length p.allocated) }
-        ensures { Sweeps self.old self.new colour page index count }
+        ensures sweeps { Sweeps self.old self.new colour page index count }
+        ensures links { LeavesLinks self.old self.new }
     {
         let block = Block { page, index };
         self.table.sweep(&mut self.arena, block, count, colour);
+    }
+
+    /// Looks at `count` blocks of a page in use, as `sweep` does, and then closes the page, as `close_page` does.
+    pub fn sweep_and_close(&mut self, page: usize, index: usize, count: usize, colour: bool)
+        requires page { page < length self.old.pages }
+        requires blocks { IsSomeAnd (page_at self.old.pages page) (λ p. index + count ≤ length p.allocated) }
+        ensures sweeps { SweepsAndCloses self.old self.new colour page index count }
+        ensures links { LeavesLinks self.old self.new }
+    {
+        let from = Block { page, index };
+        self.table
+            .sweep_and_close(&mut self.arena, from, count, colour);
     }
 
     /// Closes a page, as the sweeper does when it has looked at all its blocks: its marks go, and if no
@@ -117,6 +130,7 @@ impl Nodes {
         requires { page < length self.old.pages }
         ensures kept { KeepsBlocks self.old self.new }
         ensures pages { self.new.pages ≡ slice_set self.old.pages page (closed (page_at self.old.pages page)) }
+        ensures links { LeavesLinks self.old self.new }
     {
         self.table.close_page(page);
     }
@@ -234,6 +248,7 @@ impl Nodes {
         ensures kept { KeepsBlocks self.old self.new }
         ensures pages { IfSome (page_at self.old.pages page)
             (λ p. self.new.pages ≡ slice_set self.old.pages page (Some (record p { evacuating = true }))) }
+        ensures links { LeavesLinks self.old self.new }
     {
         self.table.leave(page);
     }
@@ -249,6 +264,8 @@ impl Nodes {
         ensures pages { IfSome (page_at self.old.pages to)
             (λ q. self.new.pages ≡ slice_set self.old.pages to
             (Some (record (with_allocated q result true) { is_target = true }))) }
+        ensures links { IfSome (page_at self.old.pages page)
+            (λ p. CopiesLink self.old self.new (address_of p.class page index) (address_of p.class to result)) }
     {
         let size = self.block_size(page);
         let from = address(page, index, size);

@@ -3,5 +3,12 @@ pub mod Paths
 pub mod Pieces
 pub mod Running
 pub mod Opened
+pub mod Reached
+pub mod Stretches
+pub mod Deeds
+pub mod Single
+pub mod Ahead
+pub mod Preparing
+pub mod Remaining
 pub mod Planning
 pub mod Classes

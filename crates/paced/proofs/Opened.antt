@@ -44,7 +44,7 @@ module _ (makes : ℕ → Bool) (f : Flow) (k : ℕ) where
   all_pace_so (e ∷ es) t only p = (paces_so t e only.0 p.0, all_pace_so es (next_meter k t e) only.1 p.1)
 
 -- what keeps to a flow's pace, and is within it where cycles begin, keeps to the flow
-keeps_both : (f : Flow) (k : ℕ) (es : List Event) (t : FlowMeter) → AllMetered k (Paces f) t es → AllMetered k (LivesIn f) t es → AllMetered k (KeepsFlow f) t es
+pub keeps_both : (f : Flow) (k : ℕ) (es : List Event) (t : FlowMeter) → AllMetered k (Paces f) t es → AllMetered k (LivesIn f) t es → AllMetered k (KeepsFlow f) t es
 keeps_both f k [] t p l = tt
 keeps_both f k (e ∷ es) t p l = ((p.0, l.0), keeps_both f k es (next_meter k t e) p.1 l.1)
 
@@ -73,7 +73,7 @@ module _ (makes : ℕ → Bool) (config : Config) (plan : Plan) (live : ℕ) (ol
   limits : h.limits ≡ limits_of config
   limits = ap (λ (s : HeapSettings). s.limits) o.settings
 
-  kept : IsKept plan live k (opened h) old (opening_meter h.limits)
+  pub kept : IsKept plan live k (opened h) old (opening_meter h.limits)
   kept = record {
     course = opening_course h o.heap some;
     heap = refl;

@@ -30,7 +30,7 @@ quantum_piece old new mid (Ok spent) good busy s counts = record {
 }
 quantum_piece old new mid (Err refused) good busy s counts = absurd (s.0 good)
 
-runs_on : (p : Phase) → p ≢ phases.Idle → in_cycle p ≡ true
+pub runs_on : (p : Phase) → p ≢ phases.Idle → in_cycle p ≡ true
 runs_on phases.Idle n = absurd (n refl)
 runs_on (phases.Roots next) n = refl
 runs_on (phases.Marking part cell) n = refl
@@ -73,7 +73,7 @@ spent_less old new mid (Ok spent) good busy s spends words low =
 spent_less old new mid (Err refused) good busy s spends words low = absurd (s.0 good)
 
 -- a piece of work is done because the words may not be asked for yet
-works_for : (words : ℕ) (v : PacedState) (began : Bool) (e : Event) → IsPiece v began e → (MayAsk v words → ⊥) → WorksFor words v e
+pub works_for : (words : ℕ) (v : PacedState) (began : Bool) (e : Event) → IsPiece v began e → (MayAsk v words → ⊥) → WorksFor words v e
 works_for words v true (Command_done m c reply) i none = absurd i
 works_for words v true Cycle_begun i none = none
 works_for words v true Begin_refused i none = absurd i
@@ -92,7 +92,7 @@ quanta_by began = from_bool (not began)
 abbrev pub cycles_by : Bool → ℕ
 cycles_by began = from_bool began
 
-piece_counts : (v : PacedState) (began : Bool) (e : Event) → IsPiece v began e → (quanta_in (e ∷ []) ≡ quanta_by began) × (cycles_in (e ∷ []) ≡ cycles_by began)
+pub piece_counts : (v : PacedState) (began : Bool) (e : Event) → IsPiece v began e → (quanta_in (e ∷ []) ≡ quanta_by began) × (cycles_in (e ∷ []) ≡ cycles_by began)
 piece_counts v true (Command_done m c reply) i = absurd i
 piece_counts v true Cycle_begun i = (refl, refl)
 piece_counts v true Begin_refused i = absurd i

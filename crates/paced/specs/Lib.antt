@@ -2,3 +2,4 @@ pub mod Pacing
 pub mod Rooms
 pub mod Working
 pub mod Planning
+pub mod Bounds

@@ -1,17 +1,18 @@
 //! The laws of a heap that is paced. Each function does nothing: its contract is the law.
-ghost use Rattle.std.specs.Prelude.{◌≡◌, ◌↔◌, ℕ, Bool, List};
+ghost use Rattle.std.specs.Prelude.{◌≡◌, ◌↔◌, ℕ, ◌*◌, ◌≤◌, Bool, Ok, List, [], ◌∷◌, ◌++◌, length};
 ghost use Rattle.std.specs.List.{AllByRecursion};
 ghost use Rattle.graph_heap.specs.declared.command.Command.{Command};
 ghost use Rattle.graph_heap.specs.declared.command.Reply.{Reply};
 ghost use Rattle.settings.specs.declared.config.Config.{Config};
-ghost use Rattle.heap_model.specs.Event.{Course, Event, IsCourse, Runs};
+ghost use Rattle.heap_model.specs.Event.{Course, Event, Command_done, IsCourse, Runs, quanta_in};
 ghost use Rattle.heap_model.specs.State.{HeapState};
 ghost use Rattle.fragmentation.specs.Configured.{MovesAll, FlowFitsIn};
 ghost use Rattle.machine.specs.Plan.{Steps};
 ghost use Rattle.paced.specs.declared.plan.Plan.{Plan};
-ghost use Rattle.paced.specs.Pacing.{PacedState, Path, KeepsPlan, MakesNothing, Paced};
+ghost use Rattle.paced.specs.Pacing.{PacedState, PacedView, state_of, worked, Path, KeepsPlan, MakesNothing, MayAsk, WorksFor, Paced, Pays, Calls};
 ghost use Rattle.paced.specs.Rooms.{planned_flow, flow_for, AsksOnly, IsJustPaced, FindsRoom};
 ghost use Rattle.paced.specs.Planning.{HasPlanOn, IsResized, HasPlan};
+ghost use Rattle.paced.specs.Bounds.{Deed, IsDone, AreDone, events_of, words_asked, AsksWithin, LastsWith, LiveWithinPlan, KeepsToWords, most_for_one, BeginsNone, IsFree, pieces_left};
 
 /// Whatever was called on a paced heap, since it was made of a configuration that moves all and in which the flow of the
 /// plan fits: no reply is the refusal for lack of space, if what was live was within the flow wherever a cycle began.
@@ -52,4 +53,57 @@ pub fn paced_events_run()
 pub fn plans_need_pages()
     ensures { (makes : ℕ → Bool) (c resized : Config) (live : ℕ) → IsResized c resized
         → HasPlanOn makes c live resized.pages ↔ HasPlan makes resized live }
+{}
+
+/// In every stretch of a program's calls, whatever it called before, the collector's work keeps to the words that are asked for in
+/// the stretch. This holds if the plan lasts and leaves room for the largest object of the stretch, and live objects keep to the
+/// plan whenever a cycle begins. So one call that makes an object of w words costs at most one quantum for every `quantum_words`
+/// of them, rounded up; and none if the program spent these quanta before.
+pub fn work_keeps_to_words()
+    ensures { (config : Config) (plan : Plan) (live largest : ℕ) (old mid new : PacedState) (es : List Event)
+        (stretch : List Deed)
+        → LastsWith config plan live largest → IsJustPaced config plan old → Path KeepsPlan old es mid
+        → AreDone mid stretch new → AllByRecursion (AsksWithin largest) stretch
+        → LiveWithinPlan config plan live (es ++ events_of stretch)
+        → KeepsToWords plan (config.collector_ticks * config.rate) stretch }
+{}
+
+/// Each call of a pacer is one deed, and the figures count the deed's work. A command for words that may already be asked for has
+/// no work. Whatever else keeps the plan is a deed without work.
+pub fn calls_are_deeds()
+    ensures call { (old new : PacedView) (m : ℕ) (c : Command) (answer : Reply) → Calls old m c (Ok answer) new
+        → (work : List Event) × IsDone (state_of old) (record { work = work; event = Command_done m c answer }) (state_of new)
+        × (new.pacer.figures ≡ worked old.pacer.figures work) }
+    ensures alone { (old new : PacedState) (e : Event) → Path KeepsPlan old (e ∷ []) new
+        → IsDone old (record { work = []; event = e }) new }
+    ensures ahead { (old new : PacedView) (words : ℕ) (w : Pays old words new) → MayAsk (state_of old) words → w.work ≡ [] }
+{}
+
+/// One object of any size costs at most `most_for_one` quanta in one call, if the plan lasts. An object of at most `quantum_words`
+/// words costs at most one quantum.
+pub fn objects_cost_few_quanta()
+    ensures bound { (config : Config) (plan : Plan) (live largest words : ℕ) (old mid before : PacedState)
+        (es work : List Event)
+        → LastsWith config plan live largest → IsJustPaced config plan old → Path KeepsPlan old es mid
+        → words ≤ plan.cycle_words → Path (WorksFor words) mid work before
+        → LiveWithinPlan config plan live (es ++ work) → quanta_in work ≤ most_for_one plan largest words }
+    ensures small { (plan : Plan) (largest words : ℕ) → 1 ≤ plan.quantum_words → words ≤ plan.quantum_words
+        → most_for_one plan largest words ≤ 1 }
+{}
+
+/// Words that were paid for ahead are free: once this many words may be asked for, the collector does nothing for a stretch that
+/// asks for no more in all. The program may do anything else in the stretch, except begin a cycle.
+pub fn words_paid_ahead_are_free()
+    ensures { (config : Config) (plan : Plan) (old mid new : PacedState) (es : List Event) (words : ℕ)
+        (stretch : List Deed)
+        → IsJustPaced config plan old → Path KeepsPlan old es mid → MayAsk mid words → AreDone mid stretch new
+        → AllByRecursion BeginsNone stretch → words_asked stretch ≤ words → AllByRecursion IsFree stretch }
+{}
+
+/// No more pieces of work than `pieces_left` are done for words, if the plan lasts and leaves room for them.
+pub fn pieces_left_suffice()
+    ensures { (config : Config) (plan : Plan) (live words : ℕ) (old mid before : PacedState) (es work : List Event)
+        → LastsWith config plan live words → IsJustPaced config plan old → Path KeepsPlan old es mid
+        → Path (WorksFor words) mid work before → LiveWithinPlan config plan live (es ++ work)
+        → length work ≤ pieces_left mid words }
 {}

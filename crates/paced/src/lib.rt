@@ -13,9 +13,10 @@ mod quanta;
 pub use asking::words_of_shape;
 pub use figures::Figures;
 pub use laws::{
-    heaps_of_some_classes_find_room, other_commands_need_no_pacer, paced_calls_add_up,
-    paced_events_run, paced_heaps_find_room, plans_need_pages,
+    calls_are_deeds, heaps_of_some_classes_find_room, objects_cost_few_quanta,
+    other_commands_need_no_pacer, paced_calls_add_up, paced_events_run, paced_heaps_find_room,
+    pieces_left_suffice, plans_need_pages, words_paid_ahead_are_free, work_keeps_to_words,
 };
 pub use paced::PacedHeap;
 pub use pacer::{AbovePlan, Pacer};
-pub use plan::{Plan, classes_in, cycle_quanta, flow_fits, least_pages, moves_all, planned};
+pub use plan::{Plan, classes_in, cycle_quanta, flow_fits, lasts, least_pages, moves_all, planned};

@@ -1,5 +1,5 @@
 //! What paces a heap that its caller lends.
-ghost use Rattle.std.specs.Prelude.{◌≡◌, ◌⊎◌, ℕ, ◌+◌, ◌<◌, ◌*◌, ◌≤◌, true, false, IfOk, OnOk, OnErr};
+ghost use Rattle.std.specs.Prelude.{◌≡◌, ◌⊎◌, ℕ, ◌+◌, ◌<◌, ◌*◌, ◌≤◌, true, false, max, IfOk, OnOk, OnErr};
 ghost use Rattle.heap_model.specs.declared.phase.Phase.{Phase};
 ghost use Rattle.heap_model.specs.declared.phase.Phase.TheVariants as phases;
 ghost use Rattle.heap_model.specs.Event.{Cycle_begun, Quantum_done, IsBudget};
@@ -10,6 +10,7 @@ ghost use Rattle.machine.specs.Recorded.{begin_done, quantum_done};
 ghost use Rattle.paced.specs.Pacing.{paced_by, state_of, shape_words, MayAsk, Paced, PaysUnless, Calls, Counted};
 ghost use Rattle.paced.specs.Rooms.{first_pacer};
 ghost use Rattle.paced.specs.Working.{KeepsAgreeing, DoesPiece, work_left};
+ghost use Rattle.paced.specs.Bounds.{pieces_left, PreparesUnless};
 
 use crate::asking::{words_asked, words_of_shape};
 use crate::figures::Figures;
@@ -236,6 +237,51 @@ impl Pacer {
     {
         let words = words_of_shape(&shape);
         self.pay(heap, words)
+    }
+
+    /// Returns the most pieces of work that are left for this many words, if they may not be asked for yet.
+    fn pieces_left(&self, heap: &Heap, words: u64) -> u64
+        ensures { result ≡ pieces_left (state_of (paced_by self.now heap.now)) words }
+    {
+        let each = self.plan.quantum_words.max(1);
+        let more = words.saturating_sub(1);
+        if heap.phase().is_idle() {
+            return (more / each).saturating_add(1);
+        }
+        let due = (u128::from(self.words) + u128::from(more)) / u128::from(each);
+        let most = due.min(u128::from(u64::MAX)) as u64;
+        most.saturating_sub(self.quanta)
+    }
+
+    /// Returns the most pieces that are left: none exactly if the words may be asked for.
+    fn left(&self, heap: &Heap, words: u64) -> u64
+        ensures ready { result ≡ 0 → MayAsk (state_of (paced_by self.now heap.now)) words }
+        ensures due { 0 < result → MayAsk (state_of (paced_by self.now heap.now)) words → ⊥ }
+        ensures told { 0 < result → result ≡ max (pieces_left (state_of (paced_by self.now heap.now)) words) 1 }
+    {
+        if self.allows(heap, words) {
+            return 0;
+        }
+        self.pieces_left(heap, words).max(1)
+    }
+
+    /// Does one piece of the work that the plan wants for this many words, if any is due: it begins a cycle or spends one quantum.
+    /// Returns how many pieces are left at most, if the plan lasts and leaves room for the words. If none is left, objects of no
+    /// more words in all are then made without work, until the program itself begins a cycle. It counts no words. If the words
+    /// are more than a whole cycle has, it does nothing, and returns `AbovePlan`.
+    pub fn prepare(&mut self, heap: &mut Heap, words: u64) -> Result<u64, AbovePlan>
+        ensures prepares { PreparesUnless (paced_by self.old heap.old) words result (paced_by self.new heap.new) }
+        ensures paced { Paced (state_of (paced_by self.old heap.old)) (state_of (paced_by self.new heap.new)) }
+    {
+        if self.plan.cycle_words < words {
+            return Err(AbovePlan);
+        }
+        if self.allows(heap, words) {
+            return Ok(0);
+        }
+        let began = self.work(heap);
+        self.figures = self.figures.with_work(u64::from(!began), u64::from(began));
+        Ok(self.left(heap, words))
     }
 
     /// Begins a cycle, sooner than the plan wants it: what is live is then to be within the flow. Refused while one is

@@ -6,6 +6,7 @@ ghost use Rattle.fragmentation.specs.Flow.{classes_made, FlowFitsOn};
 ghost use Rattle.paced.specs.Rooms.{flow_for, among, made_of};
 ghost use Rattle.paced.specs.Planning.{quanta_on, LastsOn, IsFullestOn, FillsPages, IsFastestFor, HasPlanOn, IsLeastPagesFor};
 ghost use Rattle.paced.specs.declared.plan.Plan.{Plan as PlanView};
+ghost use Rattle.paced.specs.Bounds.{LastsWith};
 
 use crate::quanta::{quanta_on, sweep_quanta};
 use fragmentation::{LEAST_PAGE_FILL, PARTLY_FILLED_PAGES};
@@ -98,6 +99,16 @@ pub fn cycle_quanta(config: &Config, live_words: u64, plan: &Plan) -> u64
     ensures within { (2 ≤ result) × (result ≤ 1110000000000) }
 {
     quanta_on(config, config.pages, live_words, plan)
+}
+
+/// Returns whether a plan lasts and leaves room for an object of `largest` words: whether a cycle has words for each quantum
+/// that it takes at most, and for one such object besides.
+pub fn lasts(config: &Config, live_words: u64, plan: &Plan, largest: u64) -> bool
+    ensures { IsTrue result ↔ LastsWith config.now plan.now live_words largest }
+{
+    let quanta = cycle_quanta(config, live_words, plan);
+    let traced = u128::from(quanta) * u128::from(plan.quantum_words);
+    plan.quantum_words >= 1 && traced + u128::from(largest) <= u128::from(plan.cycle_words)
 }
 
 /// The words of blocks for which so many pages have room besides what is live, where blocks are made of so many classes.

@@ -168,6 +168,30 @@ none_free None false e = absurd (cc)
 none_free (Some r) true e = absurd (cc)
 none_free (Some r) false e = refl
 
+-- a page is usable exactly where it has a free block that counts
+some_left : (known stays : Bool) (blocks allocated : ℕ) → ltb 0 (cond (known && stays) (blocks - allocated) 0) ≡ (known && (stays && ltb allocated blocks))
+some_left true true blocks allocated = elim (cases_lt allocated blocks) [
+  | inl l ↦ lt-ltb 0 (blocks - allocated) (omega (arith, l)) ∙ sym (lt-ltb allocated blocks l)
+  | inr l ↦ le-ltb 0 (blocks - allocated) (omega (arith, l)) ∙ sym (le-ltb allocated blocks l)
+]
+some_left true false blocks allocated = refl
+some_left false stays blocks allocated = refl
+
+usable_some : (class : ℕ) (o : Option PageRow) → ltb 0 (row_free_on class o) ≡ row_usable class o
+usable_some class None = refl
+usable_some class (Some r) = some_left (eqb r.class class) (not r.evacuating) (blocks_in r.class) r.allocated
+
+-- a page's bit in the row of a class, by the free blocks that it counts there
+module _ (rows : List (Option PageRow)) (pages : List (Option PageRow)) (seen : rows ≡ pages) (usable : List BitRow) (free : BitRow) (free_blocks : List ℕ) (free_pages : ℕ) (b : IsIndex rows usable free free_blocks free_pages)
+    (page class : ℕ) (old : Option PageRow) (below : page < length pages) (known : class < CLASSES) (number : ℕ) (number_is : number ≡ class) (read : old ≡ get_or rows page old) (less : ℕ) (less_is : less ≡ row_free_on class old)
+    (one : BitRow) (one_is : one ≡ get_or usable number one) where
+  pub bit_before : has_bit one page ≡ bit (ltb 0 less)
+  bit_before =
+      sym (get_or-map (λ r. has_bit r page) usable class one 0 (omega (arith, b.classes, known)) ∙ ap (λ (x : BitRow). has_bit x page) (sym (one_is ∙ ap (λ n. get_or usable n one) number_is)))
+      ∙ b.usable_bits class page known
+      ∙ ap (λ o. bit (row_usable class o)) (sym (get_or_read rows page old (subst (λ l. page < length l) (sym seen) below) read None))
+      ∙ ap bit (sym (ap (ltb 0) less_is ∙ usable_some class old))
+
 -- as the code computes it
 module _ (rows : List (Option PageRow)) (pages : List (Option PageRow)) (seen : rows ≡ pages) (usable : List BitRow) (free : BitRow) (free_blocks : List ℕ) (free_pages : ℕ) (b : IsIndex rows usable free free_blocks free_pages)
     (page class : ℕ) (row : Option PageRow) (below : page < length pages) (was : OfClass class (row_at pages page)) (is : OfClass class row) (known : class < CLASSES)
@@ -204,19 +228,6 @@ module _ (rows : List (Option PageRow)) (pages : List (Option PageRow)) (seen : 
       (ap (λ n. n - less + more) had_there ∙ ap (λ n. get_or free_blocks class 0 - n + more) (less_is ∙ ap (row_free_on class) old_is) ∙ ap (λ n. get_or free_blocks class 0 - row_free_on class (row_at rows page) + n) more_is)
       m (ap (λ c. m + bit c) (sym (none_free old gone gone_is ∙ ap row_free old_is)) ∙ counted ∙ ap (λ c. free_pages + bit c) (none_free row off off_is)))
 
--- a page is usable exactly where it has a free block that counts
-some_left : (known stays : Bool) (blocks allocated : ℕ) → ltb 0 (cond (known && stays) (blocks - allocated) 0) ≡ (known && (stays && ltb allocated blocks))
-some_left true true blocks allocated = elim (cases_lt allocated blocks) [
-  | inl l ↦ lt-ltb 0 (blocks - allocated) (omega (arith, l)) ∙ sym (lt-ltb allocated blocks l)
-  | inr l ↦ le-ltb 0 (blocks - allocated) (omega (arith, l)) ∙ sym (le-ltb allocated blocks l)
-]
-some_left true false blocks allocated = refl
-some_left false stays blocks allocated = refl
-
-usable_some : (class : ℕ) (o : Option PageRow) → ltb 0 (row_free_on class o) ≡ row_usable class o
-usable_some class None = refl
-usable_some class (Some r) = some_left (eqb r.class class) (not r.evacuating) (blocks_in r.class) r.allocated
-
 -- a page in use
 used_class : (class : ℕ) (o : Option PageRow) → IsSomeAnd o (λ r. r.class ≡ class) → OfClass class o
 used_class class None h = absurd h
@@ -248,9 +259,7 @@ module _ (rows : List (Option PageRow)) (pages : List (Option PageRow)) (seen : 
   was_class = used_class class (row_at pages page) was_of
 
   pub bit_was : has_bit one page ≡ bit (ltb 0 less)
-  bit_was =
-      sym (get_or-map (λ r. has_bit r page) usable class one 0 (omega (arith, b.classes, known)) ∙ ap (λ (x : BitRow). has_bit x page) (sym (one_is ∙ ap (λ n. get_or usable n one) number_is)))
-      ∙ b.usable_bits class page known ∙ ap (λ o. bit (row_usable class o)) there_is ∙ ap bit (sym (ap (ltb 0) less_is ∙ usable_some class old))
+  bit_was = bit_before rows pages seen usable free free_blocks free_pages b page class old below known number number_is read less less_is one one_is
 
   module _ (had : ℕ) (had_is : had ≡ get_or free_blocks number had) where
     pub fewer : less ≤ had

@@ -6,6 +6,7 @@ pub mod Reading
 pub mod Needing
 pub mod Single
 pub mod Sweeping
+pub mod Closing
 pub mod Writing
 pub mod InPlace
 pub mod Flags

@@ -1,10 +1,12 @@
 -- What the sweeper does with blocks of a page in use, where it knows the colour of marked ones.
-use Rattle.std.specs.Prelude.{◌≡◌, ℕ, ◌+◌, ◌<◌, Bool, true, false, List, length, Some, slice_get, slice_index, slice_set}
+use Rattle.std.specs.Prelude.{◌≡◌, ℕ, ◌+◌, ◌<◌, Bool, true, false, List, length, Option, Some, slice_get, slice_index, slice_set}
 use Rattle.heap_model.specs.Header.{header_in}
+use Rattle.heap_model.specs.Action.{closed}
 use Rattle.heap_model.specs.Pages.{Page, page_at, with_allocated}
 use Rattle.heap_model.specs.State.{same_colour}
 use Rattle.heap_model.specs.Store.{Store, address_of}
-use Rattle.pages.specs.Together.{KeepsAllocated}
+use Rattle.pages.specs.declared.page.PageRow.{PageRow}
+use Rattle.pages.specs.Together.{joined, pages_in, KeepsAllocated, Together}
 
 -- whether the header of the block at an address has a colour
 abbrev pub has_colour : List ℕ → Bool → ℕ → Bool
@@ -27,3 +29,12 @@ pub data Looks (colour : Bool) (page from : ℕ) (s : Store) : ℕ → Store →
   No_look : Looks colour page from s 0 s
   Then_one : (n : ℕ) (t u : Store) → Looks colour page from s n t → LooksAt colour page (from + n) t u
       → Looks colour page from s (n + 1) u
+
+-- The sweeper looks at the last blocks of a page, and closes it. The records and the words go together between the two as
+-- well.
+pub record LooksAndCloses (colour : Bool) (page from count : ℕ) (rows new : List (Option PageRow)) (words after : List ℕ) : Type 0 where
+  pub mid : List (Option PageRow)
+  pub looks : Looks colour page from (joined rows words) count (joined mid after)
+  pub together : Together mid after
+  pub len : length mid ≡ length rows
+  pub closes : pages_in new after ≡ slice_set (pages_in mid after) page (closed (page_at (pages_in mid after) page))

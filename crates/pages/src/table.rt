@@ -2,11 +2,11 @@
 ghost use Rattle.std.specs.Prelude.{◌≡◌, ◌+◌, ◌*◌, ◌<◌, ◌≤◌, ◌↔◌, slice_set, position, length, replicate, List, ℕ, IsNone, IfSome, IsSomeAnd, Some, None, true, false, IfOk};
 ghost use Rattle.heap_model.specs.Pages.{page_for, page_at, page_of_class, fresh_page, with_allocated, IsOpen};
 ghost use Rattle.heap_model.specs.Action.{closed};
-ghost use Rattle.pages.specs.Index.{row_at, OfClass, row_usable, row_free, bit, HasFree};
+ghost use Rattle.pages.specs.Index.{row_at, row_closed, OfClass, row_usable, row_free, bit, HasFree};
 ghost use Rattle.heap_model.specs.Store.{address_of};
 ghost use Rattle.pages.specs.FreeList.{index_on};
 ghost use Rattle.pages.specs.Places.{CanBeTarget, TakesAt};
-ghost use Rattle.pages.specs.Sweeping.{Looks};
+ghost use Rattle.pages.specs.Sweeping.{Looks, LooksAndCloses};
 ghost use Rattle.pages.specs.Together.{joined, pages_in, Together, KeepsAllocated};
 
 use crate::bits::BitRow;
@@ -129,7 +129,7 @@ impl PageTable {
         let more = free_on(class, row);
         let was_free = old.is_none();
         let is_free = row.is_none();
-        self.usable[number].set(page, is_usable(class, row));
+        self.usable[number].change(page, less > 0, is_usable(class, row));
         self.free.set(page, is_free);
         self.free_blocks[number] = self.free_blocks[number] - less + more;
         self.free_pages = counted(self.free_pages, was_free, is_free);
@@ -251,6 +251,41 @@ impl PageTable {
         let mut row = self.row(block.page).unwrap();
         sweep(arena, block.page, &mut row, block.index, count, colour);
         self.update(block.page, row.class, Some(row));
+    }
+
+    /// Closes a page in use that has this record: its marks go, and if no block is allocated, the page becomes free.
+    #[inline(always)]
+    fn close_as(&mut self, page: usize, row: PageRow)
+        requires page { page < length self.old }
+        requires was { IsSomeAnd (row_at self.old page) (λ r. r.class ≡ row.class) }
+        ensures { self.new ≡ slice_set self.old page (row_closed (Some row)) }
+    {
+        if row.allocated == 0 {
+            self.put(page, row.class, None);
+        } else {
+            let closed = PageRow {
+                evacuating: false,
+                is_target: false,
+                ..row
+            };
+            self.update(page, row.class, Some(closed));
+        }
+    }
+
+    /// Looks at `count` blocks of a page in use, as `sweep` does, and then closes the page. It writes one record for both.
+    pub fn sweep_and_close(&mut self, arena: &mut Arena, block: Block, count: usize, colour: bool)
+        requires together { Together self.old arena.old.words }
+        requires page { block.page < length self.old }
+        requires blocks { IsSomeAnd (page_at (pages_in self.old arena.old.words) block.page)
+            (λ p. block.index + count ≤ length p.allocated) }
+        ensures does { LooksAndCloses colour block.page block.index count self.old self.new arena.old.words arena.new.words }
+        ensures together { Together self.new arena.new.words }
+        ensures len { length self.new ≡ length self.old }
+        ensures pages { arena.new.pages ≡ arena.old.pages }
+    {
+        let mut swept = self.row(block.page).unwrap();
+        sweep(arena, block.page, &mut swept, block.index, count, colour);
+        self.close_as(block.page, swept);
     }
 
     /// Takes the first free block of a page that isn't evacuating, for one that is moved there: it is allocated,

@@ -1,5 +1,5 @@
 -- Playing up to the line of the nth event.
-use Rattle.std.proofs.Common.{◌≡◌, ◌≢◌, ℕ, zero, suc, ◌+◌, ◌-◌, ◌<◌, ◌≤◌, Bool, true, false, not, ◌&&◌, cond, List, [], ◌∷◌, ◌++◌, ◌⊎◌, inl, inr, append_assoc, append-nil, ap, ◌∙◌, sym, refl, subst, arith, length, Ok, Err}
+use Rattle.std.proofs.Common.{◌≡◌, ◌≢◌, ℕ, zero, suc, ◌+◌, ◌-◌, ◌<◌, ◌≤◌, Bool, true, false, not, ◌&&◌, cond, List, [], ◌∷◌, ◌++◌, inl, inr, append_assoc, append-nil, ap, ◌∙◌, sym, refl, subst, arith, Ok}
 use Rattle.std.specs.Prelude.{Option, None, Some, Result, IsTrue, option_map}
 use Rattle.std.specs.List.{count_by}
 use Rattle.std.specs.Str.{bytes_eq}
@@ -8,26 +8,22 @@ use Rattle.std.proofs.lemmas.List.Sums.{sum_by_push}
 use Rattle.trace.specs.declared.line.Line.{Line}
 use Rattle.trace.specs.declared.line.Line.TheVariants as lines
 use Rattle.trace.specs.LineReader.{Lines}
-use Rattle.trace.specs.LinesProcessed.{LinesProcessed, ProcessingEnds}
 use Rattle.trace.specs.declared.version.Version.{Version}
 use Rattle.graph_heap.specs.declared.command.Command.{Command}
 use Rattle.trace.specs.Numbered.{LineRead}
 use Rattle.trace.specs.Spelling.{version_line, Spells, is_skipped}
 use Rattle.trace.specs.TextLine.{Text, IsVersionLine}
-use Rattle.streams.specs.Streams.{Given, GrowsByPart}
+use Rattle.streams.specs.Streams.{Given}
 use Rattle.trace.specs.Lines.{text_of}
 use Rattle.trace.specs.declared.fault.PlayFault.{PlayFault}
-use Rattle.trace.specs.declared.fault.PlayFault.TheVariants.{Write}
 use Rattle.trace.proofs.Exact.{same_Some}
 use Rattle.trace.proofs.ReadLines.{unread}
 use Rattle.trace.proofs.LinesProcessed.{SoFar}
 use Rattle.player.specs.declared.style.Style.{Style}
 use Rattle.heap_model.specs.Event.{Event}
 use Rattle.player.specs.Player.{PlayerState, DoesLine, entries_in}
-use Rattle.player.specs.Playing.{Session, session, PlaysLine, StopsText, Played, PlayedFirst, PlayedUpTo, is_event, says_event, EndAtEvent, LinePlayed, written_of, IsWrittenUpTo}
-use Rattle.player.proofs.Behind.{behind_fewer}
-use Rattle.player.proofs.Closing.{cut, no_part, grows_longer}
-use Rattle.player.proofs.Lines.{enters_nothing, played}
+use Rattle.player.specs.Playing.{Session, session, PlaysLine, Played, PlayedFirst, PlayedUpTo, is_event, says_event, EndAtEvent, LinePlayed, written_of}
+use Rattle.player.proofs.Lines.{enters_nothing, ends_so}
 
 -- a line that is read as another than a skipped one is neither skipped nor tells the version
 not_skipped : (text : List ℕ) (version : Version) (line : Line) (b : Bool) → is_skipped text ≡ b → ((x : Line) → Spells version text x → line ≡ x) → says_event line ≡ true → not b ≡ true
@@ -79,7 +75,7 @@ pub first_done : {style : Style} {given : Given} {old new : Session} {reader : L
 first_done {style} {given} {old} {new} {reader} so n count end = inr (
   given.before ++ text_of so.lines,
   reader.kept,
-  played style (record given { after = given.before ++ text_of so.lines; ended = true }) old new (Ok tt) (record {
+  ends_so (record {
     lines = so.lines;
     version = reader.next;
     events = so.events;
@@ -87,15 +83,14 @@ first_done {style} {given} {old} {new} {reader} so n count end = inr (
     rest = [];
     read = record { text = text_of so.lines; came = refl; splits = record { whole = sym (append-nil (text_of so.lines)); each = so.read.splits.each }; small = omega arith };
     done = so.done;
-    ends = inl (refl, refl, refl);
-  })
-      (λ is. absurd (cc)),
+    ends = (refl, refl, refl);
+  }),
   so.read.came ∙ ap (λ t. given.before ++ t) so.read.splits.whole ∙ sym (append_assoc given.before (text_of so.lines) reader.kept),
   so.read.small,
   refl,
   count,
   end,
-  inl refl,
+  refl,
 )
 
 -- How many events are left after some, where their number is limited.
@@ -135,48 +130,8 @@ abbrev pub up_to : {style : Style} {given : Given} {old new : Session} {result :
 up_to None p few = p
 up_to (Some n) p few = inl (p, few n refl)
 
--- the same where a write of what waits fails at the end: what was kept before the last call waited, or nothing waits
-pub cut_waited : (most : Option ℕ) (style : Style) (given : Given) (old : Session) (player : PlayerState) (before taken taken' waiting kept : List ℕ) (ended : Result (Unit {0}) PlayFault) → length old.taken ≤ length before → length before ≤ length taken → GrowsByPart taken taken' waiting
-    → (over : LinesProcessed (PlaysLine style) given old (λ reached. ProcessingEnds (StopsText style) reached given.ended (session player (taken ++ waiting)) ended)) → IsWrittenUpTo style old over.lines over.events kept before → (kept ≡ over.rest) ⊎ (waiting ≡ [])
-    → ((n : ℕ) → most ≡ Some n → count_by is_event over.lines < n) → PlayedUpTo most style given old (session player taken') (Err Write)
-cut_waited most style given old player before taken taken' waiting kept ended low more grows over behind (inl same) few =
-    let longer = grows_longer taken taken' waiting grows in
-    up_to most (cut style given old player taken taken' waiting ended (omega (arith, low, more)) grows over (behind_fewer style old over.lines over.events kept over.rest before taken' (omega (arith, more, longer)) (omega (arith, ap length same)) behind)) few
-cut_waited most style given old player before taken taken' waiting kept ended low more grows over behind (inr none) few = absurd (no_part taken taken' waiting none grows)
-
 -- and once none is
 pub none_left : (style : Style) {given : Given} {old new : Session} {reader : Lines} (so : SoFar (PlaysLine style) given old new reader) (most left : Option ℕ) → AreLeft most (count_by is_event so.lines) left → left ≡ Some 0 → EndAtEvent so.lines
     → PlayedUpTo most style given old new (Ok tt)
 none_left style so None left are none end = absurd (cc)
 none_left style so (Some n) left are none end = first_done so n (let sum = are.2 in omega (arith, sum, same_Some are.0 0 (sym are.1 ∙ none))) end
-
--- the same where a write of what waits then fails
-pub first_cut : {style : Style} {given : Given} {old : Session} {player : PlayerState} {reader : Lines} (taken taken' waiting : List ℕ) (so : SoFar (PlaysLine style) given old (session player (taken ++ waiting)) reader) (n : ℕ) → count_by is_event so.lines ≡ n → EndAtEvent so.lines
-    → length old.taken ≤ length taken → GrowsByPart taken taken' waiting → IsWrittenUpTo style old so.lines so.events [] taken' → PlayedFirst n style given old (session player taken') (Err Write)
-first_cut {style} {given} {old} {player} {reader} taken taken' waiting so n count end low grows behind = inr (
-  given.before ++ text_of so.lines,
-  reader.kept,
-  cut style (record given { after = given.before ++ text_of so.lines; ended = true }) old player taken taken' waiting (Ok tt) low grows
-      (record {
-        lines = so.lines;
-        version = reader.next;
-        events = so.events;
-        mid = session player (taken ++ waiting);
-        rest = [];
-        read = record { text = text_of so.lines; came = refl; splits = record { whole = sym (append-nil (text_of so.lines)); each = so.read.splits.each }; small = omega arith };
-        done = so.done;
-        ends = (refl, refl, refl);
-      })
-      behind,
-  so.read.came ∙ ap (λ t. given.before ++ t) so.read.splits.whole ∙ sym (append_assoc given.before (text_of so.lines) reader.kept),
-  so.read.small,
-  refl,
-  count,
-  end,
-  inr refl,
-)
-
-pub none_cut : {style : Style} {given : Given} {old : Session} {player : PlayerState} {reader : Lines} (taken taken' waiting : List ℕ) (so : SoFar (PlaysLine style) given old (session player (taken ++ waiting)) reader) (most left : Option ℕ) → AreLeft most (count_by is_event so.lines) left → left ≡ Some 0 → EndAtEvent so.lines
-    → length old.taken ≤ length taken → GrowsByPart taken taken' waiting → IsWrittenUpTo style old so.lines so.events [] taken' → PlayedUpTo most style given old (session player taken') (Err Write)
-none_cut taken taken' waiting so None left are none end low grows behind = absurd (cc)
-none_cut taken taken' waiting so (Some n) left are none end low grows behind = first_cut taken taken' waiting so n (let sum = are.2 in omega (arith, sum, same_Some are.0 0 (sym are.1 ∙ none))) end low grows behind

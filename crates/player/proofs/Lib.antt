@@ -2,8 +2,8 @@ pub mod Doing
 pub mod First
 pub mod Lines
 pub mod Ticking
-pub mod Closing
-pub mod Behind
 pub mod Promised
+pub mod Sent
+pub mod Held
 pub mod Seeing
 pub mod LinesSeen

@@ -1,6 +1,6 @@
 -- What lines do, one after the other.
-use Rattle.std.proofs.Common.{◌≡◌, ◌≢◌, ℕ, ◌+◌, Bool, inl, inr, List, [], ◌∷◌, ◌++◌, length, length-append, arith, append_assoc, append-nil, ap, ◌∙◌, sym, subst, refl}
-use Rattle.std.specs.Prelude.{◌⊎◌, Result, Ok, Err}
+use Rattle.std.proofs.Common.{◌≡◌, ◌≢◌, ℕ, ◌+◌, inl, inr, List, [], ◌∷◌, ◌++◌, length, length-append, arith, append_assoc, append-nil, ap, ◌∙◌, sym, subst, refl}
+use Rattle.std.specs.Prelude.{Result}
 use Rattle.std.proofs.lemmas.Grind.{flat_map-append}
 use Rattle.graph_heap.specs.declared.command.Command.{Command}
 use Rattle.graph_heap.specs.declared.command.Entry.{Entry}
@@ -9,16 +9,17 @@ use Rattle.machine.proofs.Courses.{runs_then}
 use Rattle.trace.specs.declared.line.Line.{Line}
 use Rattle.trace.specs.declared.line.Line.TheVariants as lines
 use Rattle.trace.specs.declared.fault.PlayFault.{PlayFault}
-use Rattle.trace.specs.declared.fault.PlayFault.TheVariants.{Line as At_line, Read, Write, NoMemory}
+use Rattle.trace.specs.declared.fault.PlayFault.TheVariants.{Write}
 use Rattle.trace.specs.declared.version.Version.{Version}
-use Rattle.trace.specs.declared.version.Version.TheVariants.{Second}
-use Rattle.trace.specs.LinesProcessed.{Reached, LinesDone, No_lines, One_line_more, LinesProcessed, ProcessingEnds}
-use Rattle.trace.proofs.LinesProcessed.{next_told, next_same, reached_by}
-use Rattle.streams.specs.Streams.{Given}
+use Rattle.trace.specs.declared.version.Version.TheVariants.{First, Second}
+use Rattle.trace.specs.LinesProcessed.{LinesDone, No_lines, One_line_more, LinesProcessed, ProcessingEnds}
+use Rattle.trace.specs.TextLine.{Text}
+use Rattle.trace.proofs.LinesProcessed.{next_told, next_same}
+use Rattle.streams.specs.Streams.{Given, GrowsByPart}
 use Rattle.player.specs.Player.{PlayerState, QuantaDue, None_yet, One_more, DoesLine, Skips, Commands, Begins, Goes_on, Spends, Ticks, entries_in}
 use Rattle.player.specs.declared.style.Style.{Style}
 use Rattle.player.specs.declared.style.Style.TheVariants.{Nothing}
-use Rattle.player.specs.Playing.{Session, PlaysLine, StopsText, CutShort, IsWrittenUpTo, Played, written_line, written_of, written_version, text_written}
+use Rattle.player.specs.Playing.{Session, PlaysLine, StopsText, Played, written_line, written_of, written_version, text_written}
 
 -- the entries of more events, and what is written of them
 pub entries_more : (es fs : List Event) → entries_in (es ++ fs) ≡ entries_in es ++ entries_in fs
@@ -42,7 +43,7 @@ pub due_runs : (until : ℕ) (p : PlayerState) (es : List Event) (q : PlayerStat
 due_runs until p es q None_yet = refl
 due_runs until p es q (One_more fs r due units phase course w is below d) = runs_then fs (Quantum_done r.budget units phase ∷ []) p.course r.course course (due_runs until p fs r w) (course, d, refl)
 
-line_runs : (p : PlayerState) (line : Line) (es : List Event) (q : PlayerState) → DoesLine p line es q → Runs p.course es q.course
+pub line_runs : (p : PlayerState) (line : Line) (es : List Event) (q : PlayerState) → DoesLine p line es q → Runs p.course es q.course
 line_runs p line es q Skips = refl
 line_runs p line es q (Commands m c reply course d) = (course, d, refl)
 line_runs p line es q (Begins course d) = (course, d, refl)
@@ -96,22 +97,11 @@ lines_written style old new ls version es (One_line_more ls' before version' es'
     subst (λ v. new'.taken ≡ old.taken ++ text_written style v (entries_in (es' ++ more))) (sym (next_same _ version' next does.0))
     (written_more style before old.taken mid.taken new'.taken es' more (lines_written style old mid ls' before es' d) does.1.2.1)
 
--- what is played
-abbrev pub played : (style : Style) (given : Given) (old new : Session) (result : Result (Unit {0}) PlayFault) (over : LinesProcessed (PlaysLine style) given old (λ reached. ProcessingEnds (StopsText style) reached given.ended new result ⊎ ((result ≡ Err Write) × CutShort style reached old new)))
-    → (result ≡ Err Write → IsWrittenUpTo style old over.lines over.events over.rest new.taken) → Played style given old new result
-played style given old new result over behind =
+-- what is played, by how the lines of an input were done and how it ended
+abbrev pub ends_so : {style : Style} {given : Given} {old new : Session} {result : Result (Unit {0}) PlayFault} → LinesProcessed (PlaysLine style) given old (λ reached. ProcessingEnds (StopsText style) reached given.ended new result) → Played style given old new result
+ends_so {style} {given} {old} {new} {result} over =
     let runs = lines_run style old over.mid over.lines over.version over.events over.done in
-    record { over = over; runs = runs; grows = history_grows over.events old.player.course over.mid.player.course runs; written = lines_written style old over.mid over.lines over.version over.events over.done; behind = behind }
-
--- no line ends in a failed write
-pub ends_otherwise : (style : Style) (reached : Reached Session Event) (ended : Bool) (new : Session) (result : Result (Unit {0}) PlayFault) → ProcessingEnds (StopsText style) reached ended new result → result ≡ Err Write → ⊥
-ends_otherwise style reached ended new (Ok all) e is = cc
-ends_otherwise style reached ended new (Err (At_line k f)) e is = cc
-ends_otherwise style reached ended new (Err Read) e is = cc
-ends_otherwise style reached ended new (Err NoMemory) e is = cc
-ends_otherwise style reached ended new (Err Write) (inl e) is = e.0
-ends_otherwise style reached ended new (Err Write) (inr (text, more, whole, line, inl none)) is = let z = none.0.0 in cc
-ends_otherwise style reached ended new (Err Write) (inr (text, more, whole, line, inr (l, spells, stops))) is = stops
+    record { over = over; runs = runs; grows = history_grows over.events old.player.course over.mid.player.course runs; written = lines_written style old over.mid over.lines over.version over.events over.done }
 
 -- only commands make entries
 pub enters_nothing : (p : PlayerState) (line : Line) (es : List Event) (q : PlayerState) → DoesLine p line es q → ((m : ℕ) (c : Command) → line ≢ lines.Command m c) → entries_in es ≡ []
@@ -126,13 +116,28 @@ enters_nothing p line es q (Ticks k fs r small due none) other = due_entries (p.
 pub entered : (e : Entry) (m : ℕ) (c : Command) → e.mutator ≡ m → e.command ≡ c → entries_in (Command_done m c e.reply ∷ []) ≡ e ∷ []
 entered e m c p q = subst (λ k. entries_in (Command_done k c e.reply ∷ []) ≡ e ∷ []) p (subst (λ d. entries_in (Command_done e.mutator d e.reply ∷ []) ≡ e ∷ []) q refl)
 
--- an end is an end where no write fails
-abbrev pub ends_so : {style : Style} {given : Given} {old new : Session} {result : Result (Unit {0}) PlayFault} → LinesProcessed (PlaysLine style) given old (λ reached. ProcessingEnds (StopsText style) reached given.ended new result) → Played style given old new result
-ends_so {style} {given} {old} {new} {result} over =
-    played style given old new result (record { lines = over.lines; version = over.version; events = over.events; mid = over.mid; rest = over.rest; read = over.read; done = over.done; ends = inl over.ends })
-    (λ is. absurd (ends_otherwise style (reached_by over) given.ended new result over.ends is))
+pub entry_of : (e : Entry) (m : ℕ) (c : Command) → e.mutator ≡ m → e.command ≡ c → e ≡ (record { mutator = m; command = c; reply = e.reply })
+entry_of e m c p q = ap (λ k. record { mutator = k; command = e.command; reply = e.reply }) p ∙ ap (λ d. record { mutator = m; command = d; reply = e.reply }) q
 
 -- nothing is written of entries
 pub nothing_written : (entries : List Entry) → written_of Nothing entries ≡ []
 nothing_written [] = refl
 nothing_written (e ∷ entries) = nothing_written entries
+
+-- nor of lines
+pub nothing_told : (version : Version) (entries : List Entry) → text_written Nothing version entries ≡ []
+nothing_told First entries = nothing_written entries
+nothing_told Second entries = nothing_written entries
+
+no_part : (old new bytes : List ℕ) → bytes ≡ [] → GrowsByPart old new bytes → ⊥
+no_part old new bytes none part = let few = part.1 in let empty : length bytes ≡ 0 = ap length none in omega (arith, few, empty)
+
+-- so no write fails there
+pub nothing_fails : (text : Text) (old new : Session) → StopsText Nothing Write text old new → ⊥
+nothing_fails text old new (inl none) = let z = none.0.0 in cc
+nothing_fails text old new (inr (inl (lines.Skip, spells, stops))) = elim stops [ ]
+nothing_fails text old new (inr (inl (lines.Command m c, spells, stops))) = no_part old.taken new.taken [] refl stops.2
+nothing_fails text old new (inr (inl (lines.Begin, spells, stops))) = elim stops [ ]
+nothing_fails text old new (inr (inl (lines.Quantum budget, spells, stops))) = elim stops [ ]
+nothing_fails text old new (inr (inl (lines.Tick n, spells, stops))) = elim stops [ ]
+nothing_fails text old new (inr (inr told)) = no_part old.taken new.taken [] refl told.3

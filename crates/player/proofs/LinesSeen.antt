@@ -66,7 +66,7 @@ at_line (inr there) = there
 module _ {O : Type 0} (HasSeen : Run → O → Type 0) where
   -- a fault at a line that was read is one at its text
   pub text_stops : (Refuses : Type 0) (text : Text) (line : Line) (old new : Observed O) (fault : PlayFault) → LineRead text (Ok (Some line)) → LineObserved HasSeen Refuses line text.number old new (Err fault) → TextStops fault text old.player new.player
-  text_stops Refuses text line old new fault read (inl stops) = inl (inr (line, read.1, stops Nothing []))
+  text_stops Refuses text line old new fault read (inl stops) = inl (inr (inl (line, read.1, stops Nothing [])))
   text_stops Refuses text line old new fault read (inr refused) = inr (refused.0, line, read.1, refused.2)
 
   -- where memory is refused to the observer after a line, the line is done

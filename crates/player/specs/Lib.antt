@@ -3,7 +3,6 @@ pub mod Player
 pub mod New
 pub mod Playing
 pub mod Ticking
-pub mod Closing
 pub mod Steps
 pub mod Observing
 pub mod Surveying

@@ -1,22 +1,22 @@
 -- What it is to play a trace.
-use Rattle.std.specs.Prelude.{◌≡◌, ℕ, ◌+◌, ◌<◌, ◌≤◌, Bool, true, false, not, ◌&&◌, IsTrue, ◌⊎◌, List, [], ◌∷◌, ◌++◌, length, Option, None, Some, Result, Ok, Err}
+use Rattle.std.specs.Prelude.{◌≡◌, ◌≢◌, ℕ, ◌+◌, ◌<◌, ◌≤◌, Bool, true, false, not, ◌&&◌, IsTrue, ◌⊎◌, List, [], ◌∷◌, ◌++◌, length, Option, None, Some, Result, Ok, Err}
 use Rattle.std.specs.List.{flat_map, count_by}
 use Rattle.std.specs.Str.{bytes_eq}
 use Rattle.graph_heap.specs.declared.command.Entry.{Entry}
+use Rattle.graph_heap.specs.declared.command.Reply.{Reply}
 use Rattle.trace.specs.declared.line.Line.{Line}
 use Rattle.trace.specs.declared.line.Line.TheVariants as lines
 use Rattle.trace.specs.declared.fault.LineFault.TheVariants.{ClockSpent}
 use Rattle.trace.specs.declared.fault.PlayFault.{PlayFault}
-use Rattle.trace.specs.declared.fault.PlayFault.TheVariants.{Line as At_line, Write, NoMemory}
+use Rattle.trace.specs.declared.fault.PlayFault.TheVariants.{Line as At_line, Read, Write, NoMemory}
 use Rattle.trace.specs.declared.version.Version.{Version}
 use Rattle.trace.specs.declared.version.Version.TheVariants.{Second}
-use Rattle.trace.specs.LinesProcessed.{Reached, NextThere, LineEffect, LinesDone, LinesProcessed, ProcessingEnds}
+use Rattle.trace.specs.LinesProcessed.{LineEffect, LinesProcessed, ProcessingEnds}
 use Rattle.trace.specs.Numbered.{IsNoEvent}
 use Rattle.trace.specs.Spelling.{version_line, Spells, is_skipped, reply_text, entry_line}
-use Rattle.streams.specs.Streams.{Given, GrowsByPart}
-use Rattle.trace.specs.Lines.{text_of}
-use Rattle.trace.specs.TextLine.{Text}
-use Rattle.heap_model.specs.Event.{Event, Runs}
+use Rattle.streams.specs.Streams.{Given, Taken, GrowsByPart}
+use Rattle.trace.specs.TextLine.{Text, IsVersionLine}
+use Rattle.heap_model.specs.Event.{Event, Command_done, Runs}
 use Rattle.quanta.specs.declared.schedule.TheConstants.{CLOCK_LIMIT}
 use Rattle.player.specs.Player.{PlayerState, QuantaDue, DoesLine, entries_in}
 use Rattle.player.specs.declared.style.Style.{Style}
@@ -79,50 +79,30 @@ Stops style NoMemory (lines.Command m c) number old new = (new.player ≡ old.pl
 Stops style NoMemory (lines.Tick n) number old new =
     ((es : List Event) × (due : ℕ) × QuantaDue (old.player.timetable.clock + n) old.player es new.player
     × (new.player.timetable.due ≡ Some due) × (due < old.player.timetable.clock + n)) × (new.taken ≡ old.taken)
+-- a write of the command's line failed: it is done, and of what is written of its entry a beginning is taken, not all
+Stops style Write (lines.Command m c) number old new =
+    (reply : Reply) × DoesLine old.player (lines.Command m c) (Command_done m c reply ∷ []) new.player
+    × GrowsByPart old.taken new.taken (written_line style (record { mutator = m; command = c; reply = reply }))
 Stops style fault line number old new = ⊥
 
--- what a fault at a line is, of its text: it spells no event and doesn't tell the version, or a line that stops so
+-- what a fault at a line is, of its text: it spells no event and doesn't tell the version; or a line that stops so; or it
+-- tells the version, and a write of that failed
 abbrev pub StopsText : Style → PlayFault → Text → Session → Session → Type 0
 StopsText style fault text old new =
     (IsNoEvent fault text × (new ≡ old))
-    ⊎ ((line : Line) × Spells text.version text.bytes line × Stops style fault line text.number old new)
-
--- A write failed: after the lines done no further one was, or memory was refused for the next, too. Of their
--- text, which ends with that of the last command, a beginning was written, and not all of it.
-abbrev pub CutShort : Style → Reached Session Event → Session → Session → Type 0
-CutShort style reached old new =
-    GrowsByPart old.taken new.taken (text_written style reached.version (entries_in reached.events))
-    × ((new.player ≡ reached.state.player) ⊎ NextThere reached
-    (λ text. StopsText style NoMemory text reached.state (session new.player reached.state.taken)))
-
--- All that the first of these lines wrote is within the text that was taken. The lines after these, with the rest, are
--- at most a buffer of the input: none but those that waited there were done.
-pub record IsWrittenUpTo (style : Style) (old : Session) (lines : List (List ℕ)) (events : List Event)
-    (rest taken : List ℕ) : Type 0 where
-  pub before : List (List ℕ)
-  pub behind : List (List ℕ)
-  pub version : Version
-  pub first : List Event
-  pub more : List Event
-  pub mid : Session
-  pub lines_are : lines ≡ before ++ behind
-  pub events_are : events ≡ first ++ more
-  pub done : LinesDone (PlaysLine style) old before version first mid
-  pub written : length mid.taken ≤ length taken
-  pub few : length (text_of behind) + length rest ≤ 65536
+    ⊎ (((line : Line) × Spells text.version text.bytes line × Stops style fault line text.number old new)
+    ⊎ ((fault ≡ Write) × IsVersionLine text × (new.player ≡ old.player)
+    × GrowsByPart old.taken new.taken (written_version Second style)))
 
 -- What was played of an input: the lines that were done did these events, one after the other, what is
--- written of their entries is written, and it ended so. Where a write failed, mid has all of that text, and the lines
--- that weren't all written were waiting in a buffer of the input.
+-- written of their entries is taken, and it ended so. A fault of a write is one of the next line's, which is done.
 pub record Played (style : Style) (given : Given) (old new : Session)
     (result : Result (Unit {0}) PlayFault) : Type 0 where
   pub over : LinesProcessed (PlaysLine style) given old
-      (λ reached. ProcessingEnds (StopsText style) reached given.ended new result
-      ⊎ ((result ≡ Err Write) × CutShort style reached old new))
+      (λ reached. ProcessingEnds (StopsText style) reached given.ended new result)
   pub runs : Runs old.player.course over.events over.mid.player.course
   pub grows : over.mid.player.course.history ≡ old.player.course.history ++ entries_in over.events
   pub written : over.mid.taken ≡ old.taken ++ text_written style over.version (entries_in over.events)
-  pub behind : result ≡ Err Write → IsWrittenUpTo style old over.lines over.events over.rest new.taken
 
 -- the line of an event: it isn't skipped, and doesn't tell the version
 abbrev pub is_event : List ℕ → Bool
@@ -143,18 +123,30 @@ abbrev pub PlayedFirst : ℕ → Style → Given → Session → Session → Res
 PlayedFirst n style given old new result =
     -- fewer events were done: what is played of the whole input
     ((all : Played style given old new result) × (count_by is_event all.over.lines < n))
-    -- the lines end at the nth event: what is played of an input that ends there, unless a write failed after
-    -- it. Of what comes after, which wasn't looked at, at most a buffer was read
+    -- the lines end at the nth event: what is played of an input that ends there. Of what comes after, which wasn't
+    -- looked at, at most a buffer was read
     ⊎ ((seen : List ℕ) × (more : List ℕ)
     × (first : Played style (record given { after = seen; ended = true }) old new result)
     × (given.after ≡ seen ++ more) × (length more ≤ 65536) × (first.over.rest ≡ [])
-    × (count_by is_event first.over.lines ≡ n) × EndAtEvent first.over.lines
-    × ((result ≡ Ok tt) ⊎ (result ≡ Err Write)))
+    × (count_by is_event first.over.lines ≡ n) × EndAtEvent first.over.lines × (result ≡ Ok tt))
 
 -- the first n events of an input are played, or, where n is none, all of them
 abbrev pub PlayedUpTo : Option ℕ → Style → Given → Session → Session → Result (Unit {0}) PlayFault → Type 0
 PlayedUpTo None = Played
 PlayedUpTo (Some n) = PlayedFirst n
+
+-- It ended so; or the sink was flushed before a read and failed to send on all that it had taken, and it ended as where
+-- that read fails. A sink is flushed only where something is written of lines.
+abbrev pub OrHeld : Style → Taken → Result (Unit {0}) PlayFault → (Result (Unit {0}) PlayFault → Type 0) → Type 0
+OrHeld style taken result EndsSo = EndsSo result
+    ⊎ ((result ≡ Err Write) × (style ≢ Nothing) × (taken.sent < length taken.after) × EndsSo (Err Read))
+
+-- All that a front of the lines wrote, if anything, is among the bytes that the sink sent on, and what was read behind these
+-- lines is at most a buffer. The history begins with the front's.
+abbrev pub IsSentUpTo : Style → Given → Session → Session → ℕ → Type 0
+IsSentUpTo style given old new sent = LinesProcessed (PlaysLine style) given old
+    (λ reached. ((reached.state.taken ≡ old.taken) ⊎ (length reached.state.taken ≤ sent))
+    × ((entries : List Entry) × (new.player.course.history ≡ reached.state.player.course.history ++ entries)))
 
 -- The outcome of a line's text: whether it is that of an event.
 abbrev pub LinePlayed : Style → Text → Session → Session → Result Bool PlayFault → Type 0

@@ -1,10 +1,10 @@
 //! One line of a trace.
-ghost use Rattle.std.specs.Prelude.{◌≡◌, ℕ, ◌+◌, ◌≤◌, ◌++◌, List, length};
+ghost use Rattle.std.specs.Prelude.{◌≡◌, ◌+◌, ◌≤◌, ◌++◌, OnOk, OnErr};
+ghost use Rattle.streams.specs.Streams.{failed, GrowsByPart};
 ghost use Rattle.trace.specs.LinesProcessed.{reads_failed, writes_failed};
 ghost use Rattle.trace.specs.TextLine.{text_in};
 ghost use Rattle.trace.specs.declared.version.Version.TheVariants as versions;
 ghost use Rattle.player.specs.Player.{HasBudget};
-ghost use Rattle.player.specs.declared.style.Style.TheVariants as styles;
 ghost use Rattle.player.specs.Playing.{session, written_line, written_version, says_event, LinePlayed};
 ghost use Rattle.player.specs.Observing.{observed, LineObserved};
 
@@ -12,44 +12,46 @@ use crate::observer::Observer;
 use crate::player::Player;
 use crate::style::Style;
 use graph_heap::Entry;
-use trace::{Line, PlayFault, TextLine, WriteBuffer, read_numbered, version_line, write_entry};
+use streams::{Sink, WriteFailed};
+use trace::{
+    Line, PlayFault, TextLine, end_line, put, read_numbered, version_line, write_entry, write_reply,
+};
 
-/// Adds the line of an entry to what waits. It stands apart so that its 256 bytes aren't cleared for each reply.
-#[inline(never)]
-fn add_entry(waiting: &mut WriteBuffer, entry: Entry)
-    requires { length waiting.old + 256 ≤ 65536 }
-    ensures { waiting.new ≡ waiting.old ++ written_line styles.Entries entry }
-{
-    let mut out = [0; 256];
-    let end = write_entry(&entry, &mut out);
-    out[end] = b'\n';
-    waiting.add(&out[..end + 1]);
-}
-
-/// Adds the line of an entry, in a style, to what waits.
+/// Writes the line of an entry to a sink, in a style. It is made in an array.
 #[inline(always)]
-fn add_line(waiting: &mut WriteBuffer, style: Style, entry: &Entry)
-    requires { length waiting.old + 256 ≤ 65536 }
-    ensures { waiting.new ≡ waiting.old ++ written_line style entry.now }
+fn tell_entry<K: Sink>(
+    entry: &Entry,
+    style: Style,
+    out: &mut [u8; 256],
+    sink: &mut K,
+) -> Result<(), WriteFailed>
+    ensures ok { OnOk result (K.taken sink.new ≡ K.taken sink.old ++ written_line style entry.now) }
+    ensures err { OnErr result (GrowsByPart (K.taken sink.old) (K.taken sink.new) (written_line style entry.now)) }
+    ensures sent { K.sent sink.old ≤ K.sent sink.new }
+    ensures cause { K.failures sink.new ≡ K.failures sink.old + failed result }
 {
-    match style {
-        Style::Replies => waiting.add_reply(&entry.reply),
-        Style::Entries => add_entry(waiting, *entry),
-        Style::Nothing => {}
-    }
+    let end = match style {
+        Style::Replies => write_reply(&entry.reply, out, 0),
+        Style::Entries => write_entry(entry, out),
+        Style::Nothing => return Ok(()),
+    };
+    end_line(sink, out, end)
 }
 
-/// Adds the line that tells the version, in a style, to what waits.
-fn add_version(waiting: &mut WriteBuffer, style: Style)
-    requires { length waiting.old + 256 ≤ 65536 }
-    ensures { waiting.new ≡ waiting.old ++ written_version versions.Second style }
+/// Writes the line that tells the version to a sink, in a style. It is made in an array.
+fn tell_version<K: Sink>(style: Style, out: &mut [u8; 256], sink: &mut K) -> Result<(), WriteFailed>
+    ensures ok { OnOk result (K.taken sink.new ≡ K.taken sink.old ++ written_version versions.Second style) }
+    ensures err { OnErr result (GrowsByPart (K.taken sink.old) (K.taken sink.new)
+        (written_version versions.Second style)) }
+    ensures sent { K.sent sink.old ≤ K.sent sink.new }
+    ensures cause { K.failures sink.new ≡ K.failures sink.old + failed result }
 {
     match style {
         Style::Entries => {
-            waiting.add(version_line());
-            waiting.add(b"\n");
+            let end = put(out.as_mut_slice(), 0, version_line());
+            end_line(sink, out, end)
         }
-        Style::Replies | Style::Nothing => {}
+        Style::Replies | Style::Nothing => Ok(()),
     }
 }
 
@@ -92,30 +94,28 @@ pub fn is_event(line: Line) -> bool
     !matches!(line, Line::Skip)
 }
 
-/// Does a line, and adds what is written of it to what waits, where there must be room for a line.
-/// Answers whether it is that of an event.
+/// Does a line, and writes to a sink what is written of it, which is made in an array. Answers whether it is that of an event.
 #[inline(always)]
-pub fn play_line(
+pub fn play_line<K: Sink>(
     text: TextLine,
-    waiting: &mut WriteBuffer,
-    player: &mut Player,
     style: Style,
+    player: &mut Player,
+    out: &mut [u8; 256],
+    sink: &mut K,
 ) -> Result<bool, PlayFault>
-    requires { length waiting.old + 256 ≤ 65536 }
-    // This is so after whatever was written before.
-    ensures played { (before : List ℕ)
-        → LinePlayed style (text_in text.entry) (session player.old (before ++ waiting.old))
-        (session player.new (before ++ waiting.new)) result }
-    // No write is in it that could fail, and no read.
-    ensures calls { (writes_failed result ≡ 0) × (reads_failed result ≡ 0) }
+    ensures played { LinePlayed style (text_in text.entry) (session player.old (K.taken sink.old))
+        (session player.new (K.taken sink.new)) result }
+    ensures sent { K.sent sink.old ≤ K.sent sink.new }
+    ensures reads { reads_failed result ≡ 0 }
+    ensures writes { K.failures sink.new ≡ K.failures sink.old + writes_failed result }
 {
     let Some(line) = read_numbered(text)? else {
-        add_version(waiting, style);
+        tell_version(style, out, sink)?;
         return Ok(false);
     };
     if let Line::Command { mutator, command } = line {
         let receipt = player.call(mutator, command)?;
-        add_line(waiting, style, receipt.entry());
+        tell_entry(receipt.entry(), style, out, sink)?;
         return Ok(true);
     }
     do_line(line, text.number, player, &mut ())?;

@@ -17,6 +17,7 @@ use quanta::{CLOCK_LIMIT, Schedule};
 use settings::Config;
 use std::alloc::Global;
 use std::marker::Model;
+use thiserror::Error;
 use trace::{LineFault, PlayFault};
 
 /// A heap with its history, and the schedule of its collector: when quanta are due, the intervals
@@ -55,12 +56,14 @@ impl Model for Player {
 }
 
 /// Why ticks could not pass.
-#[derive(Clone, Copy, Debug, PartialEq, Eq)]
+#[derive(Clone, Copy, Debug, PartialEq, Eq, Error)]
 pub enum TickFault {
     /// The clock would pass its limit. Nothing was done.
+    #[error("clock spent")]
     ClockSpent,
     /// Memory was refused for the interval of a quantum. Those due before it are done, and the clock
     /// has not moved.
+    #[error("no memory")]
     NoMemory,
 }
 

@@ -1,34 +1,18 @@
 //! Playing a trace.
-ghost use Rattle.std.specs.Prelude.{◌≡◌, ◌≢◌, ℕ, ◌+◌, ◌-◌, ◌<◌, ◌++◌, List, [], false, Some, Err, IsTrue, option_map, if◌then◌else◌};
+ghost use Rattle.std.specs.Prelude.{◌≡◌, ◌≢◌, ◌+◌, ◌-◌, ◌<◌, ◌≤◌, ◌^◌, ◌⊎◌, length, false, Some, Err, IsTrue, option_map, if◌then◌else◌};
+ghost use Rattle.trace.specs.LineReader.{ReadsLine, unflushed_as_unread};
 ghost use Rattle.trace.specs.LinesProcessed.{reads_failed, writes_failed};
-ghost use Rattle.streams.specs.Streams.{Stays, GrowsByPart, given_by};
+ghost use Rattle.streams.specs.Streams.{Stays, given_by, taken_by};
 ghost use Rattle.machine.specs.Headline.{Holds, Follows};
+ghost use Rattle.player.specs.declared.style.Style.TheVariants as styles;
 ghost use Rattle.player.specs.New.{StartsWithSpace};
-ghost use Rattle.player.specs.Playing.{session, Played, PlayedFirst, PlayedUpTo};
-ghost use Rattle.player.specs.Closing.{Closes};
+ghost use Rattle.player.specs.Playing.{session, OrHeld, IsSentUpTo, Played, PlayedFirst, PlayedUpTo};
 
 use crate::line::play_line;
 use crate::player::Player;
 use crate::style::Style;
 use streams::{Sink, Source};
-use trace::{LineReader, PlayFault, WriteBuffer};
-
-/// Writes what still waits when the lines have ended. Where that fails, it is what the play ends with.
-fn close<K: Sink>(
-    waiting: &mut WriteBuffer,
-    sink: &mut K,
-    ended: Result<(), PlayFault>,
-) -> Result<(), PlayFault>
-    requires { 0 < reads_failed ended + writes_failed ended → waiting.old ≡ [] }
-    ensures closes { Closes (K.taken sink.old) (K.taken sink.new) waiting.old ended result }
-    ensures reads { reads_failed result ≡ reads_failed ended }
-    ensures writes { K.failures sink.new + writes_failed ended ≡ K.failures sink.old + writes_failed result }
-{
-    match waiting.flush(sink) {
-        Ok(()) => ended,
-        Err(_) => Err(PlayFault::Write),
-    }
-}
+use trace::{LineReader, PlayFault};
 
 /// Whether an event is left, or their number isn't limited.
 fn is_any_left(left: Option<u32>) -> bool
@@ -49,33 +33,59 @@ fn left_after(left: Option<u32>, is_event: bool) -> Option<u32>
     }
 }
 
-/// Plays the lines of a source, up to the line of the nth event where there is an n. What is written of them is
-/// written, or waits.
+/// Hands out the next line. Where something is written of lines, the sink is flushed before the source is asked for more. A
+/// failed flush ends it as a failed read does.
+#[inline(always)]
+fn next_line<S: Source, K: Sink>(
+    reader: &mut LineReader,
+    source: &mut S,
+    sink: &mut K,
+    style: Style,
+) -> Result<bool, PlayFault>
+    requires { reader.old.text.number + length reader.old.kept ≤ length (S.given source.old) }
+    ensures asked { (source.new ≡ source.old) ⊎ ((style ≡ styles.Nothing)
+        ⊎ (K.sent sink.new ≡ length (K.taken sink.old))) }
+    ensures hands { ReadsLine
+        (given_by S.given S.ended source.old source.new) reader.old reader.new (unflushed_as_unread result) }
+    ensures behind { reader.new.text.number + length reader.new.kept ≤ length (S.given source.new) }
+    ensures counted { reader.new.text.number < 2 ^ 64 }
+    ensures taken { K.taken sink.new ≡ K.taken sink.old }
+    ensures sent { K.sent sink.old ≤ K.sent sink.new }
+    ensures held { result ≡ Err PlayFault.Write → (style ≢ styles.Nothing)
+        × (K.sent sink.new < length (K.taken sink.old)) }
+    ensures writes { K.failures sink.new ≡ K.failures sink.old + writes_failed result }
+    ensures reads { S.failures source.new ≡ S.failures source.old + reads_failed result }
+    ensures input { reads_failed result ≡ 0 → Stays (S.input source.old) (S.input source.new) }
+{
+    match style {
+        Style::Nothing => reader.next_line(source),
+        Style::Replies | Style::Entries => reader.next_line_once_flushed(source, sink),
+    }
+}
+
+/// Plays the lines of a source, up to the line of the nth event where there is an n.
 fn play_lines<S: Source, K: Sink>(
     n: Option<u32>,
     source: &mut S,
     sink: &mut K,
-    waiting: &mut WriteBuffer,
     player: &mut Player,
     style: Style,
 ) -> Result<(), PlayFault>
-    requires { waiting.old ≡ [] }
-    ensures played { PlayedUpTo n style (given_by S.given S.ended source.old source.new)
-        (session player.old (K.taken sink.old)) (session player.new (K.taken sink.new ++ waiting.new)) result }
-    // The same where a write of what waits then fails.
-    ensures cut { (taken : List ℕ) → GrowsByPart (K.taken sink.new) taken waiting.new
-        → PlayedUpTo n style (given_by S.given S.ended source.old source.new) (session player.old (K.taken sink.old))
-        (session player.new taken) (Err PlayFault.Write) }
+    ensures played { OrHeld style (taken_by K.taken K.sent sink.old sink.new) result
+        (PlayedUpTo n style (given_by S.given S.ended source.old source.new)
+        (session player.old (K.taken sink.old)) (session player.new (K.taken sink.new))) }
+    ensures sent { IsSentUpTo style (given_by S.given S.ended source.old source.new)
+        (session player.old (K.taken sink.old)) (session player.new (K.taken sink.new)) (K.sent sink.new) }
     ensures none { n ≡ Some 0 → source.new ≡ source.old }
-    ensures nothing { 0 < reads_failed result + writes_failed result → waiting.new ≡ [] }
     ensures reads { S.failures source.new ≡ S.failures source.old + reads_failed result }
     ensures writes { K.failures sink.new ≡ K.failures sink.old + writes_failed result }
     ensures input { reads_failed result ≡ 0 → Stays (S.input source.old) (S.input source.new) }
 {
     let mut reader = LineReader::new();
+    let mut out = [0; 256];
     let mut left = n;
-    while is_any_left(left) && reader.next_line_once_written(waiting, source, sink)? {
-        let is_event = play_line(reader.text(), waiting, player, style)?;
+    while is_any_left(left) && next_line(&mut reader, source, sink, style)? {
+        let is_event = play_line(reader.text(), style, player, &mut out, sink)?;
         left = left_after(left, is_event);
     }
     Ok(())
@@ -83,10 +93,10 @@ fn play_lines<S: Source, K: Sink>(
 
 /// Plays the lines of a source, up to the line of the nth event where there is an n and as many, and writes to a sink
 /// what the style says of each command: each line is done, one after the other, and what was done and written before a
-/// fault stands. Skipped lines are no events. No line after that of the nth event is looked at, and for 0 nothing is
-/// read. What is written waits in a buffer of 65536 bytes, until that has no room for a line, until the source is asked
-/// for more, or until the end. What is left is promised all that is promised of a heap with its history, and space
-/// suffices for what is done from a new player.
+/// fault stands; a failed write is one of the last command's line. Skipped lines are no events. No line after that of the
+/// nth event is looked at, and for 0 nothing is read. Where something is written of lines, the sink is flushed before the
+/// source is asked for more. What waits in it at the end is for the caller to flush. What is left is promised all that is
+/// promised of a heap with its history, and space suffices for what is done from a new player.
 pub fn play_up_to<S: Source, K: Sink>(
     n: Option<u32>,
     source: &mut S,
@@ -94,8 +104,11 @@ pub fn play_up_to<S: Source, K: Sink>(
     player: &mut Player,
     style: Style,
 ) -> Result<(), PlayFault>
-    ensures played { PlayedUpTo n style (given_by S.given S.ended source.old source.new)
-        (session player.old (K.taken sink.old)) (session player.new (K.taken sink.new)) result }
+    ensures played { OrHeld style (taken_by K.taken K.sent sink.old sink.new) result
+        (PlayedUpTo n style (given_by S.given S.ended source.old source.new)
+        (session player.old (K.taken sink.old)) (session player.new (K.taken sink.new))) }
+    ensures sent { IsSentUpTo style (given_by S.given S.ended source.old source.new)
+        (session player.old (K.taken sink.old)) (session player.new (K.taken sink.new)) (K.sent sink.new) }
     ensures none { n ≡ Some 0 → source.new ≡ source.old }
     ensures reads { S.failures source.new ≡ S.failures source.old + reads_failed result }
     ensures writes { K.failures sink.new ≡ K.failures sink.old + writes_failed result }
@@ -104,9 +117,7 @@ pub fn play_up_to<S: Source, K: Sink>(
     ensures space { StartsWithSpace player.old }
 {
     player.recorded().promise();
-    let mut waiting = WriteBuffer::new();
-    let ended = play_lines(n, source, sink, &mut waiting, player, style);
-    close(&mut waiting, sink, ended)
+    play_lines(n, source, sink, player, style)
 }
 
 /// Plays the lines of a source as `play_up_to` does, all of them.
@@ -116,8 +127,11 @@ pub fn play<S: Source, K: Sink>(
     player: &mut Player,
     style: Style,
 ) -> Result<(), PlayFault>
-    ensures played { Played style (given_by S.given S.ended source.old source.new)
-        (session player.old (K.taken sink.old)) (session player.new (K.taken sink.new)) result }
+    ensures played { OrHeld style (taken_by K.taken K.sent sink.old sink.new) result
+        (Played style (given_by S.given S.ended source.old source.new)
+        (session player.old (K.taken sink.old)) (session player.new (K.taken sink.new))) }
+    ensures sent { IsSentUpTo style (given_by S.given S.ended source.old source.new)
+        (session player.old (K.taken sink.old)) (session player.new (K.taken sink.new)) (K.sent sink.new) }
     ensures reads { S.failures source.new ≡ S.failures source.old + reads_failed result }
     ensures writes { K.failures sink.new ≡ K.failures sink.old + writes_failed result }
     ensures input { reads_failed result ≡ 0 → Stays (S.input source.old) (S.input source.new) }
@@ -135,8 +149,11 @@ pub fn play_first<S: Source, K: Sink>(
     player: &mut Player,
     style: Style,
 ) -> Result<(), PlayFault>
-    ensures played { PlayedFirst n style (given_by S.given S.ended source.old source.new)
-        (session player.old (K.taken sink.old)) (session player.new (K.taken sink.new)) result }
+    ensures played { OrHeld style (taken_by K.taken K.sent sink.old sink.new) result
+        (PlayedFirst n style (given_by S.given S.ended source.old source.new)
+        (session player.old (K.taken sink.old)) (session player.new (K.taken sink.new))) }
+    ensures sent { IsSentUpTo style (given_by S.given S.ended source.old source.new)
+        (session player.old (K.taken sink.old)) (session player.new (K.taken sink.new)) (K.sent sink.new) }
     ensures none { n ≡ 0 → source.new ≡ source.old }
     ensures reads { S.failures source.new ≡ S.failures source.old + reads_failed result }
     ensures writes { K.failures sink.new ≡ K.failures sink.old + writes_failed result }

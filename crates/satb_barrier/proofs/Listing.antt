@@ -14,9 +14,9 @@ use Rattle.heap_model.proofs.State.{allocated_pages}
 use Rattle.nodes.specs.declared.heap_fields.HeapFields.{HeapFields}
 use Rattle.nodes.specs.Grey.{MutatorRecords, GreySet, grey_in, in_buffers, inserted, buffer_of, with_buffer, AreLinked}
 use Rattle.nodes.specs.HeapFields.{state_of}
-use Rattle.nodes.proofs.Sorting.{inserted_between, contains-inserted}
-use Rattle.nodes.proofs.Threading.{taken, same_buffer, buffered, record_grey}
-use Rattle.nodes.proofs.Linking.{linked_emptied, linked_more, last_of, some, last_grey, last_linked, hung}
+use Rattle.nodes.proofs.Sorting.{inserted_between, contains-inserted, once-inserted}
+use Rattle.nodes.proofs.Threading.{taken, same_buffer, buffered, record_grey, link_written}
+use Rattle.nodes.proofs.Linking.{linked_more, last_of, some, last_grey, others_stay, unused_stays, linked_hung, hung}
 
 here : (x : ℕ) (xs : List ℕ) → contains (inserted x xs) x ≡ true
 here x xs = contains-inserted x xs x ∙ ap (λ b. b || contains xs x) (eq-eqb x x refl)
@@ -29,11 +29,25 @@ module _ (a : HeapFields) (w : AreGrey (state_of a)) where
     pub first_allocated : is_allocated a.nodes (a.grey.first - 1) ≡ true
     first_allocated = w.allocated a.grey.first (ap (λ xs. contains xs a.grey.first) (taken a.nodes a.grey some few) ∙ here a.grey.first _)
 
-    pub first_taken : (next : ℕ) → next ≡ get_or a.nodes.words (a.grey.first - 1 + 3) 0
-        → (front : List ℕ) × (back : List ℕ) × (grey_in a.nodes a.grey ≡ front ++ a.grey.first ∷ back) × (grey_in a.nodes (record a.grey { first = next }) ≡ front ++ back)
-    first_taken next e =
-        let q = inserted_between a.grey.first (grey_in a.nodes (record a.grey { first = next })) in
-        (q.0, q.1, taken a.nodes a.grey some few ∙ ap (λ x. inserted a.grey.first (grey_in a.nodes (record a.grey { first = x }))) (sym e) ∙ q.3, q.2)
+    -- its link is nulled, and the others are grey
+    module _ (next : ℕ) (e : next ≡ get_or a.nodes.words (a.grey.first - 1 + 3) 0) (new : Store) (is : new ≡ record a.nodes { words = set a.nodes.words (a.grey.first - 1 + 3) 0 }) where
+      abbrev rest : GreySet
+      rest = record a.grey { first = next }
+
+      before : grey_in a.nodes a.grey ≡ inserted a.grey.first (grey_in a.nodes rest)
+      before = taken a.nodes a.grey some few ∙ ap (λ x. inserted a.grey.first (grey_in a.nodes (record a.grey { first = x }))) (sym e)
+
+      fresh : contains (grey_in a.nodes rest) a.grey.first ≡ false
+      fresh = once-inserted a.grey.first (grey_in a.nodes rest) (subst Once before w.once)
+
+      now : grey_in new rest ≡ grey_in a.nodes rest
+      now = ap (λ (s : Store). grey_in s rest) is ∙ link_written a.nodes rest (set a.nodes.words (a.grey.first - 1 + 3) 0) a.grey.first some 0 refl fresh
+
+      pub first_out : grey_in a.nodes a.grey ≡ inserted a.grey.first (grey_in new (record a.grey { first = next }))
+      first_out = before ∙ ap (inserted a.grey.first) (sym now)
+
+      pub first_taken : (front : List ℕ) × (back : List ℕ) × (grey_in a.nodes a.grey ≡ front ++ a.grey.first ∷ back) × (grey_in new (record a.grey { first = next }) ≡ front ++ back)
+      first_taken = let q = inserted_between a.grey.first (grey_in new rest) in (q.0, q.1, first_out ∙ q.3, q.2)
 
 -- a part that is written twice
 set_twice : {A : Type 0} (xs : List A) (i : ℕ) (x y : A) → set (set xs i x) i y ≡ set xs i y
@@ -86,14 +100,19 @@ module _ (s : Store) (g : GreySet) (none : contains (grey_in s g) 0 ≡ false) (
         ap (grey_in new) e ∙ buffered new g m within (buffer_of g m) link ∙ ap (inserted link) (same_buffer new g m within ∙ last_grey s g m within q.0 last link q.1 none once)
 
     module _ (linked : AreLinked s g) where
-      still_linked : AreLinked new g
-      still_linked = last_linked s g m within q.0 last link q.1 none once linked
+      unused : (b : ℕ) → is_allocated new b ≡ true → contains (grey_in s g) (b + 1) ≡ false → get_or new.words (b + 3) 0 ≡ 0
+      unused b h c = unused_stays s g m within q.0 last link q.1 none once b c ∙ linked.unused b (sym (allocated_pages s new b refl) ∙ h) c
 
-      pub more_linked : AreLinked new (with_buffer g m (buffer_of g m ++ link ∷ []))
-      more_linked = linked_more new g m link within still_linked (λ i e. ap (λ x. get_or new.words (x - 1 + 3) 0) (last_at i e) ∙ there)
+      pub more_linked : link ≢ 0 → is_allocated s (link - 1) ≡ true → contains (grey_in s g) link ≡ false → AreLinked new (with_buffer g m (buffer_of g m ++ link ∷ []))
+      more_linked some allocated fresh =
+          linked_more s new g m link within linked (others_stay s g m within q.0 last link q.1 none once)
+          (λ i e. ap (λ x. get_or new.words (x - 1 + 3) 0) (last_at i e) ∙ there)
+          (unused (link - 1) (allocated_pages s new (link - 1) refl ∙ allocated) (ap (contains (grey_in s g)) (let e : link - 1 + 1 ≡ link = omega (arith, some) in e) ∙ fresh))
+          unused (more_grey (with_buffer g m (buffer_of g m ++ link ∷ [])) refl)
 
-      pub hung_linked : (first : ℕ) → AreLinked new (record (with_buffer g m []) { first = first })
-      hung_linked first = linked_emptied new g m first within still_linked
+      -- a record before the last names the next still
+      still_next : (i : ℕ) → i + 1 < length (buffer_of g m) → get_or new.words (get_or (buffer_of g m) i 0 - 1 + 3) 0 ≡ get_or (buffer_of g m) (i + 1) 0
+      still_next i l = let inside : i < length (buffer_of g m) = omega (arith, l) in others_stay s g m within q.0 last link q.1 none once m i inside (λ _. l) ∙ linked.records m i inside
 
       -- the buffer is hung into the list, whose first it names
       pub hung_grey : link ≡ g.first → length (grey_in s g) < 2048 * length s.pages → (first : ℕ) → first ≡ get_or (buffer_of g m) 0 0 → grey_in new (record (with_buffer g m []) { first = first }) ≡ grey_in s g
@@ -114,13 +133,23 @@ module _ (s : Store) (g : GreySet) (none : contains (grey_in s g) 0 ≡ false) (
               ) in
               let next : (i : ℕ) → i < length xs → get_or new.words (get_or (x ∷ xs) i 0 - 1 + 3) 0 ≡ get_or xs i 0 =
               λ i l.
-              subst (λ items. get_or new.words (get_or items i 0 - 1 + 3) 0 ≡ get_or items (i + 1) 0) b (still_linked m i (subst (λ items. i + 1 < length items) (sym b) (omega (arith, l))))
+              subst (λ items. get_or new.words (get_or items i 0 - 1 + 3) 0 ≡ get_or items (i + 1) 0) b (still_next i (subst (λ items. i + 1 < length items) (sym b) (omega (arith, l))))
               ∙ ap (λ j. get_or (x ∷ xs) j 0) (let p : i + 1 ≡ suc i = omega arith in p) in
               let end : get_or new.words (get_or (x ∷ xs) (length xs) 0 - 1 + 3) 0 ≡ g.first =
               ap (λ y. get_or new.words (y - 1 + 3) 0) (ap (λ items. get_or items (length xs) 0) (sym b) ∙ last_at (length xs) (let n = ap length b in omega (arith, n))) ∙ there ∙ names in
               ap (λ y. grey_in new (record (with_buffer g m []) { first = y })) (e ∙ ap (λ items. get_or items 0 0) b)
               ∙ hung new g m within x xs some_there next end (subst (λ ys. length ys < 2048 * length s.pages) (sym all) few)
               ∙ all
+
+      pub hung_linked : link ≡ g.first → length (grey_in s g) < 2048 * length s.pages → (first : ℕ) → first ≡ get_or (buffer_of g m) 0 0 → AreLinked new (record (with_buffer g m []) { first = first })
+      hung_linked names few first e = linked_hung s g m within q.0 last link q.1 none once first linked (hung_grey names few first e)
+
+-- an empty buffer gets its first record, and no link is written
+pub first_linked : (s : Store) (g : GreySet) (m part : ℕ) → m < length g.buffers → AreLinked s g → buffer_of g m ≡ [] → part ≢ 0 → is_allocated s (part - 1) ≡ true → contains (grey_in s g) part ≡ false → AreLinked s (with_buffer g m (buffer_of g m ++ part ∷ []))
+first_linked s g m part within linked empty some allocated fresh =
+    linked_more s s g m part within linked (λ k i l inner. refl) (λ i l. absurd (let n : length (buffer_of g m) ≡ 0 = ap length empty in omega (arith, l, n)))
+    (linked.unused (part - 1) allocated (ap (contains (grey_in s g)) (let e : part - 1 + 1 ≡ part = omega (arith, some) in e) ∙ fresh))
+    linked.unused (buffered s g m within (buffer_of g m) part ∙ ap (inserted part) (same_buffer s g m within))
 
 -- what a mutator's buffer holds after a write of it
 pub buffer_put : (g : GreySet) (m : ℕ) (items : List ℕ) → m < length g.buffers → buffer_of (with_buffer g m items) m ≡ items

@@ -12,8 +12,8 @@ use Rattle.nodes.specs.declared.heap_fields.HeapFields.{HeapFields}
 use Rattle.nodes.specs.Grey.{GreySet, grey_in, inserted, with_buffer, AreLinked}
 use Rattle.nodes.specs.HeapFields.{state_of}
 use Rattle.nodes.specs.GreyAllocated.{AreAllocated}
-use Rattle.nodes.proofs.Keeping.{grey_kept, relinked_writes, writes_relinked}
-use Rattle.nodes.proofs.Linking.{linked_kept, linked_apart}
+use Rattle.nodes.proofs.Keeping.{grey_kept, linked_still, relinked_writes, writes_relinked}
+use Rattle.nodes.proofs.Linking.{linked_listed}
 use Rattle.nodes.proofs.Sorting.{inserted_between, contains-inserted}
 use Rattle.satb_barrier.proofs.Listing.{are_grey_by}
 
@@ -86,18 +86,14 @@ module _ (a mid : HeapFields) (w : AreGrey (state_of a)) (links : Relinks a.node
   all_allocated y c = allocated_new (y - 1) (w.allocated y (ap (λ xs. contains xs y) (sym kept) ∙ c))
 
   still_linked : AreLinked mid.nodes mid.grey → AreLinked new mid.grey
-  still_linked linked =
-      linked_kept mid.nodes new mid.grey linked
-      (λ y c. keeps.each (y - 1) ((are_grey_by a mid w links same mark_parity).allocated y c))
+  still_linked linked = linked_still mid new linked (λ y c. (are_grey_by a mid w links same mark_parity).allocated y c) (ap length written.pages) keeps
 
   pub ready : AreLinked mid.nodes mid.grey → IsReady new mid.grey
   ready linked = (none_null, each_once, all_allocated, still_linked linked)
 
   -- it goes into the list
-  pub linked_in_list : AreLinked mid.nodes mid.grey → (s : Store) → s ≡ record new { words = set new.words (x - 1 + 3) mid.grey.first } → (g : GreySet) → g ≡ record mid.grey { first = g.first } → AreLinked s g
-  linked_in_list linked s written g listed =
-      subst (λ (h : GreySet). AreLinked s h) (sym listed)
-      (subst (λ (t : Store). AreLinked t (record mid.grey { first = g.first })) (sym written) (linked_apart new mid.grey x mid.grey.first (still_linked linked) none_null some fresh))
+  pub linked_in_list : AreLinked mid.nodes mid.grey → (s : Store) → s ≡ record new { words = set new.words (x - 1 + 3) mid.grey.first } → (g : GreySet) → g ≡ record mid.grey { first = g.first } → grey_in s g ≡ inserted x (grey_in new mid.grey) → AreLinked s g
+  linked_in_list linked s is g listed grey = linked_listed new s mid.grey g x (still_linked linked) none_null some fresh is listed grey
 
 -- a record: room was made in the mutator's buffer, and the main copy was coloured and went into it
 pub recorded : (a mid t : HeapFields) (m x : ℕ) (items : List ℕ) → AreGrey (state_of a) → Relinks a.nodes mid.nodes → grey_in mid.nodes mid.grey ≡ grey_in a.nodes a.grey

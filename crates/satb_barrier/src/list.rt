@@ -29,28 +29,41 @@ pub fn push_grey(heap: &mut HeapFields, part: u64)
     heap.grey.set_first(part);
 }
 
-/// Takes a grey part out of the list, the one that came last. The buffers are empty.
+/// Takes a grey part out of the list, the one that came last. Its link is 0 then. The buffers are empty.
 pub fn pop_grey(heap: &mut HeapFields) -> Option<u64>
     requires grey { AreGrey (state_of heap.old) }
+    requires linked { AreLinked heap.old.nodes heap.old.grey }
     requires buffers { in_buffers heap.old.grey.buffers ≡ [] }
     ensures allocated { IfSome result (λ part. is_allocated heap.old.nodes (part - 1) ≡ true) }
     ensures none { IsNone result → ((state_of heap.old).grey ≡ []) × (heap.new ≡ heap.old) }
     ensures taken { IfSome result (λ part. (front : List ℕ) × (back : List ℕ)
         × ((state_of heap.old).grey ≡ front ++ part ∷ back) × ((state_of heap.new).grey ≡ front ++ back)) }
-    ensures same { heap.new ≡ record heap.old { grey = record heap.old.grey { first = heap.new.grey.first } } }
+    ensures unlinked { IfSome result (λ part. heap.new.nodes ≡ record heap.old.nodes {
+      words = slice_set heap.old.nodes.words (part - 1 + 3) 0;
+    }) }
+    ensures links { Relinks heap.old.nodes heap.new.nodes }
+    ensures linked { AreLinked heap.new.nodes heap.new.grey }
+    ensures same { heap.new ≡ record heap.old {
+      nodes = heap.new.nodes;
+      grey = record heap.old.grey { first = heap.new.grey.first };
+    } }
 {
     let part = heap.grey.first();
     if part == 0 {
         return None;
     }
     let next = heap.nodes.link(part as usize - 1);
+    heap.nodes.set_link(part as usize - 1, 0);
     heap.grey.set_first(next);
     Some(part)
 }
 
-/// Adds a part that isn't grey to a mutator's buffer, and links the record before it to it.
+/// Adds an allocated part that isn't grey to a mutator's buffer, and links the record before it to it.
 #[inline(always)]
 pub fn push_record(heap: &mut HeapFields, mutator: u32, part: u64)
+    requires some { part ≢ 0 }
+    requires part { is_allocated heap.old.nodes (part - 1) ≡ true }
+    requires fresh { contains (grey_in heap.old.nodes heap.old.grey) part ≡ false }
     requires none { contains (grey_in heap.old.nodes heap.old.grey) 0 ≡ false }
     requires once { Once (grey_in heap.old.nodes heap.old.grey) }
     requires allocated { AreAllocated heap.old }
@@ -126,6 +139,7 @@ pub fn flush_all(heap: &mut HeapFields)
     ensures links { Relinks heap.old.nodes heap.new.nodes }
     ensures buffers { in_buffers heap.new.grey.buffers ≡ [] }
     ensures count { length heap.new.grey.buffers ≡ length heap.old.grey.buffers }
+    ensures linked { AreLinked heap.new.nodes heap.new.grey }
     ensures same { heap.new ≡ record heap.old { nodes = heap.new.nodes; grey = heap.new.grey } }
     ensures rests { written.records heap.old.phase ≡ false → heap.new ≡ heap.old }
 {

@@ -69,7 +69,7 @@ allowed s e key =
     inside (row_of Library s.mutators key).least (row_of Library s.mutators key).greatest (setting s key) (subst (λ n. pos n ≤ℤ setting s key) (sym w.0) r.0) (omega (arith, ints, r.1, w.1))
 
 -- settings that are in a file's ranges are in the library's
-pub file_within : (s : Settings) → first_outside File s ≡ None → first_outside Library s ≡ None
+file_within : (s : Settings) → first_outside File s ≡ None → first_outside Library s ≡ None
 file_within s e = rw (allowed s e Pages, allowed s e Mutators, allowed s e Slots, allowed s e Statics, allowed s e Identities, allowed s e DefragBelow, allowed s e DefragPages, allowed s e CollectorTicks, allowed s e MutatorTicks, allowed s e Rate, allowed s e Live) refl
 
 -- so are those that are in either's

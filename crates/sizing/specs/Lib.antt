@@ -5,10 +5,3 @@ pub mod Reckoned
 pub mod Promises
 pub mod Meter
 pub mod Measuring
-pub mod AllocationProfile
-pub mod New
-pub mod Fitting
-pub mod Metering
-pub mod Keeping
-pub mod Document
-pub mod Keys

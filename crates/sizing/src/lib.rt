@@ -2,9 +2,7 @@
 //! cycle begins, and what is asked for is counted.
 #![tactic(auto)]
 
-pub mod arrivals;
 pub mod blocks;
-mod load_file;
 mod measured;
 mod meter;
 mod most;
@@ -15,7 +13,6 @@ mod phases;
 mod season;
 mod surveying;
 
-pub use load_file::{DocumentFault, Field, FieldPath, LoadFault, fields_are_in_order, read_load};
 pub use measured::Measured;
 pub use meter::Meter;
 pub use needed::Needed;

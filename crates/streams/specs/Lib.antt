@@ -6,3 +6,4 @@ pub mod Standard
 pub mod WriteSink
 pub mod ReadSource
 pub mod FailAt
+pub mod BufferedSink

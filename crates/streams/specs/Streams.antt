@@ -17,14 +17,16 @@ pub record Given : Type 0 where
 abbrev pub given_by : {S : Type 0} → (S → List ℕ) → (S → Bool) → S → S → Given
 given_by given ended old new = record { before = given old; after = given new; ended = ended new }
 
--- the bytes that a sink had taken before and after
+-- What a sink took between two moments: the bytes that it had taken before and after, and how many of these, the first
+-- ones, it has sent on.
 pub record Taken : Type 0 where
   pub before : List ℕ
   pub after : List ℕ
+  pub sent : ℕ
 
--- the bytes that a sink had taken at two moments, by what contracts see of it
-abbrev pub taken_by : {K : Type 0} → (K → List ℕ) → K → K → Taken
-taken_by taken old new = record { before = taken old; after = taken new }
+-- what a sink took between two moments, by what contracts see of it
+abbrev pub taken_by : {K : Type 0} → (K → List ℕ) → (K → ℕ) → K → K → Taken
+taken_by taken sent old new = record { before = taken old; after = taken new; sent = sent new }
 
 -- where all the bytes of an input are known, they stay
 abbrev pub Stays : Option (List ℕ) → Option (List ℕ) → Type 0

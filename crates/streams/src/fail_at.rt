@@ -6,7 +6,7 @@ use crate::fault::{ReadFailed, WriteFailed};
 use crate::sink::Sink;
 use crate::source::Source;
 
-/// A source or a sink, one call of which fails. All its other calls are passed on. It is for tests.
+/// A source or a sink, of which one read or write fails. All its other calls are passed on. It is for tests.
 #[derive(Drop)]
 pub struct FailAt<T: Drop> {
     inner: T,
@@ -18,7 +18,7 @@ pub struct FailAt<T: Drop> {
 impl<T: Drop> FailAt<T> {
     ghost use Rattle.streams.specs.FailAt.{passes_to, calls_left, own_failures};
 
-    /// Fails this call of those to come, counted from 1, or none where it is 0.
+    /// Fails this read or write of those to come, counted from 1, or none where it is 0.
     pub fn new(inner: T, call: u64) -> FailAt<T>
         ensures inner { passes_to result ≡ inner }
         ensures left { calls_left result ≡ call }
@@ -38,7 +38,7 @@ impl<T: Drop> FailAt<T> {
         &self.inner
     }
 
-    /// Counts a call, and answers whether it is to fail.
+    /// Counts a read or a write, and answers whether it is to fail.
     fn fails_now(&mut self) -> bool
         ensures now { IsTrue result ↔ (calls_left self.old ≡ 1) }
         ensures inner { passes_to self.new ≡ passes_to self.old }
@@ -82,12 +82,20 @@ impl<K: Sink + Drop> Sink for FailAt<K> {
 
     ghost taken = { λ s. K.taken (passes_to s) };
 
+    ghost sent = { λ s. K.sent (passes_to s) };
+
     ghost failures = { λ s. K.failures (passes_to s) + own_failures s };
+
+    ghost within = { λ s. K.within (passes_to s) };
 
     fn write(&mut self, bytes: &[u8]) -> Result<usize, WriteFailed> {
         if self.fails_now() {
             return Err(WriteFailed);
         }
         self.inner.write(bytes)
+    }
+
+    fn flush(&mut self) -> Result<(), WriteFailed> {
+        self.inner.flush()
     }
 }

@@ -1,6 +1,7 @@
 //! Readers and writers of bytes, as contracts see them: what was given, what was taken, and how often a call failed.
 #![tactic(auto)]
 
+pub mod buffered;
 pub mod fail_at;
 mod fault;
 pub mod memory;
@@ -9,6 +10,7 @@ pub mod source;
 pub mod standard;
 mod transcript;
 
+pub use buffered::BufferedSink;
 pub use fail_at::FailAt;
 pub use fault::{ReadFailed, WriteFailed};
 pub use memory::{MemorySink, MemorySource};

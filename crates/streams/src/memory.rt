@@ -1,5 +1,6 @@
 //! Readers and writers over memory.
 ghost use Rattle.std.specs.Prelude.{◌≡◌, ◌<◌, ◌≤◌, ◌^◌, [], Some, take, length, nat_le, min};
+ghost use Rattle.std.proofs.Common.{rules};
 ghost use Rattle.streams.specs.Memory.{take_few, take_begins};
 
 use crate::fault::{ReadFailed, WriteFailed};
@@ -93,7 +94,11 @@ impl MemorySink {
 impl Sink for MemorySink {
     ghost taken = { λ s. s.bytes.items };
 
+    ghost sent = { λ s. length s.bytes.items };
+
     ghost failures = { λ s. s.transcript.failures };
+
+    ghost within = { λ s. Prim.search rules };
 
     fn write(&mut self, bytes: &[u8]) -> Result<usize, WriteFailed> {
         match self.bytes.extend_from_slice(bytes) {
@@ -103,5 +108,9 @@ impl Sink for MemorySink {
                 Err(WriteFailed)
             }
         }
+    }
+
+    fn flush(&mut self) -> Result<(), WriteFailed> {
+        Ok(())
     }
 }

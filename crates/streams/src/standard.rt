@@ -2,6 +2,7 @@
 ghost use Rattle.std.specs.Prelude.{◌≡◌, ◌<◌, ◌≤◌, ◌^◌, ◌+◌, ◌++◌, [], true, false, length, take, IfOk, OnErr};
 ghost use Rattle.std.specs.Option.{ForSome};
 ghost use Rattle.std.specs.Io.KnownBytes.{prepend_known, WriteAppends};
+ghost use Rattle.std.proofs.Common.{rules};
 ghost use Rattle.streams.specs.Standard.{left_begins};
 ghost use Rattle.streams.specs.Streams.{failed};
 
@@ -118,13 +119,18 @@ impl<W: Write + Drop> Sink for WriteSink<W> {
 
     ghost taken = { λ s. s.transcript.bytes };
 
+    ghost sent = { λ s. length s.transcript.bytes };
+
     ghost failures = { λ s. s.transcript.failures };
+
+    ghost within = { λ s. Prim.search rules };
 
     fn write(&mut self, bytes: &[u8]) -> Result<usize, WriteFailed>
         ensures within { IfOk result (λ n. n ≤ length bytes.now) }
         ensures bytes { IfOk result (λ n. sink_taken self.new ≡ sink_taken self.old ++ take n bytes.now) }
         ensures err { OnErr result (sink_taken self.new ≡ sink_taken self.old) }
         ensures some { IfOk result (λ n. 0 < length bytes.now → 0 < n) }
+        ensures sent { length (sink_taken self.old) ≤ length (sink_taken self.new) }
         ensures cause { sink_failures self.new ≡ sink_failures self.old + failed result }
         // Where the writer shows what it contains, that is what the sink has taken.
         ensures writer { WriteAppends (W.contents (sink_writer self.old))
@@ -140,5 +146,9 @@ impl<W: Write + Drop> Sink for WriteSink<W> {
                 Err(WriteFailed)
             }
         }
+    }
+
+    fn flush(&mut self) -> Result<(), WriteFailed> {
+        Ok(())
     }
 }

@@ -6,11 +6,59 @@ ghost use Rattle.heap_model.specs.Action as actions;
 ghost use Rattle.heap_model.specs.Pages.{page_at};
 ghost use Rattle.nodes.specs.Pages.{blocks_on};
 ghost use Rattle.nodes.specs.Acting.{Acts};
+ghost use Rattle.nodes.specs.Grey.{AreLinked};
 ghost use Rattle.nodes.specs.HeapFields.{state_of, AreHeapFields};
+ghost use Rattle.sweeper.specs.Sweeping as sweeping;
+ghost use Rattle.sweeper.specs.Sweeping.{swept_at, place_after, cost_of, SweepsOne};
 
 use heap_model::cost::{CLOSE, LOOK, TURN};
 use heap_model::phase::{Moving, Phase};
 use nodes::{HeapFields, Nodes};
+
+/// What an action of the sweeper did.
+#[derive(Clone, Copy, Debug, PartialEq, Eq)]
+pub enum Swept {
+    /// It looked at a block, which stays.
+    Looked,
+    /// It freed a block.
+    Freed,
+    /// It closed a page.
+    Closed,
+    /// Nothing: all pages are closed.
+    Nothing,
+}
+
+/// Does one action of the sweeper. It looks at a block of a page, and frees it if it is allocated and isn't marked;
+/// where no block of the page is left, it closes the page; where all pages are closed, it does nothing.
+#[inline(always)]
+pub fn sweep_one(heap: &mut HeapFields, page: u32, block: u32) -> Swept
+    requires heap { AreHeapFields heap.old }
+    requires phase { heap.old.phase ≡ phases.Sweeping page block }
+    ensures answer { result ≡ swept_at (state_of heap.old) page block }
+    ensures acts { SweepsOne heap.old result heap.new }
+    ensures same { heap.new ≡ record heap.old {
+      nodes = heap.new.nodes;
+      phase = place_after page block result;
+      units = heap.old.units + cost_of result;
+    } }
+    ensures linked { AreLinked heap.new.nodes heap.new.grey }
+{
+    if heap.nodes.pages() <= page as usize {
+        return Swept::Nothing;
+    }
+    if heap.nodes.blocks(page as usize) <= block as usize {
+        heap.nodes.close_page(page as usize);
+        let next = Phase::Sweeping {
+            page: page + 1,
+            block: 0,
+        };
+        heap.charge(CLOSE, next);
+        return Swept::Closed;
+    }
+    let garbage = is_garbage(heap, page as usize, block as usize);
+    sweep_blocks(heap, page, block, 1);
+    if garbage { Swept::Freed } else { Swept::Looked }
+}
 
 /// Looks at the next blocks of a page, as many as are left or as there is room for: a block that is allocated and
 /// whose colour isn't the one that means marked is freed. Where none is left, it closes the page, and the
@@ -21,6 +69,7 @@ pub fn sweep_next(heap: &mut HeapFields, page: u32, block: u32, room: u32)
     requires room { 0 < room }
     ensures acts { Acts heap.old room heap.new }
     ensures grey { heap.new.grey ≡ heap.old.grey }
+    ensures linked { AreLinked heap.new.nodes heap.new.grey }
 {
     if page as usize >= heap.nodes.pages() {
         let next = after_sweep(heap);
@@ -30,6 +79,9 @@ pub fn sweep_next(heap: &mut HeapFields, page: u32, block: u32, room: u32)
         .nodes
         .blocks(page as usize)
         .saturating_sub(block as usize);
+    if 0 < left && left < room as usize {
+        return sweep_rest(heap, page, block, left as u32);
+    }
     if left > 0 {
         let count = left.min(room as usize) as u32;
         return sweep_blocks(heap, page, block, count);
@@ -46,8 +98,10 @@ fn close_pages(heap: &mut HeapFields, page: u32, block: u32, room: u32)
     requires room { 0 < room }
     ensures acts { Acts heap.old room heap.new }
     ensures grey { heap.new.grey ≡ heap.old.grey }
+    ensures linked { AreLinked heap.new.nodes heap.new.grey }
 {
-    heap.nodes.close_page(page as usize);
+    // No block of the page is left, so this closes it.
+    sweep_one(heap, page, block);
     let first = page as usize + 1;
     let end = heap.nodes.pages().min(page as usize + room as usize);
     let next = free_until(&heap.nodes, first, end) as u32;
@@ -55,7 +109,18 @@ fn close_pages(heap: &mut HeapFields, page: u32, block: u32, room: u32)
         page: next,
         block: 0,
     };
-    heap.charge((next - page) * CLOSE, place);
+    heap.charge((next - page - 1) * CLOSE, place);
+}
+
+/// Whether a block of a page is allocated and isn't marked.
+fn is_garbage(heap: &HeapFields, page: usize, block: usize) -> bool
+    requires { page < length heap.now.nodes.pages }
+    ensures { result ≡ sweeping.is_garbage (state_of heap.now) (page_at heap.now.nodes.pages page) page block }
+{
+    match heap.nodes.allocated_block(page, block) {
+        Some(address) => !heap.nodes.has_colour(address, heap.mark_parity),
+        None => false,
+    }
 }
 
 /// The first page from one on, up to another, that isn't free; the other where all are.
@@ -83,13 +148,39 @@ fn sweep_blocks(heap: &mut HeapFields, page: u32, block: u32, count: u32)
     requires some { 0 < count }
     requires within { block + count ≤ blocks_on (page_at heap.old.nodes.pages page) }
     ensures acts { Chain (state_of heap.old) count (state_of heap.new) }
-    ensures grey { heap.new.grey ≡ heap.old.grey }
+    ensures same { heap.new ≡ record heap.old {
+      nodes = heap.new.nodes;
+      phase = phases.Sweeping page (block + count);
+      units = heap.old.units + count;
+    } }
+    ensures linked { AreLinked heap.new.nodes heap.new.grey }
 {
     let colour = heap.mark_parity;
     heap.nodes
         .sweep(page as usize, block as usize, count as usize, colour);
     let block = block + count;
     heap.charge(count * LOOK, Phase::Sweeping { page, block });
+}
+
+/// Looks at the rest of a page's blocks, and closes the page.
+fn sweep_rest(heap: &mut HeapFields, page: u32, block: u32, count: u32)
+    requires heap { AreHeapFields heap.old }
+    requires phase { heap.old.phase ≡ phases.Sweeping page block }
+    requires page { page < length heap.old.nodes.pages }
+    requires some { 0 < count }
+    requires all { block + count ≡ blocks_on (page_at heap.old.nodes.pages page) }
+    ensures acts { Chain (state_of heap.old) (count + 1) (state_of heap.new) }
+    ensures grey { heap.new.grey ≡ heap.old.grey }
+    ensures linked { AreLinked heap.new.nodes heap.new.grey }
+{
+    let marked = heap.mark_parity;
+    heap.nodes
+        .sweep_and_close(page as usize, block as usize, count as usize, marked);
+    let place = Phase::Sweeping {
+        page: page + 1,
+        block: 0,
+    };
+    heap.charge(count * LOOK + CLOSE, place);
 }
 
 /// The phase after a sweep: moving begins where pages may be emptied, and fewer are free than the

@@ -1,10 +1,12 @@
 -- Lines in a buffer.
-use Rattle.std.proofs.Common.{◌≡◌, ℕ, ◌+◌, ◌-◌, ◌≤◌, ◌<◌, List, ◌∷◌, ◌++◌, length, take, drop, Some, None, Option, arith, length-take, get_or-take, take-take, drop-drop, append_assoc, ap, ◌∙◌, sym, subst}
+use Rattle.std.proofs.Common.{◌≡◌, ℕ, ◌+◌, ◌-◌, ◌≤◌, ◌<◌, List, [], ◌∷◌, ◌++◌, length, take, drop, Some, None, Option, arith, length-take, get_or-take, take-take, drop-drop, append_assoc, append-nil, refl, Bool, Err, ap, ◌∙◌, sym, subst}
 use Rattle.std.specs.Prelude.{IfSome, IsNone, min, slice_range}
 use Rattle.std.proofs.lemmas.Bool.{eqb-true, eq-eqb}
 use Rattle.std.proofs.lemmas.List.{drop-take, get_or_default, take_min}
 use Rattle.memchr.specs.Find.{IsFirstByte, is_byte}
 use Rattle.trace.specs.Lines.{NoLf, IsLine, Comes, FirstLf}
+use Rattle.trace.specs.LineReader.{Lines, IsOutcome, ReadsLine}
+use Rattle.trace.specs.declared.fault.PlayFault.{PlayFault}
 use Rattle.streams.proofs.Cuts.{whole, parted}
 
 -- the first LF of the first n bytes, which are at most 257, is the first of all
@@ -76,4 +78,14 @@ comes_on {given = given} {kept = kept} p q = record {
   more = p.more ++ q.more;
   given_more = q.given_more ∙ ap (λ t. t ++ q.more) p.given_more ∙ append_assoc given p.more q.more;
   makes = sym (append_assoc kept p.more q.more) ∙ ap (λ t. t ++ q.more) p.makes ∙ q.makes;
+}
+
+-- nothing was read, and no line handed out
+pub none_came : (given : List ℕ) (ended : Bool) (old : Lines) (fault : PlayFault) → IsOutcome (Err fault) old ended → length old.kept ≤ 65536 → ReadsLine (record { before = given; after = given; ended = ended }) old old (Err fault)
+none_came given ended old fault says small = record {
+  text = record { more = []; given_more = sym (append-nil given); makes = append-nil old.kept };
+  says = says;
+  number = omega arith;
+  versions = refl;
+  small = small;
 }

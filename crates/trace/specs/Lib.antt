@@ -8,6 +8,5 @@ pub mod LinesProcessed
 pub mod Handling
 pub mod LineReader
 pub mod Buffered
-pub mod Waiting
 pub mod Scripts
 pub mod Histories

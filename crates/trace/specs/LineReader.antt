@@ -1,6 +1,7 @@
 -- What a reader of lines shows, and what its outcomes say.
 use Rattle.std.specs.Prelude.{◌≡◌, ℕ, ◌+◌, ◌≤◌, Bool, true, false, IsTrue, List, [], ◌∷◌, ◌++◌, length, Result, Ok, Err}
 use Rattle.trace.specs.declared.fault.PlayFault.{PlayFault}
+use Rattle.trace.specs.declared.fault.PlayFault.TheVariants.{Read, Write}
 use Rattle.trace.specs.declared.version.Version.{Version}
 use Rattle.trace.specs.declared.version.Version.TheVariants.{First}
 use Rattle.trace.specs.LinesProcessed.{NoLine}
@@ -54,3 +55,8 @@ pub record ReadsLine (given : Given) (old new : Lines) (result : Result Bool Pla
   pub number : new.text.number ≡ old.text.number + lines_by result
   pub versions : Versions result old new
   pub small : length (text_by result new) ≤ 65536
+
+-- an outcome, where what waits can't be written before a read, as that of a read that fails
+abbrev pub unflushed_as_unread : Result Bool PlayFault → Result Bool PlayFault
+unflushed_as_unread (Err Write) = Err Read
+unflushed_as_unread result = result

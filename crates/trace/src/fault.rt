@@ -3,6 +3,7 @@ ghost use Rattle.std.specs.Prelude.{◌≡◌};
 ghost use Rattle.trace.specs.declared.fault.PlayFault.TheVariants as faults;
 
 use graph_heap::NoMemory;
+use streams::WriteFailed;
 use thiserror::Error;
 
 /// What can be wrong with a line of a trace, of a history or of scripts.
@@ -40,7 +41,7 @@ pub enum PlayFault {
     /// A read failed.
     #[error("cannot read")]
     Read,
-    /// A write failed. The last command is done; of the text up to its reply a beginning is out.
+    /// A write failed. The last command is done; of its line a beginning is written.
     #[error("cannot write")]
     Write,
     /// Memory was refused, for what the next line asks.
@@ -53,5 +54,13 @@ impl From<NoMemory> for PlayFault {
 
     fn from(_why: NoMemory) -> PlayFault {
         PlayFault::NoMemory
+    }
+}
+
+impl From<WriteFailed> for PlayFault {
+    ghost from_gives = { λ why fault. fault ≡ faults.Write };
+
+    fn from(_why: WriteFailed) -> PlayFault {
+        PlayFault::Write
     }
 }

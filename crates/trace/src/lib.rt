@@ -15,7 +15,6 @@ mod text_line;
 pub mod transcripts;
 mod version;
 pub mod write;
-pub mod write_buffer;
 
 pub use entry::{EntryLine, read_entry};
 pub use fault::{LineFault, PlayFault};
@@ -27,4 +26,3 @@ pub use text::{end_line, put, put_named};
 pub use text_line::TextLine;
 pub use version::{Version, tells_version, version_line};
 pub use write::{write_command, write_entry, write_reply};
-pub use write_buffer::WriteBuffer;

@@ -1,17 +1,16 @@
 //! Cutting what a source gives into lines.
-ghost use Rattle.std.specs.Prelude.{true, false, ◌⊎◌, Ok, Err, ◌∷◌, ◌++◌, ◌≡◌, ◌==◌, ◌+◌, ◌-◌, ◌<◌, ◌≤◌, ◌^◌, [], length, take, slice_range, IfOk, IfSome, IsNone, OnOk, OnErr, IsTrue};
-ghost use Rattle.streams.specs.Streams.{failed, Stays, GrowsByPart, given_by};
+ghost use Rattle.std.specs.Prelude.{true, false, ◌⊎◌, Ok, Err, ◌∷◌, ◌++◌, ◌≡◌, ◌==◌, ◌+◌, ◌-◌, ◌<◌, ◌≤◌, ◌^◌, length, take, slice_range, IfOk, IfSome, IsNone, OnOk, OnErr, IsTrue};
+ghost use Rattle.streams.specs.Streams.{failed, Stays, given_by};
 ghost use Rattle.memchr.specs.Find.{IsFirstByte, is_byte};
 ghost use Rattle.trace.specs.Lines.{Comes, NoLf, IsLine, FirstLf};
 
 use crate::fault::{LineFault, PlayFault};
 use crate::text_line::TextLine;
 use crate::version::Version;
-use crate::write_buffer::WriteBuffer;
 use memchr::memchr;
 use std::marker::Model;
 use std::simd::prelude::*;
-use streams::{ReadFailed, Sink, Source, WriteFailed};
+use streams::{ReadFailed, Sink, Source};
 
 /// How many bytes are read at once, at most.
 const CAPACITY: usize = 65536;
@@ -112,7 +111,7 @@ impl Model for LineReader {
 
 impl LineReader {
     ghost use Rattle.trace.specs.LinesProcessed.{reads_failed, writes_failed};
-    ghost use Rattle.trace.specs.LineReader.{ReadsLine, no_lines};
+    ghost use Rattle.trace.specs.LineReader.{ReadsLine, no_lines, unflushed_as_unread};
     ghost use Rattle.trace.specs.TextLine.{text_in, IsNextVersion};
 
     /// A reader that has read nothing yet.
@@ -260,38 +259,34 @@ impl LineReader {
         Ok(true)
     }
 
-    /// Hands out the next line, as `next_line` does. Before the source is read, and where there is no room
-    /// for a line, what waits in a buffer is written: so nothing waits while the source is asked for more.
-    pub fn next_line_once_written<S: Source, K: Sink>(
+    /// Hands out the next line, as `next_line` does. Before the source is read the sink is flushed, so nothing waits in the
+    /// sink while the source is asked for more. A failed flush ends it as a failed read does.
+    pub fn next_line_once_flushed<S: Source, K: Sink>(
         &mut self,
-        waiting: &mut WriteBuffer,
         source: &mut S,
         sink: &mut K,
     ) -> Result<bool, PlayFault>
         requires { self.old.text.number + length self.old.kept ≤ length (S.given source.old) }
-        // The source was asked for nothing, or all that waited is written.
-        ensures asked { (source.new ≡ source.old) ⊎ (waiting.new ≡ []) }
-        ensures room { result ≡ Ok true → length waiting.new + 256 ≤ 65536 }
-        ensures whole { writes_failed result ≡ 0 → K.taken sink.new ++ waiting.new ≡ K.taken sink.old ++ waiting.old }
-        ensures part { result ≡ Err PlayFault.Write → GrowsByPart (K.taken sink.old) (K.taken sink.new) waiting.old
-            × (waiting.new ≡ []) }
-        ensures grows { length (K.taken sink.old) ≤ length (K.taken sink.new) }
-        ensures hands { writes_failed result ≡ 0
-            → ReadsLine (given_by S.given S.ended source.old source.new) self.old self.new result }
+        // The source was asked for nothing, or all that the sink has taken is sent on.
+        ensures asked { (source.new ≡ source.old) ⊎ (K.sent sink.new ≡ length (K.taken sink.new)) }
+        ensures hands { ReadsLine
+            (given_by S.given S.ended source.old source.new) self.old self.new (unflushed_as_unread result) }
         ensures behind { self.new.text.number + length self.new.kept ≤ length (S.given source.new) }
         ensures counted { self.new.text.number < 2 ^ 64 }
-        // Where a write failed, no line was handed out, and nothing was read.
-        ensures stays { result ≡ Err PlayFault.Write → (self.new ≡ self.old) × (source.new ≡ source.old) }
+        ensures taken { K.taken sink.new ≡ K.taken sink.old }
+        ensures sent { K.sent sink.old ≤ K.sent sink.new }
+        ensures held { result ≡ Err PlayFault.Write → K.sent sink.new < length (K.taken sink.new) }
         ensures writes { K.failures sink.new ≡ K.failures sink.old + writes_failed result }
         ensures reads { S.failures source.new ≡ S.failures source.old + reads_failed result }
         ensures input { reads_failed result ≡ 0 → Stays (S.input source.old) (S.input source.new) }
     {
-        if waiting.has_room() && self.cut_line() {
+        if self.cut_line() {
             return Ok(true);
         }
-        match waiting.flush(sink) {
-            Ok(()) => self.next_line(source),
-            Err(WriteFailed) => Err(PlayFault::Write),
+        if self.kept() > LONGEST {
+            return Err(self.fault(LineFault::TooLong));
         }
+        sink.flush()?;
+        self.next_line(source)
     }
 }

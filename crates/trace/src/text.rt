@@ -122,6 +122,7 @@ pub fn end_line<K: Sink>(sink: &mut K, out: &mut [u8; 256], end: usize) -> Resul
     requires { end < 256 }
     ensures ok { OnOk result (K.taken sink.new ≡ K.taken sink.old ++ (take end out.old ++ 10 ∷ [])) }
     ensures err { OnErr result (GrowsByPart (K.taken sink.old) (K.taken sink.new) (take end out.old ++ 10 ∷ [])) }
+    ensures sent { K.sent sink.old ≤ K.sent sink.new }
     ensures cause { K.failures sink.new ≡ K.failures sink.old + failed result }
 {
     out[end] = b'\n';

@@ -109,13 +109,13 @@ fn put_reply(out: &mut [u8], at: usize, reply: &Reply) -> usize
 /// Writes a reply at a place, without LF, and answers the place after it. What stands before the
 /// place stays.
 #[inline(always)]
-pub fn write_reply(reply: &Reply, out: &mut [u8], at: usize) -> usize
-    requires { at + 78 ≤ length out.old }
+pub fn write_reply(reply: &Reply, out: &mut [u8; 256], at: usize) -> usize
+    requires { at ≤ 128 }
     ensures text { take result out.new ≡ take at out.old ++ reply_text reply.now }
     ensures short { length (reply_text reply.now) ≤ 78 }
     ensures place { result ≡ at + length (reply_text reply.now) }
 {
-    put_reply(out, at, reply)
+    put_reply(out.as_mut_slice(), at, reply)
 }
 
 /// Writes an entry's line, without LF, at the front, and answers the place after it.
@@ -126,5 +126,5 @@ pub fn write_entry(entry: &Entry, out: &mut [u8; 256]) -> usize
 {
     let next = write_command(entry.mutator, &entry.command, out, 0);
     let next = put(out.as_mut_slice(), next, b" => ");
-    write_reply(&entry.reply, out.as_mut_slice(), next)
+    write_reply(&entry.reply, out, next)
 }

@@ -68,11 +68,32 @@ static void check_whole_cycle(void) {
     IS(METRONOME_OK, metronome_seat_leave(&own));
 }
 
+/* A whole cycle frees the pages that moving emptied, also if a cycle is running: three objects of 24 live, one on each page. */
+static void check_whole_cycle_that_moves(void) {
+    uint32_t m = THREADS;
+    metronome_seat moving = METRONOME_NO_SEAT;
+    metronome_settings settings = METRONOME_SETTINGS(4, 1, 64);
+    settings.defrag_below = 5;
+    settings.defrag_pages = 4;
+    IS(METRONOME_OK, metronome_seat_create(&moving, &settings));
+    IS(METRONOME_OK, metronome_seat_enter(&moving));
+    IS(METRONOME_OK, metronome_seat_begin(&moving));
+    for (uint32_t slot = 0; slot < 24; slot++) NEED(metronome_seat_new_plain(&moving, 0, slot, 0, 252).kind == METRONOME_MADE);
+    for (uint32_t slot = 0; slot < 24; slot++)
+        if (slot % 8 != 0) NEED(metronome_seat_clear(&moving, 0, slot).kind == METRONOME_DONE);
+    NEED(metronome_seat_new_plain(&moving, 0, 1, 0, 100).kind == METRONOME_MADE);
+    NEED(metronome_seat_new_plain(&moving, 0, 2, 0, 60).number == METRONOME_NO_SPACE);
+    IS(METRONOME_OK, metronome_seat_whole_cycle(&moving, BUDGET));
+    NEED(metronome_seat_new_plain(&moving, 0, 2, 0, 60).kind == METRONOME_MADE);
+    metronome_seat_destroy(&moving);
+}
+
 int main(void) {
     metronome_settings settings = METRONOME_SETTINGS(PAGES, THREADS, SLOTS);
     pthread_t threads[THREADS];
     if (metronome_seat_create(&own, &settings) != METRONOME_OK) return 2;
     check_whole_cycle();
+    check_whole_cycle_that_moves();
     for (uint32_t m = THREADS; m > 0; m--)
         if (metronome_seat_another(&own, &seats[m - 1], m - 1) != METRONOME_OK) return 2;
     for (uintptr_t m = 0; m < THREADS; m++)

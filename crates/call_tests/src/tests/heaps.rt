@@ -49,6 +49,40 @@ fn events_are_done_in_their_order(rt: HostRuntime) -> Result<(), NoMemory> {
     Ok(())
 }
 
+/// A full page has room again after a cycle, through one list of events for whose commands room was made.
+#[test]
+fn a_list_of_events_has_the_room_that_was_made(rt: HostRuntime) -> Result<(), NoMemory> {
+    let alloc = rt.alloc();
+    let mut heap = Recorded::new(alloc, &config_of(&rt, &ONE_PAGE))?;
+    let mut events = Vec::new(alloc);
+    for slot in 0..8 {
+        events.push(called(words(slot, 252)))?;
+    }
+    events.push(called(words(8, 252)))?;
+    events.push(called(Command::Describe { a: 7 }))?;
+    events.push(called(Command::Describe { a: 8 }))?;
+    events.push(called(Command::Clear { dst: 3 }))?;
+    events.push(Event::Begin)?;
+    events.push(Event::Quantum(256))?;
+    events.push(called(words(3, 252)))?;
+    heap.reserve(13)?;
+    heap.run(events.as_slice())?;
+    let replies = [
+        Reply::Made(8),
+        Reply::Refused(Refusal::NoSpace),
+        Reply::Described(8, Shape::WordArray(252)),
+        Reply::Refused(Refusal::NullSlot),
+        Reply::Done,
+        Reply::Made(9),
+    ];
+    assert_eq!(rt; heap.history().len(), 13);
+    for (entry, reply) in heap.history().iter().skip(7).zip(replies) {
+        assert_eq!(rt; entry.reply, reply);
+    }
+    assert_eq!(rt; heap.heap().units(), 28);
+    Ok(())
+}
+
 /// What a cycle spends at most: of a page, of three that are emptied, and of 34.
 #[test]
 fn the_limits_of_cycles(rt: HostRuntime) {

@@ -47,7 +47,7 @@ fn lists_are_done_up_to_a_refusal(rt: HostRuntime) {
         slots: 4,
         ..Settings::DEFAULTS
     };
-    let Ok(config) = Config::check(Ranges::Library, &settings) else {
+    let Ok(config) = Config::check_for_library(&settings) else {
         panic!(rt; "the settings are good");
     };
     let Ok(heap) = Heap::new(rt.alloc(), &config) else {

@@ -74,13 +74,14 @@ impl Gate for Meeting {
 fn all_three_meet(rt: HostRuntime) -> Result<(), NoMemory> {
     let alloc = rt.alloc();
     let meeting = Meeting::new();
-    let scripts = [
+    let scripts = vec![in alloc;
         vec![in alloc; Command::Clear { dst: 0 }, Command::Clear { dst: 2 }]?,
         vec![in alloc; Command::Clear { dst: 1 }, Command::Clear { dst: 3 }]?,
-    ];
+    ]?;
+    let budgets = vec![in alloc; 256; 2]?;
     let config = config_of(&rt, &MANY_SLOTS);
     assert!(&rt; config.mutators == 2);
-    let outcome = play_threads(&rt, alloc, &config, &scripts, &[256; 2], &meeting)?;
+    let outcome = play_threads(&rt, alloc, &config, scripts, budgets, &meeting)?;
     assert!(&rt; outcome.all && outcome.recorded.heap().units() == 512);
     for flag in &meeting.flags {
         assert!(&rt; flag.load(Ordering::SeqCst) == 1);

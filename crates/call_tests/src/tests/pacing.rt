@@ -18,7 +18,7 @@ fn moving_all(rt: &impl Abort, collector_ticks: i64) -> Config {
         collector_ticks,
         ..Settings::DEFAULTS
     };
-    let Ok(config) = Config::check(Ranges::Library, &settings) else {
+    let Ok(config) = Config::check_for_library(&settings) else {
         panic!(rt; "the settings are good");
     };
     config

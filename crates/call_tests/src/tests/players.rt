@@ -1,11 +1,13 @@
-//! A tick that is refused memory and goes on, replies of a front of a trace, texts of faults, for which the program has
-//! its own, and a write of no bytes.
+//! A tick that is refused memory and goes on, writes of replies that fail, replies that wait, texts of faults, for which the
+//! program has its own, and a write of no bytes.
 use super::*;
 use graph_heap::NoMemory;
 use player::{Player, Style, TickFault, play, play_first};
 use std::alloc::AllocGlobal;
 use std::test::Fail;
-use streams::{FailAt, MemorySink, MemorySource, ReadFailed, Sink, WriteFailed, WriteSink};
+use streams::{
+    BufferedSink, FailAt, MemorySink, MemorySource, ReadFailed, Sink, WriteFailed, WriteSink,
+};
 use trace::{LineFault, PlayFault};
 
 /// Quanta of 260 units.
@@ -46,20 +48,68 @@ fn ticks_end_where_memory_is_refused(rt: HostRuntime) -> Result<(), Fail> {
     Ok(())
 }
 
-/// The replies of what is read at once are one write, also after the last event that is asked for.
+/// Few identities, so that an object may be refused for want of one.
+const TWO_IDENTITIES: Settings = Settings {
+    identities: 2,
+    ..FOUR_PAGES
+};
+
+/// Commands with many refusals among their replies.
+const COMMANDS: &str =
+    "2 clear 0\n0 clear 4\n0 load 0 1 0\n0 new 0 refs 2\n0 get 0 0\n0 load 1 0 2\n\
+    0 loadstatic 1 1\n0 new 1 plain 200 53\n0 new 1 words 1\n0 put 1 0 18446744073709551615\n0 casput 1 0 5 6\n\
+    0 casput 1 0 18446744073709551615 6\n0 get 1 0\n0 new 2 words 1\n0 store 1 0 0\n0 cas 0 1 0 0\n0 cas 0 1 2 0\n\
+    0 load 2 0 1\n";
+
+/// Their replies.
+const REPLIES: &str =
+    "refused 1\nrefused 1\nrefused 2\nmade 1\nrefused 4\nrefused 3\nrefused 8\nrefused 5\n\
+    made 2\ndone\nkeptword 18446744073709551615\nstored\nword 6\nrefused 6\nrefused 4\nkept 0\nstored\nref 1\n";
+
+/// How many lines there are of commands, and of replies.
+const LINES: usize = 18;
+
+/// How many lines end in these bytes.
+fn line_ends(bytes: &[u8]) -> usize {
+    bytes.iter().filter(|byte| **byte == b'\n').count()
+}
+
+/// The write of each reply fails in turn, and the last time none: the replies before it are written, and the commands up to its
+/// own are done.
 #[test]
-fn replies_up_to_an_event_are_written(rt: HostRuntime) -> Result<(), Fail> {
-    let trace = "0 new 0 plain 0 1\n0 put 0 0 7\n0 get 0 0\n";
-    for (n, replies) in [(1u32, "made 1\n"), (2, "made 1\ndone\n")] {
-        for (call, written, answer) in [(1u64, "", Err(PlayFault::Write)), (2, replies, Ok(()))] {
-            let mut player = player(&rt)?;
-            let mut source = MemorySource::new(trace.as_bytes());
-            let mut sink = FailAt::new(MemorySink::new(rt.alloc()), call);
-            let found = play_first(n, &mut source, &mut sink, &mut player, Style::Replies);
-            assert_eq!(rt; found, answer);
-            assert_eq!(rt; player.recorded().history().len(), n as usize);
-            assert_eq!(rt; sink.get_ref().bytes(), written.as_bytes());
-        }
+fn a_failed_write_ends_a_play_with_its_command(rt: HostRuntime) -> Result<(), Fail> {
+    for call in 1..LINES + 2 {
+        let mut player = Player::new(rt.alloc(), &config_of(&rt, &TWO_IDENTITIES))?;
+        let mut source = MemorySource::new(COMMANDS.as_bytes());
+        let mut sink = FailAt::new(MemorySink::new(rt.alloc()), call as u64);
+        let found = play(&mut source, &mut sink, &mut player, Style::Replies);
+        let written = sink.get_ref().bytes();
+        assert_eq!(rt; found.is_ok(), call > LINES);
+        assert_eq!(rt; player.recorded().history().len(), call.min(LINES));
+        assert_eq!(rt; line_ends(written), call.saturating_sub(1));
+        assert!(rt; REPLIES.as_bytes().starts_with(written));
+    }
+    Ok(())
+}
+
+/// Replies wait in a buffered sink until it is flushed. Where a write of them fails, they wait on.
+#[test]
+fn replies_wait_in_a_buffered_sink(rt: HostRuntime) -> Result<(), Fail> {
+    for (call, first) in [(1u64, Err(WriteFailed)), (2, Ok(()))] {
+        let mut player = player(&rt)?;
+        let mut source = MemorySource::new(
+            "0 new 0 plain 0 1\n0 put 0 0 7\n0 get 0 0\n".as_bytes(),
+        );
+        let mut sink = BufferedSink::new(FailAt::new(MemorySink::new(rt.alloc()), call));
+        let found = play_first(2, &mut source, &mut sink, &mut player, Style::Replies);
+        assert_eq!(rt; found, Ok(()));
+        assert!(rt; sink.get_ref().get_ref().bytes().is_empty());
+        assert_eq!(rt; sink.flush(), first);
+        assert_eq!(rt; sink.flush(), Ok(()));
+        assert_eq!(rt;
+            sink.get_ref().get_ref().bytes(),
+            "made 1\ndone\n".as_bytes()
+        );
     }
     Ok(())
 }
@@ -82,6 +132,9 @@ fn faults_have_texts(rt: HostRuntime) -> Result<(), Fail> {
     for (fault, text) in faults {
         assert_eq!(rt; format!(in rt.alloc(); "{fault}")?.as_str(), text);
     }
+    let ticks = TickFault::ClockSpent;
+    let spent = format!(in rt.alloc(); "{ticks}")?;
+    assert_eq!(rt; spent.as_str(), "clock spent");
     let read = format!(in rt.alloc(); "{ReadFailed}")?;
     assert_eq!(rt; read.as_str(), "cannot read");
     let write = format!(in rt.alloc(); "{WriteFailed}")?;
@@ -93,4 +146,23 @@ fn faults_have_texts(rt: HostRuntime) -> Result<(), Fail> {
 fn a_write_of_no_bytes_is_no_failure(rt: HostRuntime) {
     let mut sink = WriteSink::new(Vec::new(rt.alloc()));
     assert_eq!(rt; sink.write(b""), Ok(0));
+}
+
+/// Whatever one byte of two lines becomes, all lines are done, or one is refused.
+#[test]
+fn each_byte_becomes_each_other(rt: HostRuntime) -> Result<(), Fail> {
+    let trace = "0 new 0 plain 0 0\n0 describe 0\n";
+    for place in 0..trace.len() {
+        for value in 0u8..=255 {
+            let mut bytes = Vec::new(rt.alloc());
+            bytes.extend_from_slice(trace.as_bytes())?;
+            bytes.as_mut_slice()[place] = value;
+            let mut player = player(&rt)?;
+            let mut source = MemorySource::new(bytes.as_slice());
+            let mut sink = MemorySink::new(rt.alloc());
+            let found = play(&mut source, &mut sink, &mut player, Style::Replies);
+            assert!(rt; matches!(found, Ok(()) | Err(PlayFault::Line(..))));
+        }
+    }
+    Ok(())
 }

@@ -2,7 +2,7 @@
 use Rattle.std.proofs.Common.{◌≡◌, ℕ, ◌+◌, ◌-◌, ◌*◌, ◌/◌, ◌<◌, ◌≤◌, ◌⊎◌, inl, inr, Bool, true, false, nat_le, if◌then◌else◌, List, [], ◌∷◌, length, ap, ◌∙◌, sym, subst, arith, refl}
 use Rattle.std.specs.Prelude.{min}
 use Rattle.std.proofs.lemmas.Nat.{le-div}
-use Rattle.std.proofs.lemmas.Bool.{le-leb}
+use Rattle.std.proofs.lemmas.Bool.{le-leb, leb-true}
 use Rattle.std.proofs.Math.Nat.{le-min, mul-le-mul_left, mul-le-mul_right, lt-div-mul-add}
 use Rattle.size_classes.specs.declared.class.TheConstants.{CLASSES, PAGE_WORDS}
 use Rattle.heap_model.specs.declared.phase.Phase.{Phase}
@@ -15,7 +15,7 @@ use Rattle.heap_model.specs.Settings.{HeapSettings}
 use Rattle.heap_model.specs.Spent.{IsWithin, swept_units, moving_work}
 use Rattle.heap_model.specs.Opening.{IsOpening}
 use Rattle.heap_model.specs.ReachedFrom.{opened}
-use Rattle.heap_model.specs.Event.{Course, Event, Command_done, Cycle_begun, Begin_refused, Quantum_done, Quantum_refused, Collects, Does, Runs, HaveBudgets, present_of, snapshot_of, room_for, change_by}
+use Rattle.heap_model.specs.Event.{Course, Event, Command_done, Cycle_begun, Begin_refused, Quantum_done, Quantum_refused, Collects, Does, Runs, IsCourse, HaveBudgets, present_of, snapshot_of, room_for, change_by}
 use Rattle.heap_model.proofs.Represents.{idle_chain}
 use Rattle.heap_model.proofs.Spent.Actions.{moving_bound}
 use Rattle.heap_model.proofs.QuantumSpending.Costs.{turn_left}
@@ -26,7 +26,7 @@ use Rattle.space.proofs.Paces.Spending.{same_swept}
 use Rattle.space.proofs.Paces.Shifted.{at_units, chain_at}
 use Rattle.space.proofs.Paces.Moved.{HasMoved, a_move, first_moved, next_moved, command_moved}
 use Rattle.fragmentation.specs.Season.{Season, Lives, opening_season, season_after}
-use Rattle.fragmentation.specs.Flow.{Flow, FlowMeter, opening_meter, next_meter, KeepsFlow, AllMetered, traced_words, live_most, sweep_quanta, flow_moving, flow_quanta}
+use Rattle.fragmentation.specs.Flow.{Flow, FlowMeter, opening_meter, next_meter, meter_after, KeepsFlow, AllMetered, traced_words, live_most, sweep_quanta, flow_moving, flow_quanta}
 use Rattle.fragmentation.proofs.Flows.Kept.{FitsFlow}
 use Rattle.fragmentation.proofs.Flows.Moving.{moving_few}
 use Rattle.space.specs.Counts.{evacuating_pages}
@@ -205,18 +205,33 @@ module _ (h : HeapState) (f : Flow) (k : ℕ) (great : 256 ≤ k) (some : 0 < k)
   counts : (budget n : ℕ) → k ≤ budget → (if nat_le k budget then n + 1 else n) ≡ n + 1
   counts budget n l = ap (λ b. if b then n + 1 else n) (le-leb k budget l)
 
-  goes_quantum : (r new : Course) (budget units : ℕ) (phase : Phase) (s : Season) (t : FlowMeter) → IsKept r s t → Goes r t → k ≤ budget → Collects r budget units phase new → IsKept new (season_after lived s (Quantum_done budget units phase)) (next_meter k t (Quantum_done budget units phase))
+  -- A quantum that ends in moving, and needn't spend anything.
+  any_moved : (r new : Course) (more units budget spends : ℕ) (phase : Phase) → IsCourse r → HasMoved k h r (more + 1) more units → Collects r budget spends phase new → HasMoved k h new (more + 1) more (units + spends)
+  any_moved r new more units budget spends phase w v q = record {
+    one = refl;
+    spent = (let a = v.spent in omega (arith, a));
+    within = next.within;
+  }
+    where
+      -- how much is spent matters to no pages
+      loose : HasMoved 255 h r (more + 1) more units
+      loose = record { one = refl; spent = (let a = v.spent in let z : more * (255 - 255) ≡ 0 = none more in omega (arith, a, z)); within = v.within }
+        where
+          none : (n : ℕ) → n * (255 - 255) ≡ 0
+          none n = grind arith
+
+      next : HasMoved 255 h new (more + 1 + 1) (more + 1) (units + spends)
+      next = next_moved 255 h r new (more + 1) more units budget spends phase w loose q (omega arith)
+
+  goes_quantum : (r new : Course) (budget units : ℕ) (phase : Phase) (s : Season) (t : FlowMeter) → IsKept r s t → Goes r t → Collects r budget units phase new → IsKept new (season_after lived s (Quantum_done budget units phase)) (next_meter k t (Quantum_done budget units phase))
       → Goes new (next_meter k t (Quantum_done budget units phase))
-  goes_quantum r new budget units phase s t w g enough q v on past = by_on (in_cycle r.heap.phase) (awaits_sweep_end r.heap.phase) refl refl
+  goes_quantum r new budget units phase s t w g q v on past = by_on (in_cycle r.heap.phase) (awaits_sweep_end r.heap.phase) refl refl
     where
       m : (m : Moving) × (new.heap.phase ≡ phases.Moving m)
       m = a_move new.heap.phase on past
 
-      is : (if nat_le k budget then t.quanta + 1 else t.quanta) ≡ t.quanta + 1
-      is = counts budget t.quanta enough
-
-      spends : k - 255 ≤ units
-      spends = elim (turn_left r.heap new.heap budget units v.course.represents.pages q.turn) [
+      spends : k ≤ budget → k - 255 ≤ units
+      spends enough = elim (turn_left r.heap new.heap budget units v.course.represents.pages q.turn) [
         | inl e ↦ absurd (let z : false ≡ true = sym (ap in_cycle e) ∙ on in cc)
         | inr l ↦ omega (arith, l, enough)
       ]
@@ -233,22 +248,43 @@ module _ (h : HeapState) (f : Flow) (k : ℕ) (great : 256 ≤ k) (some : 0 < k)
             has = first_moved k h new m.0 (same_swept h new.heap v.flowing.limit v.flowing.settings) v.course.represents.within m.1;
             leaves = leaves_chain r.heap new.heap units (leaves_none r.heap.store.pages r.heap.phase y) q.turn.chain;
             receives = first_receives h new.heap m.0 m.1 (same_swept h new.heap v.flowing.limit v.flowing.settings);
-            few = omega (arith, l, is);
+            few = once (nat_le k budget) l;
           }
-      by_on true false i j =
-          let x = g i j in
-          let l = x.few in
-          record {
+        where
+          once : (b : Bool) → t.quanta + 1 ≤ most → (if b then t.quanta + 1 else t.quanta) ≤ most + 0
+          once true l = omega (arith, l)
+          once false l = omega (arith, l)
+      by_on true false i j = by_size (nat_le k budget) refl
+        where
+          x : HasGone r t
+          x = g i j
+
+          leaves : Leaves new.heap.store.pages new.heap.phase
+          leaves = leaves_chain r.heap new.heap units x.leaves q.turn.chain
+
+          receives : Receives (swept_units h) (at_units (x.units + units) new.heap) new.heap.phase
+          receives = receives_chain (swept_units h) (at_units x.units r.heap) (at_units (x.units + units) new.heap) units j x.receives (chain_at x.units r.heap new.heap units q.turn.chain)
+
+          by_size : (b : Bool) → nat_le k budget ≡ b → HasGone new (next_meter k t (Quantum_done budget units phase))
+          by_size true e = record {
             more = x.more + 1;
             units = x.units + units;
-            has = next_moved k h r new (x.more + 1) x.more x.units budget units phase w.course x.has q spends;
-            leaves = leaves_chain r.heap new.heap units x.leaves q.turn.chain;
-            receives = receives_chain (swept_units h) (at_units x.units r.heap) (at_units (x.units + units) new.heap) units j x.receives (chain_at x.units r.heap new.heap units q.turn.chain);
-            few = omega (arith, l, is);
+            has = next_moved k h r new (x.more + 1) x.more x.units budget units phase w.course x.has q (spends (leb-true k budget e));
+            leaves = leaves;
+            receives = receives;
+            few = (let l = x.few in let c : (if nat_le k budget then t.quanta + 1 else t.quanta) ≡ t.quanta + 1 = ap (λ b. if b then t.quanta + 1 else t.quanta) e in omega (arith, l, c));
+          }
+          by_size false e = record {
+            more = x.more;
+            units = x.units + units;
+            has = any_moved r new x.more x.units budget units phase w.course x.has q;
+            leaves = leaves;
+            receives = receives;
+            few = (let l = x.few in let c : (if nat_le k budget then t.quanta + 1 else t.quanta) ≡ t.quanta = ap (λ b. if b then t.quanta + 1 else t.quanta) e in omega (arith, l, c));
           }
 
-  goes_next : (r new : Course) (e : Event) (s : Season) (t : FlowMeter) → IsKept r s t → Goes r t → HaveBudgets k (e ∷ []) → Does r e new → IsKept new (season_after lived s e) (next_meter k t e) → Goes new (next_meter k t e)
-  goes_next r new (Command_done m c reply) s t w g enough does v on past =
+  goes_next : (r new : Course) (e : Event) (s : Season) (t : FlowMeter) → IsKept r s t → Goes r t → Does r e new → IsKept new (season_after lived s e) (next_meter k t e) → Goes new (next_meter k t e)
+  goes_next r new (Command_done m c reply) s t w g does v on past =
       let left = command_left r new m c reply does in
       let x = g (sym (ap in_cycle left.phase) ∙ on) (sym (ap awaits_sweep_end left.phase) ∙ past) in
       let gets = gets_change r.heap new.heap (present_of r) (change_by (room_for r.heap c) (present_of r) m c) does.change in
@@ -260,10 +296,18 @@ module _ (h : HeapState) (f : Flow) (k : ℕ) (great : 256 ≤ k) (some : 0 < k)
         receives = subst (Receives (swept_units h) (at_units x.units new.heap)) (sym left.phase) (receives_gets (swept_units h) (at_units x.units r.heap) (at_units x.units new.heap) r.heap.phase gets refl x.receives);
         few = x.few;
       }
-  goes_next r new Cycle_begun s t w g enough does v on past = absurd (let z : true ≡ false = sym (ap (λ (z : HeapState). awaits_sweep_end z.phase) does.heap) ∙ past in cc)
-  goes_next r new Begin_refused s t w g enough does v on past = subst (λ z. Goes z t) (sym does.1) g on past
-  goes_next r new (Quantum_done budget units phase) s t w g enough does v on past = goes_quantum r new budget units phase s t w g enough.0 does v on past
-  goes_next r new (Quantum_refused budget) s t w g enough does v on past = subst (λ z. Goes z t) (sym does.1) g on past
+  goes_next r new Cycle_begun s t w g does v on past = absurd (let z : true ≡ false = sym (ap (λ (z : HeapState). awaits_sweep_end z.phase) does.heap) ∙ past in cc)
+  goes_next r new Begin_refused s t w g does v on past = subst (λ z. Goes z t) (sym does.1) g on past
+  goes_next r new (Quantum_done budget units phase) s t w g does v on past = goes_quantum r new budget units phase s t w g does v on past
+  goes_next r new (Quantum_refused budget) s t w g does v on past = subst (λ z. Goes z t) (sym does.1) g on past
+
+  -- after events, a cycle that runs has had fewer quanta than it takes
+  pub gone_after : (es : List Event) (r new : Course) (s : Season) (t : FlowMeter) → IsKept r s t → Goes r t → Runs r es new → AllFlow f k lived s t es → in_cycle new.heap.phase ≡ true
+      → (meter_after k t es).quanta + 1 ≤ flow_quanta f (length h.roots) (length h.store.pages) k
+  gone_after [] r new s t w g runs all on = cycle_few r s t w g (ap (λ (z : Course). in_cycle z.heap.phase) (sym runs) ∙ on)
+  gone_after (e ∷ es) r new s t w g runs all on =
+      let v = flows_next h f k some lived lives_few traced r runs.0 e s t w all.0 all.1 runs.1 in
+      gone_after es runs.0 new _ _ v (goes_next r runs.0 e s t w g runs.1 v) runs.2 all.2 on
 
   -- such phases last so many quanta in every run, where they do at each place of it
   module _ (is_such : Phase → Bool) (bound : ℕ) (few : (r : Course) (s : Season) (t : FlowMeter) → IsKept r s t → Goes r t → is_such r.heap.phase ≡ true → t.quanta + 1 ≤ bound) where
@@ -272,24 +316,24 @@ module _ (h : HeapState) (f : Flow) (k : ℕ) (great : 256 ≤ k) (some : 0 < k)
     all_last (Command_done m c reply ∷ es) r new s t w g runs all enough =
         let e = Command_done m c reply in
         let v = flows_next h f k some lived lives_few traced r runs.0 e s t w all.0 all.1 runs.1 in
-        all_last es runs.0 new _ _ v (goes_next r runs.0 e s t w g tt runs.1 v) runs.2 all.2 enough
+        all_last es runs.0 new _ _ v (goes_next r runs.0 e s t w g runs.1 v) runs.2 all.2 enough
     all_last (Cycle_begun ∷ es) r new s t w g runs all enough =
         let v = flows_next h f k some lived lives_few traced r runs.0 Cycle_begun s t w all.0 all.1 runs.1 in
-        all_last es runs.0 new _ _ v (goes_next r runs.0 Cycle_begun s t w g tt runs.1 v) runs.2 all.2 enough
+        all_last es runs.0 new _ _ v (goes_next r runs.0 Cycle_begun s t w g runs.1 v) runs.2 all.2 enough
     all_last (Begin_refused ∷ es) r new s t w g runs all enough =
         let v = flows_next h f k some lived lives_few traced r runs.0 Begin_refused s t w all.0 all.1 runs.1 in
-        all_last es runs.0 new _ _ v (goes_next r runs.0 Begin_refused s t w g tt runs.1 v) runs.2 all.2 enough
+        all_last es runs.0 new _ _ v (goes_next r runs.0 Begin_refused s t w g runs.1 v) runs.2 all.2 enough
     all_last (Quantum_done budget units phase ∷ es) r new s t w g runs all enough =
         let e = Quantum_done budget units phase in
         let v = flows_next h f k some lived lives_few traced r runs.0 e s t w all.0 all.1 runs.1 in
-        let x = goes_next r runs.0 e s t w g (enough.0, tt) runs.1 v in
+        let x = goes_next r runs.0 e s t w g runs.1 v in
         let is = counts budget t.quanta enough.0 in (
           λ on. (let l = few runs.0 _ _ v x (ap is_such runs.1.ends ∙ on) in omega (arith, l, is)),
           subst (λ n. LastsAtMost is_such bound n es) is (all_last es runs.0 new _ _ v x runs.2 all.2 enough.1),
         )
     all_last (Quantum_refused budget ∷ es) r new s t w g runs all enough =
         let v = flows_next h f k some lived lives_few traced r runs.0 (Quantum_refused budget) s t w all.0 all.1 runs.1 in
-        all_last es runs.0 new _ _ v (goes_next r runs.0 (Quantum_refused budget) s t w g tt runs.1 v) runs.2 all.2 enough
+        all_last es runs.0 new _ _ v (goes_next r runs.0 (Quantum_refused budget) s t w g runs.1 v) runs.2 all.2 enough
 
 module _ (h : HeapState) (es : List Event) (new : Course) (f : Flow) (k : ℕ) (great : 256 ≤ k) (some : 0 < k) (o : IsOpening h) (pages : 0 < length h.store.pages) (runs : Runs (opened h) es new) (keeps : AllMetered k (KeepsFlow f) (opening_meter h.limits) es)
     (traced : traced_words f (sweep_quanta f (length h.roots) (length h.store.pages) k) ≤ f.cycle_words) (enough : HaveBudgets k es) where
@@ -303,3 +347,13 @@ module _ (h : HeapState) (es : List Event) (new : Course) (f : Flow) (k : ℕ) (
   pub cycles_last : LastsAtMost in_cycle (flow_quanta f (length h.roots) (length h.store.pages) k) 0 es
   cycles_last = all_last h f k great some _ (lives h es f k some o pages keeps traced) traced in_cycle (flow_quanta f (length h.roots) (length h.store.pages) k) (cycle_few h f k great some _ (lives h es f k some o pages keeps traced) traced) es (opened h) new (opening_season h.limits) (opening_meter h.limits)
       (opening_flows h es f k some o pages keeps traced) none_moves runs (flow_all h es f k some o pages keeps traced) enough
+
+module _ (h : HeapState) (es : List Event) (new : Course) (f : Flow) (k : ℕ) (great : 256 ≤ k) (some : 0 < k) (o : IsOpening h) (pages : 0 < length h.store.pages) (runs : Runs (opened h) es new) (keeps : AllMetered k (KeepsFlow f) (opening_meter h.limits) es)
+    (traced : traced_words f (sweep_quanta f (length h.roots) (length h.store.pages) k) ≤ f.cycle_words) where
+  none_gone : in_cycle h.phase ≡ true → awaits_sweep_end h.phase ≡ false → HasGone h f k great some (live h es f k some o pages keeps traced) (lives h es f k some o pages keeps traced) traced (opened h) (opening_meter h.limits)
+  none_gone on past = absurd (let z : false ≡ true = sym (ap in_cycle o.phase) ∙ on in cc)
+
+  -- a cycle that runs has had fewer quanta that count than it takes at most
+  pub counted_few : in_cycle new.heap.phase ≡ true → (meter_after k (opening_meter h.limits) es).quanta < flow_quanta f (length h.roots) (length h.store.pages) k
+  counted_few on = let l = gone_after h f k great some _ (lives h es f k some o pages keeps traced) traced es (opened h) new (opening_season h.limits) (opening_meter h.limits)
+      (opening_flows h es f k some o pages keeps traced) none_gone runs (flow_all h es f k some o pages keeps traced) on in omega (arith, l)

@@ -1,10 +1,10 @@
 //! The roots and the reference cells of the slow heap: the edges of its graph.
-ghost use Rattle.std.specs.Prelude.{◌≡◌, length};
+ghost use Rattle.std.specs.Prelude.{◌≡◌, length, IfOk};
 ghost use Rattle.graph_heap.specs.Graph as graph;
 
 use super::Reference;
 use crate::command::Limits;
-use crate::stored::object_of;
+use crate::no_memory::NoMemory;
 
 impl Reference {
     /// What bounds the heap. It has as many roots as there are slots and statics.
@@ -12,15 +12,15 @@ impl Reference {
         ensures limits { result.now ≡ self.now.limits }
         ensures row { length self.now.roots ≡ graph.root_cells self.now.limits }
     {
-        &self.limits
+        self.roots.limits()
     }
 
-    /// The roots, each of which holds an identity, or 0 for null: the slots of mutator 0, of mutator 1 and so on, and
-    /// then the statics.
-    pub fn roots(&self) -> &[u64]
-        ensures { result.now ≡ self.now.roots }
+    /// Returns what the roots hold, each an identity, or 0 for null: the slots of mutator 0, of mutator 1 and so on,
+    /// and then the statics.
+    pub fn roots(&self) -> Result<Vec<u64>, NoMemory>
+        ensures { IfOk result (λ roots. roots.items ≡ self.now.roots) }
     {
-        self.roots.as_slice()
+        self.roots.row(self.alloc)
     }
 
     /// The reference cells of an object, each of which holds an identity, or 0 for null. Null, and an identity that
@@ -28,7 +28,7 @@ impl Reference {
     pub fn refs(&self, id: u64) -> &[u64]
         ensures { result.now ≡ (graph.object_of self.now.objects id).refs }
     {
-        match object_of(self.objects.as_slice(), id) {
+        match self.objects.get(id) {
             Ok(object) => object.refs.as_slice(),
             Err(_) => &[],
         }

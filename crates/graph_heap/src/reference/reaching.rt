@@ -9,7 +9,6 @@ ghost use Rattle.graph_heap.specs.Reaching.{IsAmong, AreReached, Finds, new_shap
 use super::{Reference, had_room_of};
 use crate::command::{Change, Entry, Shape};
 use crate::no_memory::NoMemory;
-use crate::stored::object_of;
 use std::alloc::Global;
 use std::marker::Model;
 
@@ -97,12 +96,12 @@ impl Reference {
     pub fn reached(&self) -> Result<Vec<u64>, NoMemory>
         ensures { IfOk result (λ ids. AreReached self.now ids.items) }
     {
-        let objects = self.objects.as_slice();
-        let mut found = Found::none(self.alloc, objects.len())?;
-        found.add_all(self.roots.as_slice())?;
+        let mut found = Found::none(self.alloc, self.count())?;
+        let roots = self.roots()?;
+        found.add_all(roots.as_slice())?;
         let mut next = 0;
         while let Some(id) = found.at(next) {
-            found.add_all(objects[id as usize - 1].refs.as_slice())?;
+            found.add_all(self.refs(id))?;
             next += 1;
         }
         Ok(found.into_ids())
@@ -119,7 +118,7 @@ impl Reference {
     pub fn shape(&self, id: u64) -> Shape
         ensures { result ≡ (graph.object_of self.now.objects id).shape }
     {
-        match object_of(self.objects.as_slice(), id) {
+        match self.objects.get(id) {
             Ok(object) => object.shape,
             Err(_) => Shape::Plain { refs: 0, words: 0 },
         }

@@ -1,6 +1,6 @@
-//! The row of roots: where a slot or a static stands in it, and writing roots.
-ghost use Rattle.std.specs.Prelude.{◌≡◌, ◌+◌, ◌<◌, ◌^◌, slice_set, IfOk};
-ghost use Rattle.graph_heap.specs.Graph.{root_cells, nulled};
+//! Where a slot or a static stands in the row of roots.
+ghost use Rattle.std.specs.Prelude.{◌≡◌, ◌<◌, IfOk};
+ghost use Rattle.graph_heap.specs.Graph.{root_cells};
 ghost use Rattle.graph_heap.specs.Effect.{slot_at, static_at};
 
 use crate::command::{Limits, Refusal};
@@ -26,24 +26,5 @@ pub fn static_of(limits: &Limits, k: u32) -> Result<usize, Refusal>
         Ok(limits.mutators as usize * limits.slots as usize + k as usize)
     } else {
         Err(Refusal::BadStatic)
-    }
-}
-
-/// Writes null to `count` roots, from one on.
-pub fn null_cells(cells: &mut [u64], first: usize, count: usize)
-    requires { first + count < 2 ^ 64 }
-    ensures { cells.new ≡ nulled cells.old first count }
-{
-    for i in 0..count {
-        set_cell(cells, first + i, 0);
-    }
-}
-
-/// Writes a root, if it is there.
-pub fn set_cell(cells: &mut [u64], cell: usize, id: u64)
-    ensures { cells.new ≡ slice_set cells.old cell id }
-{
-    if cell < cells.len() {
-        cells[cell] = id;
     }
 }

@@ -6,13 +6,11 @@ use std::alloc::{AllocError, Global};
 
 /// The runs for which pages are said to suffice or not.
 #[derive(Clone, Copy, Debug, PartialEq, Eq)]
-pub enum Scope {
+pub(crate) enum Scope {
     /// A run that was measured, and each that needs no more.
     Demand,
     /// A run that was measured, and each at its pace.
     Pace,
-    /// Those that keep to a load, while no more is live than it has.
-    Load,
 }
 
 /// How a report says whether pages suffice: for which runs, or that they may not.
@@ -23,7 +21,6 @@ fn verdict(scope: Scope, suffice: bool) -> &'static str
         _ if !suffice => ": may not suffice\n",
         Scope::Demand => ": suffice for this run, and for each that needs no more\n",
         Scope::Pace => ": suffice for this run, and for each at this pace\n",
-        Scope::Load => ": suffice for the load\n",
     }
 }
 

@@ -53,19 +53,14 @@ fn least_lines(alloc: Global, least: Option<u32>, from: Option<u32>) -> Result<S
 }
 
 /// All lines of a pace.
-fn lines_with(
-    alloc: Global,
-    config: &Config,
-    pace: &Pace,
-    scope: Scope,
-) -> Result<String, AllocError>
-    ensures { IfOk result (λ text. IsPaceReport scope config.now (Some pace.now) (string_bytes text)) }
+fn lines_with(alloc: Global, config: &Config, pace: &Pace) -> Result<String, AllocError>
+    ensures { IfOk result (λ text. IsPaceReport config.now (Some pace.now) (string_bytes text)) }
 {
     let needs = pace_needs(config, pace, config.pages);
     [
         class_lines(alloc, |class| class_line(alloc, pace, class))?,
         quanta_line(alloc, needs.quanta, config.budget())?,
-        pages_line(alloc, scope, needs.pages, config.pages)?,
+        pages_line(alloc, Scope::Pace, needs.pages, config.pages)?,
         least_lines(alloc, least_pages(config, pace), fits_from(config, pace))?,
     ]
     .concat(alloc)
@@ -80,12 +75,11 @@ pub fn pace_report(
     alloc: Global,
     config: &Config,
     pace: &Option<Pace>,
-    scope: Scope,
 ) -> Result<String, AllocError>
-    ensures { IfOk result (λ text. IsPaceReport scope config.now pace.now (string_bytes text)) }
+    ensures { IfOk result (λ text. IsPaceReport config.now pace.now (string_bytes text)) }
 {
     match pace {
-        Some(pace) => lines_with(alloc, config, pace, scope),
+        Some(pace) => lines_with(alloc, config, pace),
         None => too_many(alloc),
     }
 }

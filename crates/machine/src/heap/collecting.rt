@@ -7,7 +7,7 @@ ghost use Rattle.heap_model.specs.Spent.{cycle_limit};
 ghost use Rattle.heap_model.specs.Represents.{Represents};
 ghost use Rattle.heap_model.specs.QuantumSpending.{QuantumSpends};
 ghost use Rattle.nodes.specs.Acting.{ActsIn};
-ghost use Rattle.nodes.specs.Grey.{in_buffers};
+ghost use Rattle.nodes.specs.Grey.{in_buffers, AreLinked};
 ghost use Rattle.nodes.specs.HeapFields.{state_of, AreHeapFields};
 ghost use Rattle.machine.specs.Collecting.{Begins, Spends};
 
@@ -29,6 +29,7 @@ fn act(heap: &mut HeapFields, room: u32) -> bool
     requires room { 0 < room }
     ensures acts { ActsIn heap.old room heap.new result }
     ensures buffers { heap.new.grey.buffers ≡ heap.old.grey.buffers }
+    ensures linked { AreLinked heap.new.nodes heap.new.grey }
 {
     match heap.phase {
         Phase::Idle => return false,

@@ -10,8 +10,8 @@ ghost use Rattle.heap_model.specs.Agreement.{Agrees};
 ghost use Rattle.machine.specs.Reading.{Names, Finds, CanReach, position_in, FindsCell, IsRefPlace, IsWordPlace};
 
 use super::Heap;
-use crate::plan::{Cell, Found, Kind};
-use arraylets::{CellPosition, part_block, ref_position, word_position};
+use crate::plan::{Found, Kind};
+use arraylets::{Cell, CellPosition, get, load, part_block, ref_position, word_position};
 use graph_heap::{Refusal, Shape};
 use nodes::{Nodes, Referent};
 use size_classes::PART_CELLS;
@@ -80,9 +80,7 @@ impl Heap {
         ensures { (g : Graph) (id i : ℕ) → Agrees self.now g → IsRefPlace self.now g id i at
             → Names self.now g (slice_index (object_of g.objects id).refs i) result }
     {
-        self.fields
-            .nodes
-            .resolve(self.fields.nodes.cell(at.block, at.index))
+        self.fields.nodes.resolve(load(&self.fields.nodes, at))
     }
 
     /// What a word cell holds.
@@ -92,7 +90,7 @@ impl Heap {
         ensures { (g : Graph) (id i : ℕ) → Agrees self.now g → IsWordPlace self.now g id i at
             → result ≡ slice_index (object_of g.objects id).words i }
     {
-        self.fields.nodes.cell(at.block, at.index)
+        get(&self.fields.nodes, at)
     }
 }
 

@@ -8,7 +8,8 @@ ghost use Rattle.machine.specs.Runs.{words_from, word_run, slot_run, at_most, co
 
 use super::Heap;
 use super::writing::{null_roots, null_unrecorded};
-use crate::plan::{Cell, Kind, Run};
+use crate::plan::{Kind, Run};
+use arraylets::Cell;
 use graph_heap::{Command, Refusal, Reply, Shape};
 use nodes::{HeapFields, Nodes};
 use size_classes::PART_CELLS;

@@ -9,8 +9,8 @@ ghost use Rattle.machine.specs.Plan.{CanPerform, DoesEach};
 ghost use Rattle.machine.specs.Buffers.{AreOwn};
 ghost use Rattle.machine.specs.Writing.{CanWrite, IsWritten, IsRecorded};
 
-use crate::plan::{Cell, Write};
-use arraylets::new_object;
+use crate::plan::Write;
+use arraylets::{Cell, new_object, put, store};
 use graph_heap::Shape;
 use nodes::HeapFields;
 use satb_barrier::record;
@@ -25,7 +25,7 @@ pub fn do_write(heap: &mut HeapFields, mutator: u32, write: &Write)
         Write::Nothing => {}
         Write::Root { cell, reference } => write_root(heap, mutator, cell, reference),
         Write::Ref { at, reference } => write_ref(heap, mutator, at, reference),
-        Write::Word { at, word } => heap.nodes.set_cell(at.block, at.index, word),
+        Write::Word { at, word } => put(&mut heap.nodes, at, word),
         Write::New { cell, shape } => write_new(heap, mutator, cell, shape),
         Write::Join { mutator: joiner } => heap.roots.set_live(joiner, true),
         Write::Leave { mutator: leaver } => write_leave(heap, leaver),
@@ -60,9 +60,7 @@ fn write_ref(heap: &mut HeapFields, mutator: u32, at: Cell, reference: u64)
     requires { CanWrite heap.old mutator (Write.Ref at reference) }
     ensures { IsWritten heap.old mutator (Write.Ref at reference) heap.new }
 {
-    let before = heap.nodes.cell(at.block, at.index);
-    record(heap, mutator, before);
-    heap.nodes.set_cell(at.block, at.index, reference);
+    store(heap, mutator, at, reference);
 }
 
 /// An object is made, and a root gets its reference.

@@ -17,7 +17,7 @@ pub(crate) fn tell_graph<K: Sink>(
     most: u32,
     sink: &mut K,
 ) -> Result<Ending, RunFault>
-    ensures told { GraphTold most graph.now (taken_by K.taken sink.old sink.new) result }
+    ensures told { GraphTold most graph.now (taken_by K.taken K.sent sink.old sink.new) result }
     ensures reads { failed_reads result ≡ 0 }
     ensures writes { K.failures sink.new ≡ K.failures sink.old + failed_writes result }
 {

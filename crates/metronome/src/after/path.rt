@@ -29,7 +29,7 @@ pub(crate) fn tell_path<K: Sink>(
     id: u64,
     sink: &mut K,
 ) -> Result<Ending, RunFault>
-    ensures told { ReportTold (TellsWhy id heap.now graph.now) (taken_by K.taken sink.old sink.new) result }
+    ensures told { ReportTold (TellsWhy id heap.now graph.now) (taken_by K.taken K.sent sink.old sink.new) result }
     ensures reads { failed_reads result ≡ 0 }
     ensures writes { K.failures sink.new ≡ K.failures sink.old + failed_writes result }
 {

@@ -37,7 +37,7 @@ pub(crate) fn tell_picture<K: Sink>(
     picture: Picture,
     sink: &mut K,
 ) -> Result<Ending, RunFault>
-    ensures told { PictureDrawn picture config.now player.now (taken_by K.taken sink.old sink.new) result }
+    ensures told { PictureDrawn picture config.now player.now (taken_by K.taken K.sent sink.old sink.new) result }
     ensures reads { failed_reads result ≡ 0 }
     ensures writes { K.failures sink.new ≡ K.failures sink.old + failed_writes result }
 {

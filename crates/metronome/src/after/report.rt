@@ -25,7 +25,7 @@ fn shapes_report(alloc: Global, heap: &Heap) -> Result<String, NoMemory>
 
 /// Writes a report by shape.
 fn tell_shapes<K: Sink>(alloc: Global, heap: &Heap, sink: &mut K) -> Result<Ending, RunFault>
-    ensures told { ReportTold (ShapesTold heap.now) (taken_by K.taken sink.old sink.new) result }
+    ensures told { ReportTold (ShapesTold heap.now) (taken_by K.taken K.sent sink.old sink.new) result }
     ensures reads { failed_reads result ≡ 0 }
     ensures writes { K.failures sink.new ≡ K.failures sink.old + failed_writes result }
 {
@@ -39,7 +39,7 @@ pub(crate) fn tell_report<K: Sink>(
     by: Report,
     sink: &mut K,
 ) -> Result<Ending, RunFault>
-    ensures told { HeapReported by player.now.course.heap (taken_by K.taken sink.old sink.new) result }
+    ensures told { HeapReported by player.now.course.heap (taken_by K.taken K.sent sink.old sink.new) result }
     ensures reads { failed_reads result ≡ 0 }
     ensures writes { K.failures sink.new ≡ K.failures sink.old + failed_writes result }
 {

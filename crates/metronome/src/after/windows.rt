@@ -22,7 +22,7 @@ pub(crate) fn tell_windows<K: Sink>(
     windows: &[u64],
     sink: &mut K,
 ) -> Result<Ending, RunFault>
-    ensures told { WindowsTold config.now player.now.timetable windows.now (taken_by K.taken sink.old sink.new)
+    ensures told { WindowsTold config.now player.now.timetable windows.now (taken_by K.taken K.sent sink.old sink.new)
         result }
     ensures reads { failed_reads result ≡ 0 }
     ensures writes { K.failures sink.new ≡ K.failures sink.old + failed_writes result }

@@ -1,4 +1,4 @@
-//! What stands in a configuration or a load that is refused.
+//! What stands in a configuration that is refused.
 use crate::explain::quoted::Quoted;
 use crate::explain::silence::Silence;
 use crate::files::{DOCUMENT_BYTES, Opener, read_document};

@@ -54,7 +54,7 @@ fn tell_due<E: Write>(
 ) -> Result<(), Silence> {
     let reply = reference.reply(entry.mutator, &entry.command)?;
     let mut out = [0; 256];
-    let end = write_reply(&reply, out.as_mut_slice(), 0);
+    let end = write_reply(&reply, &mut out, 0);
     let text = std::str::from_utf8(&out[..end]).map_err(|_| Silence)?;
     writeln!(errors, "metronome: the reply that was due is '{text}'")?;
     Ok(())

@@ -2,7 +2,7 @@
 use crate::explain::quoted::Quoted;
 use crate::explain::silence::Silence;
 use crate::files::Opener;
-use command_line::{Job, Request, Sizing};
+use command_line::Request;
 use std::io::Write;
 
 /// Tells of the first file of a request that can't be read, in the order in which they are read, and what the system says.
@@ -20,21 +20,12 @@ pub(crate) fn explain_unread<O: Opener, E: Write>(
         }
         return Ok(());
     }
-    if let Some(name) = request.file {
-        if name != "-" && tell_unread(opener, name, errors)? {
-            return Ok(());
+    match request.file {
+        Some("-") => writeln!(errors, "metronome: a read of standard input failed")?,
+        Some(name) => {
+            tell_unread(opener, name, errors)?;
         }
-    }
-    if let Job::Pages {
-        by: Sizing::Load(name),
-    } = &request.job
-    {
-        if tell_unread(opener, name, errors)? {
-            return Ok(());
-        }
-    }
-    if matches!(request.file, Some("-")) {
-        writeln!(errors, "metronome: a read of standard input failed")?;
+        None => {}
     }
     Ok(())
 }

@@ -6,11 +6,11 @@ ghost use Rattle.metronome_c.specs.declared.seats.seat.TheConstants.{SEAT_CHECK_
 
 use crate::seats::seat::MetronomeSeat;
 
-/// What is promised of a heap with its history holds of the heap that a seat has in its turn, whatever calls of whichever
-/// seats led there.
+/// What is promised of a heap with its history holds of the heap that a seat has in its turn, with the events that led
+/// there: those of the log that the seat has seen, of whichever seats, and then its own.
 pub fn seats_keep_promises(seat: &mut MetronomeSeat)
     ensures same { seat_in seat.new ≡ seat_in seat.old }
-    ensures promised { IfOk (seat_in seat.old) (λ s. IfSome s.turn IsPromised) }
+    ensures promised { IfOk (seat_in seat.old) (λ s. IfSome s.turn (IsPromised s)) }
 {
     let _asked = seat.ask(|member| member.promise());
 }

@@ -10,7 +10,7 @@ use crate::seats::seat::MetronomeSeat;
 use crate::status::Status;
 use crate::text::VERSION;
 use heap_shared::{Member, SharedConfig};
-use settings::{Config, Ranges, Settings};
+use settings::{Config, Settings};
 
 /// Makes a heap of these settings and the first seat at it, where the handle is closed and the program was built for
 /// this version. Of a program for another one nothing is read but that version.
@@ -39,7 +39,7 @@ pub(super) fn create(seat: &mut MetronomeSeat, settings: &Settings, ring: usize)
     if !seat.is_closed() {
         return Status::BadHandle.number();
     }
-    let config = match Config::check(Ranges::Library, settings) {
+    let config = match Config::check_for_library(settings) {
         Ok(config) => config,
         Err(fault) => return Status::of_fault(fault).number(),
     };
@@ -95,7 +95,9 @@ pub extern "C" fn metronome_seat_learn(seat: &mut MetronomeSeat, other: &mut Met
     if !other.is_open() {
         return other.why_empty().number();
     }
-    seat.handle.lend().learn(Box::into_inner(other.take()));
+    let mut gone = other.take();
+    gone.leave();
+    seat.handle.lend().learn(Box::into_inner(gone));
     Status::Done.number()
 }
 

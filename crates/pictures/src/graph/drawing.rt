@@ -46,8 +46,10 @@ fn write_left_out<K: Sink>(n: usize, sink: &mut K) -> Result<(), WriteFailed>
 #[derive(Drop)]
 struct Drawing<'a> {
     graph: &'a Reference,
+    roots: &'a [u64],
     search: &'a Search,
     most: usize,
+    ghost row: { roots.now ≡ graph.now.roots },
 }
 
 impl<'a> Drawing<'a> {
@@ -146,7 +148,7 @@ impl<'a> Drawing<'a> {
         let found = self.search.found();
         let count = self.most.min(found.len());
         write_lines(sink, &[Statement::Open, Statement::LeftToRight])?;
-        self.write_cells(None, self.graph.roots(), sink)?;
+        self.write_cells(None, self.roots, sink)?;
         self.write_objects(&found[..count], sink)?;
         write_left_out(found.len().saturating_sub(self.most), sink)?;
         write_line(sink, Statement::Close)
@@ -156,7 +158,7 @@ impl<'a> Drawing<'a> {
 /// Writes a graph heap to a sink as a DOT document, which Graphviz lays out, in lines that end with LF: the objects
 /// that can be reached, at most `most` of them, nearest to the roots first, each with its identity and its shape; a
 /// box for each root that holds one of them; each reference between them, with the index of its cell; and how many
-/// objects aren't drawn, if there are any. It takes memory for the search alone, before the first write. It fails where
+/// objects aren't drawn, if there are any. It takes memory for the search and the roots alone, before the first write. It fails where
 /// a write failed, and then the sink has taken a beginning of the document, or where memory was refused.
 pub fn draw_graph<K: Sink>(
     alloc: Global,
@@ -164,12 +166,14 @@ pub fn draw_graph<K: Sink>(
     most: u32,
     sink: &mut K,
 ) -> Result<(), PlayFault>
-    ensures drawn { GraphDrawn graph.now most (taken_by K.taken sink.old sink.new) result }
+    ensures drawn { GraphDrawn graph.now most (taken_by K.taken K.sent sink.old sink.new) result }
     ensures cause { K.failures sink.new ≡ K.failures sink.old + writes_failed result }
 {
     let search = search(alloc, graph)?;
+    let roots = graph.roots()?;
     let drawing = Drawing {
         graph,
+        roots: roots.as_slice(),
         search: &search,
         most: most as usize,
     };

@@ -8,12 +8,13 @@ use std::alloc::Global;
 
 /// The objects of a graph heap that can be reached, each once, nearest to the roots first, with their distances from
 /// the roots: a breadth-first search (Moore, 1959). It looks at each root, and at each reference cell of these objects,
-/// once; and asks for a word for each object that was ever made, reached or not.
+/// once; and asks for a word for each root, and for each object that was ever made, reached or not.
 pub fn search(alloc: Global, graph: &Reference) -> Result<Search, NoMemory>
     ensures { IfOk result (λ s. FindsAll graph.now s.found) }
 {
     let mut search = Search::none(alloc, graph.count())?;
-    search.add_all(graph.roots(), 0, None)?;
+    let roots = graph.roots()?;
+    search.add_all(roots.as_slice(), 0, None)?;
     let mut next = 0;
     while let Some(found) = search.at(next) {
         search.add_all(graph.refs(found.id), found.distance + 1, Some(found.id))?;

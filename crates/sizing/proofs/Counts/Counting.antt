@@ -44,17 +44,3 @@ one_more xs ys n v within before is k l = elim (less_or k n l) [
 
 pub equal_at : (m n x limit : ℕ) → x ≡ min n m → limit ≤ m → x < limit → n ≡ x
 equal_at m n x limit e l h = omega arith
-
-less_or_at : (a b : ℕ) → a < b + 1 → (a < b) ⊎ (a ≡ b)
-less_or_at a b h = grind arith
-
--- one number more is written, of which holds what holds of those before it
-pub one_more_holds : (P : ℕ → ℕ → Type 0) (xs : List ℕ) (n v : ℕ) → n < length xs → ((k : ℕ) → k < n → P k (get_or xs k 0)) → P n v → (k : ℕ) → k < n + 1 → P k (get_or (set xs n v) k 0)
-one_more_holds P xs n v within before is k l = elim (less_or_at k n l) [
-  | inl less ↦ subst (P k) (sym (get_or-set_other xs n k v 0 (λ e. omega (arith, e, less)))) (before k less)
-  | inr e ↦ subst (λ i. P i (get_or (set xs n v) i 0)) (sym e) (subst (P n) (sym (get_or-set_same xs n v 0 within)) is)
-]
-
--- and those after it are left
-pub one_fewer : (xs ys : List ℕ) (n v : ℕ) → ((k : ℕ) → n ≤ k → get_or xs k 0 ≡ get_or ys k 0) → (k : ℕ) → n + 1 ≤ k → get_or (set xs n v) k 0 ≡ get_or ys k 0
-one_fewer xs ys n v left k l = get_or-set_other xs n k v 0 (λ e. omega (arith, e, l)) ∙ left k (omega (arith, l))

@@ -7,16 +7,17 @@ use Rattle.heap_model.specs.Spent.{IsWithin}
 use Rattle.nodes.specs.declared.heap_fields.HeapFields.{HeapFields}
 use Rattle.nodes.specs.HeapFields.{state_of}
 use Rattle.nodes.proofs.Chains.{runs_once}
+use Rattle.nodes.proofs.Keeping.{linked_charged}
 use Rattle.nodes.proofs.Representing.{units_small}
 use Rattle.defrag.specs.Candidates.{candidate_after_pages}
 use Rattle.defrag.proofs.Looks.{looks_run}
 use Rattle.defrag.proofs.choosing.pass_next.Goals as goal
 
-pub look_next-requires-clause-pass : goal.look_next-requires-clause-pass
-look_next-requires-clause-pass c = In_pass c.args.class c.args.page c.args.candidate c.args.chosen c.requires.phase
+pub choose_one-requires-clause-pass : goal.choose_one-requires-clause-pass
+choose_one-requires-clause-pass c = In_pass c.args.class c.args.page c.args.candidate c.args.chosen c.requires.phase
 
-pub look_next-requires-clause-chosen : goal.look_next-requires-clause-chosen
-look_next-requires-clause-chosen c = (subst (IsWithin (state_of c.args.heap.now)) c.requires.phase c.requires.heap.heap.represents.within).3
+pub choose_one-requires-clause-chosen : goal.choose_one-requires-clause-chosen
+choose_one-requires-clause-chosen c = (subst (IsWithin (state_of c.args.heap.now)) c.requires.phase c.requires.heap.heap.represents.within).3
 
 pub charge-requires : goal.charge-requires
 charge-requires c = let u = units_small c.args.heap.now c.requires.heap in omega arith
@@ -34,7 +35,7 @@ returns-then-class-clause-acts c =
     c.requires.room
 
 pub returns-then-left-eq0-clause-acts : goal.returns-then-left-eq0-clause-acts
-returns-then-left-eq0-clause-acts c = runs_once c.args.heap.now c.look_next.new.heap c.args.room 1 c.requires.heap c.look_next.ensures.acts c.requires.room
+returns-then-left-eq0-clause-acts c = runs_once c.args.heap.now c.choose_one.new.heap c.args.room 1 c.requires.heap c.choose_one.ensures.acts c.requires.room
 
 pub returns-clause-acts : goal.returns-clause-acts
 returns-clause-acts c =
@@ -52,3 +53,9 @@ returns-clause-acts c =
       some,
       omega (arith, c.min-count.ensures),
     )
+
+pub returns-then-class-clause-linked : goal.returns-then-class-clause-linked
+returns-then-class-clause-linked c = linked_charged c.args.heap.now c.charge.new.self _ _ c.charge.ensures c.requires.heap.linked
+
+pub returns-clause-linked : goal.returns-clause-linked
+returns-clause-linked c = linked_charged c.args.heap.now c.charge-2.new.self _ _ c.charge-2.ensures c.requires.heap.linked

@@ -37,7 +37,7 @@ returns g c =
     let counted = c.close-recorded.ensures.counted ∙ first_sum k seats played.rest in
     let fronts : not (eqb c.close-recorded.result.1 (length c.history.result.now)) ≡ false → HasFronts h scripts done = λ torn.
     let found = not_torn c.close-recorded.result.1 (length c.history.result.now) torn in
-    subst (λ (w : List ℕ). HasFronts h scripts w) (sym counts) (has_fronts seats h scripts n (c.close-recorded.ensures.told (found ∙ ap length c.history.ensures.history)) played.all (omega (arith, long, c.requires.1.1.0)) played.played counted) in
+    subst (λ (w : List ℕ). HasFronts h scripts w) (sym counts) (has_fronts seats h scripts n (c.close-recorded.ensures.found.told (found ∙ ap length c.history.ensures.history)) played.all (omega (arith, long, c.requires.1.1.0)) played.played counted) in
     let whole = c.is_whole-whole.ensures in
     let value = c.as_slice-2.ensures.value in
     let lengths = lengths_of c.args.scripts.now in

@@ -3,12 +3,12 @@ use Rattle.heap_model.specs.Action.{Chain}
 use Rattle.nodes.specs.declared.heap_fields.HeapFields.{HeapFields}
 use Rattle.nodes.specs.HeapFields.{state_of}
 use Rattle.marker.specs.Scanning.{scanning}
-use Rattle.marker.proofs.Scanned.{width_small}
+use Rattle.marker.proofs.InScan.{width_small}
 use Rattle.marker.proofs.Scanning.{none_scanned, run_scanned, still_scanning}
 use Rattle.marker.proofs.scan.scan_cells.Goals as goal
 
 pub loop-scanned-init : goal.loop-scanned-init
-loop-scanned-init c = (λ u. none_scanned c.args.heap.now c.args.part c.args.cell u, refl, refl, refl, omega arith)
+loop-scanned-init c = (λ u. none_scanned c.args.heap.now c.args.part c.args.cell u, refl, refl, refl, omega arith, c.requires.heap.1.linked)
 
 pub overflow_add-cell : goal.overflow_add-cell
 overflow_add-cell c =
@@ -17,7 +17,7 @@ overflow_add-cell c =
 pub scan_run-scanned-requires-clause-heap : goal.scan_run-scanned-requires-clause-heap
 scan_run-scanned-requires-clause-heap c =
     let i = c.loop-scanned.invariant in
-    still_scanning c.args.heap.now c.loop-scanned.heap c.args.part c.args.cell c.args.part (c.args.cell + c.loop-scanned.scanned) c.loop-scanned.scanned c.requires.heap i.0 i.2 c.requires.buffers
+    still_scanning c.args.heap.now c.loop-scanned.heap c.args.part c.args.cell c.args.part (c.args.cell + c.loop-scanned.scanned) c.loop-scanned.scanned c.requires.heap i.0 i.2 i.5
 
 pub scan_run-scanned-requires-clause-within : goal.scan_run-scanned-requires-clause-within
 scan_run-scanned-requires-clause-within c = let i = c.loop-scanned.invariant in omega (arith, i.1, c.requires.within, c.loop-scanned-test.true)
@@ -30,6 +30,7 @@ loop-scanned-preserved c =
       e.buffers ∙ i.2,
       e.same ∙ ap (λ (x : HeapFields). record x { nodes = k.nodes; grey = k.grey }) i.3,
       omega (arith, c.loop-scanned-test.true, e.count.1),
+      e.linked,
     )
 
 pub returns-clause-acts : goal.returns-clause-acts

@@ -1,16 +1,14 @@
-use Rattle.std.proofs.Common.{◌≡◌, ◌+◌, ◌-◌, ◌*◌, true, ap, ◌∙◌, sym, subst, refl, arith}
+use Rattle.std.proofs.Common.{◌≡◌, ◌+◌, ◌-◌, ◌*◌, ap, ◌∙◌, sym, subst, refl, arith}
 use Rattle.heap_model.specs.Action.{Action, Chain, goes_to}
 use Rattle.heap_model.specs.declared.cost.TheConstants.{SCAN}
 use Rattle.heap_model.specs.declared.phase.Phase.TheVariants as phases
 use Rattle.heap_model.specs.State.{seen}
-use Rattle.heap_model.specs.Store.{is_allocated}
 use Rattle.nodes.specs.declared.heap_fields.HeapFields.{HeapFields}
 use Rattle.nodes.specs.HeapFields.{state_of}
-use Rattle.nodes.proofs.Chains.{one_action}
 use Rattle.nodes.proofs.Representing.{are_grey}
 use Rattle.marker.specs.declared.scan.Scan.{Scan}
 use Rattle.marker.specs.Scanning.{scanning}
-use Rattle.marker.proofs.Scanned.{width_small}
+use Rattle.marker.proofs.InScan.{width_small}
 use Rattle.marker.proofs.Scanning.{grey_at, header_scanned, marking_ends, some_left, past_all, width_there, taken_same}
 use Rattle.marker.proofs.scan.scan_next.Goals as goal
 
@@ -42,15 +40,17 @@ returns-then-scan-clause-width c =
 pub pop_grey-requires-clause-grey : goal.pop_grey-requires-clause-grey
 pop_grey-requires-clause-grey c = grey_at (state_of c.args.heap.now) c.args.scan.part c.args.scan.cell c.requires.heap.0 (are_grey (scanning c.args.heap.now c.args.scan.part c.args.scan.cell c.requires.heap.0) c.requires.heap.1)
 
+pub pop_grey-requires-clause-linked : goal.pop_grey-requires-clause-linked
+pop_grey-requires-clause-linked c = c.requires.heap.1.linked
+
 pub scan_at-scan-requires : goal.scan_at-scan-requires
-scan_at-scan-requires c = λ _. subst (λ (x : HeapFields). is_allocated x.nodes (c.in_ok-part.part - 1) ≡ true) (sym c.pop_grey.ensures.same) c.in_ok-part.ensures.allocated
+scan_at-scan-requires c = λ _. c.pop_grey.ensures.links.blocks.allocated (c.in_ok-part.part - 1) ∙ c.in_ok-part.ensures.allocated
 
 pub returns-clause-scans : goal.returns-clause-scans
 returns-clause-scans c =
     let a = c.args.heap.now in let k = c.pop_grey.new.heap in let at = c.args.scan in λ u.
     subst (λ (s : Scan). Chain (state_of (scanning a at.part at.cell u)) 1 (state_of (scanning k s.part s.cell (u + 1)))) (sym c.scan_at-scan.ensures)
-    (one_action (state_of (scanning a at.part at.cell u)) (state_of (scanning k c.in_ok-part.part 0 (u + 1))) 1
-    (header_scanned a k at.part at.cell c.in_ok-part.part u c.requires.heap (past_all a at.part at.cell at.width c.requires.width c.if-scan.false) c.pop_grey.ensures.same c.in_ok-part.ensures.taken))
+    (header_scanned a k at.part at.cell c.in_ok-part.part u c.requires.heap (past_all a at.part at.cell at.width c.requires.width c.if-scan.false) c.pop_grey.ensures.links (taken_same a k c.pop_grey.ensures.same) c.in_ok-part.ensures.taken)
 
 pub returns-clause-width : goal.returns-clause-width
 returns-clause-width c = ap (λ (s : Scan). s.width) c.scan_at-scan.ensures ∙ sym (ap (λ (s : Scan). (seen (state_of c.pop_grey.new.heap)).width s.part) c.scan_at-scan.ensures)

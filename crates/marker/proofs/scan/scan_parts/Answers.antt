@@ -6,11 +6,11 @@ use Rattle.nodes.specs.declared.heap_fields.HeapFields.{HeapFields}
 use Rattle.nodes.specs.Grey.{in_buffers}
 use Rattle.nodes.specs.HeapFields.{state_of}
 use Rattle.nodes.proofs.Chains.{heap_after_chain}
-use Rattle.nodes.proofs.Linking.{none_linked}
+use Rattle.nodes.proofs.Keeping.{linked_charged}
 use Rattle.nodes.proofs.Representing.{units_small}
 use Rattle.marker.specs.declared.scan.Scan.{Scan}
 use Rattle.marker.specs.Scanning.{scanning}
-use Rattle.marker.proofs.Scanned.{part_allocated}
+use Rattle.marker.proofs.InScan.{part_allocated}
 use Rattle.marker.proofs.Scanning.{begun, more_scanned, ended, place_small}
 use Rattle.marker.proofs.scan.scan_parts.Goals as goal
 
@@ -25,12 +25,13 @@ loop-units-init c =
       refl,
       refl,
       omega arith,
+      c.requires.heap.linked,
     )
 
 pub scan_next-requires-clause-heap : goal.scan_next-requires-clause-heap
 scan_next-requires-clause-heap c =
     let i = c.loop-units.invariant in let a = c.args.heap.now in let n = c.loop-units.units in
-    (a.units + n, heap_after_chain a (scanning c.loop-units.heap c.loop-units.scan.part c.loop-units.scan.cell (a.units + n)) c.requires.heap n i.0 (ap length i.2) (none_linked c.loop-units.heap.nodes c.loop-units.heap.grey (ap in_buffers i.2 ∙ c.requires.buffers)))
+    (a.units + n, heap_after_chain a (scanning c.loop-units.heap c.loop-units.scan.part c.loop-units.scan.cell (a.units + n)) c.requires.heap n i.0 (ap length i.2) i.5)
 
 pub scan_next-requires-clause-buffers : goal.scan_next-requires-clause-buffers
 scan_next-requires-clause-buffers c = ap in_buffers c.loop-units.invariant.2 ∙ c.requires.buffers
@@ -51,6 +52,7 @@ loop-units-preserved c =
       c.scan_next.ensures.buffers ∙ i.2,
       c.scan_next.ensures.same ∙ ap (λ (x : HeapFields). record x { nodes = k.nodes; grey = k.grey }) i.3,
       omega (arith, e.count.1, c.loop-units-test.true),
+      c.scan_next.ensures.linked,
     )
 
 pub returns-in_default-clause-acts : goal.returns-in_default-clause-acts
@@ -67,7 +69,7 @@ pub overflow_cast-cell-2 : goal.overflow_cast-cell-2
 overflow_cast-cell-2 c =
     let i = c.loop-units.invariant in let a = c.args.heap.now in let at = c.loop-units.scan in
     let place = scanning c.loop-units.heap at.part at.cell (a.units + c.loop-units.units) in
-    let s = place_small c.loop-units.heap at.part at.cell (a.units + c.loop-units.units, heap_after_chain a place c.requires.heap c.loop-units.units i.0 (ap length i.2) (none_linked c.loop-units.heap.nodes c.loop-units.heap.grey (ap in_buffers i.2 ∙ c.requires.buffers))) in omega (arith, s)
+    let s = place_small c.loop-units.heap at.part at.cell (a.units + c.loop-units.units, heap_after_chain a place c.requires.heap c.loop-units.units i.0 (ap length i.2) i.5) in omega (arith, s)
 
 pub charge-requires-2 : goal.charge-requires-2
 charge-requires-2 c =
@@ -83,3 +85,9 @@ returns-clause-acts c =
       omega (arith, c.requires.room, c.loop-units-test.false),
       i.4,
     )
+
+pub returns-in_default-clause-linked : goal.returns-in_default-clause-linked
+returns-in_default-clause-linked c = linked_charged c.scan_next.new.heap c.charge.new.self _ _ c.charge.ensures c.scan_next.ensures.linked
+
+pub returns-clause-linked : goal.returns-clause-linked
+returns-clause-linked c = linked_charged c.loop-units.heap c.charge-2.new.self _ _ c.charge-2.ensures c.loop-units.invariant.5

@@ -4,6 +4,7 @@ use Rattle.heap_model.specs.declared.phase.Phase.TheVariants as phases
 use Rattle.nodes.specs.declared.heap_fields.HeapFields.{HeapFields}
 use Rattle.nodes.specs.HeapFields.{state_of}
 use Rattle.nodes.proofs.Chains.{then_action, runs_once, heap_after_chain}
+use Rattle.nodes.proofs.Keeping.{linked_charged}
 use Rattle.marker.proofs.scan.scan_roots.Goals as goal
 
 pub returns-then-left-eq0-clause-acts : goal.returns-then-left-eq0-clause-acts
@@ -12,6 +13,9 @@ returns-then-left-eq0-clause-acts c =
     (subst (λ (x : HeapFields). Action (state_of c.args.heap.now) 1 (state_of x)) (sym c.charge.ensures)
     (Ends_roots c.args.next c.requires.phase (omega (arith, c.if-left-eq0.true, c.saturating_sub-left.ensures, ap length c.cells.ensures))))
     (omega (arith, c.requires.room))
+
+pub returns-then-left-eq0-clause-linked : goal.returns-then-left-eq0-clause-linked
+returns-then-left-eq0-clause-linked c = linked_charged c.args.heap.now c.charge.new.self _ _ c.charge.ensures c.requires.heap.linked
 
 pub loop-scanned-init : goal.loop-scanned-init
 loop-scanned-init c = (

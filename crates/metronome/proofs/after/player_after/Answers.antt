@@ -1,10 +1,10 @@
-use Rattle.std.proofs.Common.{inl, inr, refl, arith}
+use Rattle.std.proofs.Common.{Ok, Err, inl, inr, refl, arith}
 use Rattle.player.specs.declared.style.Style.TheVariants.{Nothing}
-use Rattle.player.specs.Playing.{session}
-use Rattle.streams.specs.Streams.{given_by}
+use Rattle.player.specs.Playing.{session, PlayedUpTo}
+use Rattle.streams.specs.Streams.{given_by, taken_by}
 use Rattle.trace.specs.declared.fault.PlayFault.TheVariants as texts
 use Rattle.metronome.specs.declared.fault.RunFault.TheVariants as faults
-use Rattle.metronome.proofs.Alive.{played_settings}
+use Rattle.metronome.proofs.Alive.{played_settings, not_held}
 use Rattle.metronome.proofs.Finishing.{failed_so}
 use Rattle.metronome.proofs.Failing.{reads_text, writes_text, memory_unread, memory_unwritten}
 use Rattle.metronome.proofs.after.player_after.Goals as goal
@@ -14,17 +14,30 @@ returns-in_err-player-clause-play g c = rw (failed_so c.from_residual.result (fa
 
 pub returns-in_err-play_up_to-clause-play : goal.returns-in_err-play_up_to-clause-play
 returns-in_err-play_up_to-clause-play g c =
+    let given = given_by g.S.Source.given g.S.Source.ended c.args.source.now c.play_up_to.new.source in
+    let old = session c.in_ok-player.player (g.K.Sink.taken c.args.sink.now) in
+    let new = session c.play_up_to.new.player (g.K.Sink.taken c.play_up_to.new.sink) in
+    let taken = taken_by g.K.Sink.taken g.K.Sink.sent c.args.sink.now c.play_up_to.new.sink in
+    let fault = c.in_err-play_up_to.field-0.0 in
+    let played = not_held taken (Err fault) (PlayedUpTo c.args.after Nothing given old new) c.in_err-play_up_to.ensures.played in
     rw (failed_so c.from_residual-in_err-play_up_to.result _ c.from_residual-in_err-play_up_to.ensures.1)
-    (inr (c.in_ok-player.player, c.play_up_to.new.player, c.in_err-play_up_to.field-0.0, c.in_ok-player.ensures, c.in_err-play_up_to.ensures.played, refl))
+    (inr (c.in_ok-player.player, c.play_up_to.new.player, fault, c.in_ok-player.ensures, played, refl))
 
 pub returns-clause-play : goal.returns-clause-play
-returns-clause-play g c = (c.in_ok-player.player, c.in_ok-player.ensures, c.in_ok-play_up_to.ensures.played)
+returns-clause-play g c =
+    let given = given_by g.S.Source.given g.S.Source.ended c.args.source.now c.play_up_to.new.source in
+    let old = session c.in_ok-player.player (g.K.Sink.taken c.args.sink.now) in
+    let new = session c.play_up_to.new.player (g.K.Sink.taken c.play_up_to.new.sink) in
+    let taken = taken_by g.K.Sink.taken g.K.Sink.sent c.args.sink.now c.play_up_to.new.sink in
+    (c.in_ok-player.player, c.in_ok-player.ensures, not_held taken (Ok tt) (PlayedUpTo c.args.after Nothing given old new) c.in_ok-play_up_to.ensures.played)
 
 pub returns-clause-settings : goal.returns-clause-settings
 returns-clause-settings g c =
     let given = given_by g.S.Source.given g.S.Source.ended c.args.source.now c.play_up_to.new.source in
+    let old = session c.in_ok-player.player (g.K.Sink.taken c.args.sink.now) in
     let new = session c.play_up_to.new.player (g.K.Sink.taken c.play_up_to.new.sink) in
-    played_settings c.args.config.now c.args.after Nothing given (session c.in_ok-player.player (g.K.Sink.taken c.args.sink.now)) new c.in_ok-player.ensures c.in_ok-play_up_to.ensures.played
+    let taken = taken_by g.K.Sink.taken g.K.Sink.sent c.args.sink.now c.play_up_to.new.sink in
+    played_settings c.args.config.now c.args.after Nothing given old new c.in_ok-player.ensures (not_held taken (Ok tt) (PlayedUpTo c.args.after Nothing given old new) c.in_ok-play_up_to.ensures.played)
 
 pub returns-in_err-player-clause-reads : goal.returns-in_err-player-clause-reads
 returns-in_err-player-clause-reads g c = omega (arith, memory_unread c.from_residual.result c.from_residual.ensures.1)

@@ -1,5 +1,4 @@
 use Rattle.std.specs.Prelude.{string_bytes}
-use Rattle.inspector.specs.declared.pages_needed.lines.Scope.TheVariants.{Pace as By_pace}
 use Rattle.inspector.specs.NeededReport.{IsPaceReport}
 use Rattle.metronome.specs.Answered.{TellsPace}
 use Rattle.metronome.proofs.Finishing.{value_so}
@@ -9,4 +8,4 @@ pub returns : goal.returns
 returns c =
     let slow = c.slowest-slow.result in
     let m = c.args.measured.now in
-    value_so c.pace_report.result (λ text. IsPaceReport By_pace slow m.pace (string_bytes text)) (λ text. TellsPace c.args.config.now m (string_bytes text)) (λ text report. record { slow = slow; units = c.slowest-slow.ensures; report = report }) c.pace_report.ensures
+    value_so c.pace_report.result (λ text. IsPaceReport slow m.pace (string_bytes text)) (λ text. TellsPace c.args.config.now m (string_bytes text)) (λ text report. record { slow = slow; units = c.slowest-slow.ensures; report = report }) c.pace_report.ensures

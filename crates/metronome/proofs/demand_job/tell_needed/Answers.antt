@@ -10,7 +10,7 @@ returns-clause-told g c =
     let m = c.in_ok-measured.measured in
     let found = c.in_ok-found.found in
     let Tells : List ℕ → Type 0 = λ report. report ≡ needed_told c.args.config.now m.needed ++ room_line found in
-    let told = report_told Tells c.needed_report.result (taken_by g.K.Sink.taken c.args.sink.now c.tell_text.new.sink) c.tell_text.result c.needed_report.ensures c.tell_text.ensures.told in
+    let told = report_told Tells c.needed_report.result (taken_by g.K.Sink.taken g.K.Sink.sent c.args.sink.now c.tell_text.new.sink) c.tell_text.result c.needed_report.ensures c.tell_text.ensures.told in
     (Ok m, c.in_ok-measured.ensures.measured, (Ok found, c.in_ok-found.ensures.found, told))
 
 pub returns-in_err-measured-clause-reads : goal.returns-in_err-measured-clause-reads

@@ -11,7 +11,7 @@ returns-in_err-player-clause-writes g c = omega (arith, memory_unwritten c.from_
 
 pub returns-in_err-play-clause-done : goal.returns-in_err-play-clause-done
 returns-in_err-play-clause-done g c =
-    inr (c.in_ok-player.player, c.play.new.player, Err c.in_err-play.field-0.0, c.in_ok-player.ensures, c.in_err-play.ensures.played, failed_so c.from_residual-in_err-play.result _ c.from_residual-in_err-play.ensures.1)
+    inr (c.in_ok-player.player, c.play.new.player, Err c.in_err-play.field-0.0, c.in_ok-player.ensures, c.in_err-play.ensures.played, c.in_err-play.ensures.sent, failed_so c.from_residual-in_err-play.result _ c.from_residual-in_err-play.ensures.1)
 
 pub returns-in_err-play-clause-reads : goal.returns-in_err-play-clause-reads
 returns-in_err-play-clause-reads g c = reads_text c.from_residual-in_err-play.result c.in_err-play.field-0.0 _ _ c.from_residual-in_err-play.ensures.1 c.in_err-play.ensures.reads

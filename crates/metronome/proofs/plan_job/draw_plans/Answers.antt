@@ -1,5 +1,6 @@
 use Rattle.std.proofs.Common.{List, inr, refl, sym, subst, arith}
 use Rattle.std.specs.Prelude.{option_map}
+use Rattle.streams.specs.Streams.{taken_by}
 use Rattle.trace.specs.declared.fault.PlayFault.TheVariants as texts
 use Rattle.pictures.specs.PlanBars.{bars_picture}
 use Rattle.pictures.specs.declared.plan_bars.PlanBar.{PlanBar}
@@ -23,6 +24,7 @@ returns-in_err-bars-clause-writes g c = omega (arith, memory_unwritten c.from_re
 pub returns-clause-told : goal.returns-clause-told
 returns-clause-told g c =
     let bars = c.as_slice.result.now in
+    let taken = taken_by g.K.Sink.taken g.K.Sink.sent c.args.sink.now c.draw_bars.new.sink in
     let of_plans = subst (λ (bars : List PlanBar). ArePlanBars (option_map (λ said. said.items) c.args.classes.now) c.args.config.now c.args.live bars) (sym c.as_slice.ensures.value) c.in_ok-bars.ensures in
-    report_written (IsPlansPicture (option_map (λ said. said.items) c.args.classes.now) c.args.config.now c.args.live) (bars_picture bars) _ c.ended.result (bars, of_plans, refl)
-    (ended_told _ _ c.draw_bars.result c.ended.result c.draw_bars.ensures.ok c.draw_bars.ensures.err c.ended.ensures.ok c.ended.ensures.err)
+    report_written (IsPlansPicture (option_map (λ said. said.items) c.args.classes.now) c.args.config.now c.args.live) (bars_picture bars) taken c.ended.result (bars, of_plans, refl)
+    (ended_told (bars_picture bars) taken c.draw_bars.result c.ended.result c.draw_bars.ensures.ok c.draw_bars.ensures.err c.ended.ensures.ok c.ended.ensures.err)

@@ -46,13 +46,13 @@ pub returns-then-eq-clause-done : goal.returns-then-eq-clause-done
 returns-then-eq-clause-done g c =
     let files = g.O.Opener.known c.args.host.now.opener.now in
     let request = c.args.request.now in
-    let taken = taken_by g.K.Sink.taken c.args.sink.now c.serve-then-eq.new.sink in
+    let taken = taken_by g.K.Sink.taken g.K.Sink.sent c.args.sink.now c.serve-then-eq.new.sink in
     let served = c.serve-then-eq.ensures.done in
-    let done = job_from files files.input g.O.Input.Source.given g.O.Input.Source.ended g.O.Input.Source.failures g.O.Input.Source.input c.standard_input-input.result served.0 request.job c.in_ok-config.config taken c.serve-then-eq.result c.standard_input-input.ensures served.1 served.2 served.3 in
+    let done = job_from files.input g.O.Input.Source.given g.O.Input.Source.ended g.O.Input.Source.failures g.O.Input.Source.input c.standard_input-input.result served.0 request.job c.in_ok-config.config taken c.serve-then-eq.result c.standard_input-input.ensures served.1 served.2 served.3 in
     inl (
       c.in_ok-config.config,
       config_seen (files.named request.config.now).bytes c.in_ok-bytes.bytes.items c.as_slice.result.now (Ok c.in_ok-config.config) c.in_ok-bytes.ensures.bytes c.as_slice.ensures.value c.in_ok-config.ensures,
-      job_of files files.input _ request.job c.in_ok-config.config taken c.serve-then-eq.result (other_input files request.file c.in-Some.name c.in-Some.is c.if-eq.ensures) done,
+      job_of files.input _ request.job c.in_ok-config.config taken c.serve-then-eq.result (other_input files request.file c.in-Some.name c.in-Some.is c.if-eq.ensures) done,
     )
 
 pub returns-clause-done : goal.returns-clause-done
@@ -60,11 +60,11 @@ returns-clause-done g c =
     let files = g.O.Opener.known c.args.host.now.opener.now in
     let named = files.named c.in-Some.name.now in
     let request = c.args.request.now in
-    let taken = taken_by g.K.Sink.taken c.args.sink.now c.serve-2.new.sink in
+    let taken = taken_by g.K.Sink.taken g.K.Sink.sent c.args.sink.now c.serve-2.new.sink in
     let served = c.serve-2.ensures.done in
-    let done = job_from files named g.O.File.Source.given g.O.File.Source.ended g.O.File.Source.failures g.O.File.Source.input c.in_ok-file.file served.0 request.job c.in_ok-config.config taken c.serve-2.result c.in_ok-file.ensures.opened served.1 served.2 served.3 in
+    let done = job_from named g.O.File.Source.given g.O.File.Source.ended g.O.File.Source.failures g.O.File.Source.input c.in_ok-file.file served.0 request.job c.in_ok-config.config taken c.serve-2.result c.in_ok-file.ensures.opened served.1 served.2 served.3 in
     let seen = config_seen (files.named request.config.now).bytes c.in_ok-bytes.bytes.items c.as_slice.result.now (Ok c.in_ok-config.config) c.in_ok-bytes.ensures.bytes c.as_slice.ensures.value c.in_ok-config.ensures in
-    inl (c.in_ok-config.config, seen, job_of files named _ request.job c.in_ok-config.config taken c.serve-2.result (other_named files request.file c.in-Some.name c.in-Some.is c.if-eq.ensures) done)
+    inl (c.in_ok-config.config, seen, job_of named _ request.job c.in_ok-config.config taken c.serve-2.result (other_named files request.file c.in-Some.name c.in-Some.is c.if-eq.ensures) done)
 
 pub serve-requires : goal.serve-requires
 serve-requires g c = search (rules, none_taken c.new-nothing.result c.new-nothing.ensures.place)
@@ -74,11 +74,11 @@ returns-in_default-clause-done g c =
     let files = g.O.Opener.known c.args.host.now.opener.now in
     let job = c.args.request.now.job in
     let config = c.in_ok-config.config in
-    let taken = taken_by g.K.Sink.taken c.args.sink.now c.serve.new.sink in
+    let taken = taken_by g.K.Sink.taken g.K.Sink.sent c.args.sink.now c.serve.new.sink in
     let none = c.new-nothing.result in
     let read = config_seen (files.named c.args.request.now.config.now).bytes c.in_ok-bytes.bytes.items c.as_slice.result.now (Ok config) c.in_ok-bytes.ensures.bytes c.as_slice.ensures.value c.in_ok-config.ensures in
     let served = c.serve.ensures.done in
     let first = ap (λ n. take n none.bytes.now) c.new-nothing.ensures.place in
-    let reads = reads_told files no_file (λ _. 0) none served.0 refl (λ later few. absurd (omega (arith, few))) job c.serve.result served.2 in
-    let done = job_on files _ no_file (Some none.bytes.now) job config taken c.serve.result first (ap Some c.new-nothing.ensures.bytes) served.1 served.3 reads in
-    inl (config, read, job_of files no_file _ job config taken c.serve.result (other_none files c.args.request.now.file c.in_default.is) done)
+    let reads = reads_told no_file (λ _. 0) none served.0 c.serve.result refl (λ later few. absurd (omega (arith, few))) served.2 in
+    let done = job_on _ no_file (Some none.bytes.now) job config taken c.serve.result first (ap Some c.new-nothing.ensures.bytes) served.1 served.3 reads in
+    inl (config, read, job_of no_file _ job config taken c.serve.result (other_none files c.args.request.now.file c.in_default.is) done)

@@ -11,7 +11,7 @@ use Rattle.metronome.proofs.run.perform.Goals as goal
 pub returns-in_err-write_all-in-Err-Help-clause-done : goal.returns-in_err-write_all-in-Err-Help-clause-done
 returns-in_err-write_all-in-Err-Help-clause-done g c =
     let help = c.as_bytes.result.now in
-    let taken = taken_by g.K.Sink.taken c.args.sink.now c.write_all.new.sink in
+    let taken = taken_by g.K.Sink.taken g.K.Sink.sent c.args.sink.now c.write_all.new.sink in
     let told : TextWritten Done help taken c.from_residual.result =
     rw (failed_so c.from_residual.result (faults.Text texts.Write) c.from_residual.ensures.1) (refl, c.in_err-write_all-in-Err-Help.ensures.err) in
     inr (inl (c.in-Err-Help.ensures.help (subst IsHelp (sym c.in-Err-Help.field-0-is) tt), help, told))

@@ -10,8 +10,8 @@ returns-then-request-clause-done g c =
     let after = read.source in
     let is = c.new-told.ensures.source in (
       after,
-      done_below told read (λ t. t.source) c.args.source is (g.O.Opener.known c.args.host.now.opener.now) g.S.Source.given g.S.Source.ended c.args.request.now.job c.args.config.now (taken_by g.K.Sink.taken c.args.sink.now c.work.new.sink) c.work.result c.work.ensures.done,
-      counts_below told read (λ t. t.source) c.args.source is (g.O.Opener.known c.args.host.now.opener.now) g.S.Source.failures c.args.request.now.job c.work.result c.work.ensures.reads,
+      done_below told read (λ t. t.source) c.args.source is g.S.Source.given g.S.Source.ended c.args.request.now.job c.args.config.now (taken_by g.K.Sink.taken g.K.Sink.sent c.args.sink.now c.work.new.sink) c.work.result c.work.ensures.done,
+      counts_below told read (λ t. t.source) c.args.source is g.S.Source.failures c.work.result c.work.ensures.reads,
       (λ none. begins_on (g.S.Source.input c.args.source) (g.S.Source.input after) (g.S.Source.given after) (g.S.Source.ended after)
           (stays_from (g.S.Source.input after) g.S.Source.input c.args.source told.source is (c.work.ensures.input none)) (g.met.S.Source.begins after)),
     )

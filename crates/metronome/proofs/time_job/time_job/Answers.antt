@@ -21,7 +21,7 @@ returns-in_err-draw_time-clause-done g c =
     let new = g.K.Sink.taken c.draw_time.new.sink in
     let Items : List Sample → Type 0 = λ items. GrowsByPart old new (time_picture c.scale-scale.result items) in
     let Scaled : Scale → Type 0 = λ scale. GrowsByPart old new (time_picture scale samples.items.items) in
-    let Drawn : Result Ending RunFault → Type 0 = λ r. TextWritten Done (samples_picture c.args.config.now samples) (record { before = old; after = new }) r in
+    let Drawn : Result Ending RunFault → Type 0 = λ r. TextWritten Done (samples_picture c.args.config.now samples) (record { before = old; after = new; sent = g.K.Sink.sent c.draw_time.new.sink }) r in
     let part = subst Scaled c.scale-scale.ensures (subst Items c.as_slice.ensures.value c.in_err-draw_time.ensures.err) in
     let failed = failed_so c.from_residual-in_err-draw_time.result _ c.from_residual-in_err-draw_time.ensures.1 in
     (Ok samples, c.in_ok-samples.ensures.surveyed, subst Drawn (sym failed) (refl, part))

@@ -18,11 +18,11 @@ returns-then-not-is_closed c = creates_bad IsMadeOf _ _ _ _ (sym c.is_open.ensur
 pub returns-in-Err : goal.returns-in-Err
 returns-in-Err c =
     let s = c.args.settings.now in
-    let f : Some c.in-Err.fault ≡ fault_of Library s = ap result_err (sym c.in-Err.is) ∙ c.check.ensures.fault in
+    let f : Some c.in-Err.fault ≡ fault_of Library s = ap result_err (sym c.in-Err.is) ∙ c.check_for_library.ensures.fault in
     creates_none IsMadeOf _ _ s c.in-Err.fault _ (sym c.is_open.ensures ∙ c.if-is_open.false) (sym c.is_closed.ensures ∙ c.if-not-is_closed.false) f (c.number-in-Err.ensures ∙ ap status_number c.of_fault.ensures)
 
 pub returns : goal.returns
 returns c =
     let s = c.args.settings.now in
-    let f : None ≡ fault_of Library s = ap result_err (sym c.in-Ok.is) ∙ c.check.ensures.fault in
+    let f : None ≡ fault_of Library s = ap result_err (sym c.in-Ok.is) ∙ c.check_for_library.ensures.fault in
     creates_one IsMadeOf _ _ _ _ (record { heap = c.in-Ok-new.made; config = c.in-Ok.config; pacer = None; cycles = no_cycles }) s _ (sym c.is_open.ensures ∙ c.if-is_open.false) (sym c.is_closed.ensures ∙ c.if-not-is_closed.false) f (c.put.ensures ∙ ap Some c.in-Ok-new-2.ensures.ok) (search rules) (c.in-Ok-new.ensures.opening, c.in-Ok.ensures.values, c.in-Ok-new.ensures.settings, refl, refl)

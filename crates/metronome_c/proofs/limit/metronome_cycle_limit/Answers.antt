@@ -9,11 +9,11 @@ use Rattle.metronome_c.proofs.limit.metronome_cycle_limit.Goals as goal
 pub returns-in-Ok : goal.returns-in-Ok
 returns-in-Ok c =
     let s = c.args.settings.now in
-    let f : None ≡ fault_of Library s = ap result_err (sym c.in-Ok.is) ∙ c.check.ensures.fault in
+    let f : None ≡ fault_of Library s = ap result_err (sym c.in-Ok.is) ∙ c.check_for_library.ensures.fault in
     limit_told s c.in-Ok.config _ _ _ f c.in-Ok.ensures.values (search rules) (search rules)
 
 pub returns-in-Err : goal.returns-in-Err
 returns-in-Err c =
     let s = c.args.settings.now in
-    let f : Some c.in-Err.fault ≡ fault_of Library s = ap result_err (sym c.in-Err.is) ∙ c.check.ensures.fault in
+    let f : Some c.in-Err.fault ≡ fault_of Library s = ap result_err (sym c.in-Err.is) ∙ c.check_for_library.ensures.fault in
     limit_refused s c.in-Err.fault _ _ f (search rules)

@@ -1,19 +1,19 @@
-use Rattle.std.proofs.Common.{◌≡◌, ◌-◌, ◌≤◌, ◌^◌, ◌++◌, length, Some}
+use Rattle.std.proofs.Common.{◌≡◌, ◌-◌, ◌^◌, Some}
 use Rattle.std.specs.List.{count_by}
 use Rattle.streams.specs.Streams.{given_by}
 use Rattle.trace.proofs.LinesProcessed.{SoFar}
 use Rattle.trace.proofs.Reading.{IsReading}
-use Rattle.player.specs.Playing.{session, PlaysLine, IsWrittenUpTo, is_event, EndAtEvent}
+use Rattle.player.specs.Playing.{session, PlaysLine, is_event, EndAtEvent}
 use Rattle.player.proofs.First.{AreLeft}
+use Rattle.player.proofs.Sent.{SentSoFar}
 use Rattle.player.proofs.playing.play_lines.Given as goal
 
--- the lines so far are done, none of them after the nth event; those behind what is written waited in the reader's buffer; and
+-- the lines so far are done, none of them after the nth event; those behind what is sent on waited in the reader's buffer; and
 -- no read or write has failed
 abbrev pub invariant-loop-reader : goal.invariant-loop-reader
 invariant-loop-reader g l = record {
-  done : SoFar (PlaysLine l.style) (given_by g.S.Source.given g.S.Source.ended l.fn.source l.source) (session l.fn.player (g.K.Sink.taken l.fn.sink)) (session l.player (g.K.Sink.taken l.sink ++ l.waiting)) l.reader;
-  grows : length (g.K.Sink.taken l.fn.sink) ≤ length (g.K.Sink.taken l.sink);
-  behind : IsWrittenUpTo l.style (session l.fn.player (g.K.Sink.taken l.fn.sink)) done.lines done.events l.reader.kept (g.K.Sink.taken l.sink);
+  done : SoFar (PlaysLine l.style) (given_by g.S.Source.given g.S.Source.ended l.fn.source l.source) (session l.fn.player (g.K.Sink.taken l.fn.sink)) (session l.player (g.K.Sink.taken l.sink)) l.reader;
+  sent : SentSoFar l.style (session l.fn.player (g.K.Sink.taken l.fn.sink)) done.lines done.events l.reader.kept (g.K.Sink.sent l.sink);
   few : AreLeft l.fn.n (count_by is_event done.lines) l.left;
   at_end : l.left ≡ Some 0 → EndAtEvent done.lines;
   none : l.fn.n ≡ Some 0 → l.source ≡ l.fn.source;

@@ -1,4 +1,4 @@
-use Rattle.std.proofs.Common.{◌≡◌, ◌-◌, [], ap, ◌∙◌, sym, subst, arith}
+use Rattle.std.proofs.Common.{◌≡◌, [], ap, ◌∙◌, sym, subst, arith}
 use Rattle.heap_model.specs.Store.{Store}
 use Rattle.nodes.specs.Grey.{GreySet, grey_in, with_buffer, AreLinked}
 use Rattle.satb_barrier.proofs.Listing.{few, named, none_of, emptied_same, last_some, last_is_grey, hung_grey, hung_linked}
@@ -38,4 +38,4 @@ returns-clause-linked c =
     subst (AreLinked c.set_link.new.self) (sym (emptied (goal.at.returns-clause-linked c).After-clear))
     (subst (λ (s : Store). AreLinked s (record (with_buffer a.grey c.args.mutator []) { first = c.first_record-first.result })) (sym link.linked)
     (hung_linked a.nodes a.grey c.requires.grey.some c.requires.grey.once c.args.mutator c.requires.mutator c.in-Some.last (sym c.last_record.ensures ∙ c.in-Some.is) c.first.result
-    (named a.nodes c.set_link.new.self c.in-Some.last c.first.result link.linked link.there) c.requires.linked c.first_record-first.result))
+    (named a.nodes c.set_link.new.self c.in-Some.last c.first.result link.linked link.there) c.requires.linked c.first.ensures (few a c.requires.grey) c.first_record-first.result c.first_record-first.ensures))

@@ -60,6 +60,12 @@ returns-clause-buffers c =
     all_empty c.loop-mutator.heap.grey.buffers
     (λ k l. i.5 k (let n = i.3 in let b = c.requires.buffers in let e : c.limits-mutator-end.result.mutators ≡ c.args.heap.now.roots.limits.mutators = ap (λ (x : Limits). x.mutators) c.limits-mutator-end.ensures.limits in omega (arith, l, n, b, e, c.loop-mutator-test.false)))
 
+pub returns-clause-linked : goal.returns-clause-linked
+returns-clause-linked c = c.loop-mutator.invariant.4
+
+pub returns-then-not-records-clause-linked : goal.returns-then-not-records-clause-linked
+returns-then-not-records-clause-linked c = c.requires.linked
+
 pub returns-then-not-records-clause-buffers : goal.returns-then-not-records-clause-buffers
 returns-then-not-records-clause-buffers c = buffers_none c.args.heap.now.nodes c.args.heap.now.grey (c.requires.empty (sym c.records.ensures ∙ c.if-not-records.true))
 

@@ -1,9 +1,8 @@
-use Rattle.std.proofs.Common.{◌≡◌, ◌+◌, ◌-◌, [], ◌∷◌, ◌++◌, ℕ, length, ap, ◌∙◌, sym, subst, arith}
+use Rattle.std.proofs.Common.{◌≡◌, [], ◌∷◌, ◌++◌, ℕ, ap, ◌∙◌, sym, subst, arith}
 use Rattle.heap_model.specs.Store.{Store}
 use Rattle.nodes.specs.declared.heap_fields.HeapFields.{HeapFields}
 use Rattle.nodes.specs.Grey.{GreySet, grey_in, buffer_of, with_buffer, AreLinked}
-use Rattle.nodes.proofs.Linking.{linked_more}
-use Rattle.satb_barrier.proofs.Listing.{named, none_of, own_record, last_some, last_is_grey, more_grey, more_linked}
+use Rattle.satb_barrier.proofs.Listing.{named, none_of, own_record, last_some, last_is_grey, more_grey, more_linked, first_linked}
 use Rattle.satb_barrier.proofs.list.push_record.Goals.{in-Some, in_default}
 use Rattle.satb_barrier.proofs.list.push_record.Goals as goal
 
@@ -44,10 +43,10 @@ returns-clause-linked c =
           subst (AreLinked h.nodes) (sym (pushed a h m part w.set_link.new.self c.push.new.self e c.push.ensures))
           (subst (λ (s : Store). AreLinked s records) (sym (sym (ap (λ (x : HeapFields). x.nodes) e) ∙ link.linked))
           (more_linked a.nodes a.grey c.requires.none c.requires.once m c.requires.mutator w.in-Some.last (sym c.last_record.ensures ∙ w.in-Some.is) part
-          (named a.nodes w.set_link.new.self w.in-Some.last part link.linked link.there) c.requires.linked)))
+          (named a.nodes w.set_link.new.self w.in-Some.last part link.linked link.there) c.requires.linked c.requires.some c.requires.part c.requires.fresh)))
       | in_default w ↦ (let e : a ≡ h = cc (w.heap-is) in
           let empty : buffer_of a.grey m ≡ [] = none_of _ (sym c.last_record.ensures ∙ w.in_default.is) in
           subst (AreLinked h.nodes) (sym (pushed a h m part a.nodes c.push.new.self e c.push.ensures))
           (subst (λ (s : Store). AreLinked s records) (ap (λ (x : HeapFields). x.nodes) e)
-          (linked_more a.nodes a.grey m part c.requires.mutator c.requires.linked (λ i l. absurd (let n : length (buffer_of a.grey m) ≡ 0 = ap length empty in omega (arith, l, n))))))
+          (first_linked a.nodes a.grey m part c.requires.mutator c.requires.linked empty c.requires.some c.requires.part c.requires.fresh)))
     ]

@@ -5,7 +5,7 @@ use Rattle.heap_model.specs.Pages.{page_at}
 use Rattle.heap_model.specs.declared.phase.Phase.TheVariants as phases
 use Rattle.heap_model.specs.State.{HeapState}
 use Rattle.heap_model.specs.Written.{records}
-use Rattle.nodes.proofs.Keeping.{store_still}
+use Rattle.nodes.proofs.Keeping.{store_still, linked_left, linked_charged}
 use Rattle.nodes.specs.declared.heap_fields.HeapFields.{HeapFields}
 use Rattle.nodes.specs.HeapFields.{state_of}
 use Rattle.sweeper.proofs.Acting.{blocks_few, in_use}
@@ -23,4 +23,9 @@ returns-clause-acts c =
     subst (λ (x : HeapFields). Chain h n (state_of x)) (sym c.charge.ensures)
     (subst (λ m. Chain h n (goes_to (state_of (record a { nodes = c.sweep.new.self })) m (phases.Sweeping c.args.page (c.args.block + n)))) (let e : n ≡ n * LOOK = omega arith in e)
     (subst (λ (k : HeapState). Chain h n (goes_to k n (phases.Sweeping c.args.page (c.args.block + n)))) (sym (store_still a c.requires.heap (ap records c.requires.phase) c.sweep.new.self))
-    (c.sweep.ensures h refl refl c.requires.phase)))
+    (c.sweep.ensures.sweeps h refl refl c.requires.phase)))
+
+pub returns-clause-linked : goal.returns-clause-linked
+returns-clause-linked c =
+    let a = c.args.heap.now in
+    linked_charged (record a { nodes = c.sweep.new.self }) c.charge.new.self _ _ c.charge.ensures (linked_left a c.requires.heap (ap records c.requires.phase) c.sweep.new.self c.sweep.ensures.links)

@@ -1,15 +1,15 @@
-use Rattle.graph_heap.proofs.Reaching.{object_found, no_object_found}
-use Rattle.std.proofs.Common.{ap, ◌∙◌, map}
+use Rattle.std.proofs.Common.{ap, ◌∙◌}
 use Rattle.graph_heap.specs.Graph.{Graph, Object, object_of}
 use Rattle.graph_heap.specs.Stored.{object_in}
+use Rattle.graph_heap.proofs.Reaching.{object_found, no_object_found}
 use Rattle.graph_heap.proofs.reference.Reference.shape.Goals as goal
 
 pub returns-in-Ok : goal.returns-in-Ok
 returns-in-Ok c =
-    ap (λ (o : Object). o.shape) (object_found (map object_in c.as_slice.result.now) c.args.id (object_in c.in-Ok.object.now) c.in-Ok.ensures)
-    ∙ ap (λ xs. (object_of (map object_in xs) c.args.id).shape) c.as_slice.ensures.value ∙ ap (λ (g : Graph). (object_of g.objects c.args.id).shape) c.self.view_is
+    ap (λ (o : Object). o.shape) (object_found c.self.inside.objects c.args.id (object_in c.in-Ok.object.now) c.in-Ok.ensures)
+    ∙ ap (λ (g : Graph). (object_of g.objects c.args.id).shape) c.self.view_is
 
 pub returns-in-Err : goal.returns-in-Err
 returns-in-Err c =
-    ap (λ (o : Object). o.shape) (no_object_found (map object_in c.as_slice.result.now) c.args.id c.in-Err.field-0 c.in-Err.ensures)
-    ∙ ap (λ xs. (object_of (map object_in xs) c.args.id).shape) c.as_slice.ensures.value ∙ ap (λ (g : Graph). (object_of g.objects c.args.id).shape) c.self.view_is
+    ap (λ (o : Object). o.shape) (no_object_found c.self.inside.objects c.args.id c.in-Err.field-0 c.in-Err.ensures)
+    ∙ ap (λ (g : Graph). (object_of g.objects c.args.id).shape) c.self.view_is

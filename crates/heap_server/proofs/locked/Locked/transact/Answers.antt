@@ -49,7 +49,7 @@ invariant_of-self-2 g c =
     let made : Reply → Entry = λ reply. record { mutator = m; command = c.args.command; reply = reply } in
     let history = c.self.inside.recorded.course.history in (
       call_kept _ _ _ _ _ _ c.self.invariant.0 d (c.add.ensures.total ∙ ap (λ (n : ℕ). n + 1) c.audit.ensures.total) refl refl refl refl,
-      t.0 ∙ (ap (λ (w : List Entry). w ++ c.from_command-next.result ∷ []) c.self.invariant.1 ∙ (ap (λ (e : Entry). history ++ e ∷ []) (c.from_command-next.ensures ∙ ap made (sym d.replies)) ∙ sym d.history)),
+      t.0 ∙ (ap (λ (w : List Entry). w ++ c.next_entry-next.result ∷ []) c.self.invariant.1 ∙ (ap (λ (e : Entry). history ++ e ∷ []) (c.next_entry-next.ensures ∙ ap made (sym d.replies)) ∙ sym d.history)),
       omega (arith, c.self.invariant.2, c.in-Ok.ensures.left),
     )
 
@@ -59,7 +59,7 @@ invariant_of-seat-2 g c =
     let t = where_done _ _ _ _ (c.if-found-at.false ∙ sym len) c.commit-found.ensures.done in
     let m = c.seat.inside.mutator in
     let front = c.self.inside.front in
-    let grown : length (mine c.commit-found.new.mine m) ≡ length (mine front m) + 1 = ap (λ (w : List Entry). length (mine w m)) (t.1 ∙ t.0) ∙ mine_more front c.from_command-next.result m (ap (λ (e : Entry). e.mutator) c.from_command-next.ensures) in (
+    let grown : length (mine c.commit-found.new.mine m) ≡ length (mine front m) + 1 = ap (λ (w : List Entry). length (mine w m)) (t.1 ∙ t.0) ∙ mine_more front c.next_entry-next.result m (ap (λ (e : Entry). e.mutator) c.next_entry-next.ensures) in (
       omega (arith, c.add.ensures.parts, c.audit.ensures.parts, c.seat.invariant.0),
       omega (arith, c.add.ensures.amount, c.audit.ensures.amount, c.seat.invariant.1),
       omega (arith, c.add.ensures.amount, c.audit.ensures.amount, c.seat.invariant.2, mine_grows c.seat.inside.front front m t.2, grown),

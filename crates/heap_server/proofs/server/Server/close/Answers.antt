@@ -16,29 +16,20 @@ returns-clause-counted g c =
     c.locked.invariant.0.counted ∙ (sym (c.audit-4.ensures.whole parts) ∙ c.gathered.ensures.amount)
 
 pub returns-clause-found : goal.returns-clause-found
-returns-clause-found g c = c.observe-found.ensures.found
-
-pub returns-clause-whole : goal.returns-clause-whole
-returns-clause-whole g c =
+returns-clause-found g c =
     let h = c.locked.inside.recorded.course.history in
-    let begins = subst (λ (t : List Entry). IsPrefix t c.gathered.new.front) (c.again-seen.ensures ∙ c.locked.invariant.1) c.gathered.ensures.grows in
-    prefix_trans h c.gathered.new.front c.observe-found.new.self begins c.observe-found.ensures.grows
-
-pub returns-clause-seen : goal.returns-clause-seen
-returns-clause-seen g c =
-    let known = known_all c.args.seats.items c.gathered.new.front c.gathered.ensures.known in
-    all_seen c.args.seats.items c.observe-found.new.self (known_grows c.args.seats.items c.gathered.new.front c.observe-found.new.self c.observe-found.ensures.grows known)
-
-pub returns-clause-begins : goal.returns-clause-begins
-returns-clause-begins g c =
-    let begins = subst (λ (h : List Entry). IsPrefix h c.gathered.new.front) (c.again-seen.ensures ∙ c.locked.invariant.1) c.gathered.ensures.grows in
-    each_begins c.args.seats.items c.locked.inside.recorded.course.history c.gathered.new.front begins (known_all c.args.seats.items c.gathered.new.front c.gathered.ensures.known)
-
-pub returns-clause-told : goal.returns-clause-told
-returns-clause-told g c = λ same.
-    let h = c.locked.inside.recorded.course.history in
+    let seats = c.args.seats.items in
     let log = c.observe-found.new.self in
-    let known = known_all c.args.seats.items c.gathered.new.front c.gathered.ensures.known in
-    let begins : IsPrefix h log = prefix_trans h c.gathered.new.front log (subst (λ (t : List Entry). IsPrefix t c.gathered.new.front) (c.again-seen.ensures ∙ c.locked.invariant.1) c.gathered.ensures.grows) c.observe-found.ensures.grows in
-    let whole : h ≡ log = prefix_whole h log begins (omega (arith, same, c.observe-found.ensures.found)) in
-    counted_told c.args.seats.items h g.N.Naming.names.settings.limits.mutators (subst (λ (t : List Entry). All (IsKnown t) c.args.seats.items) (sym whole) (known_grows c.args.seats.items c.gathered.new.front log c.observe-found.ensures.grows known)) c.requires (returns-clause-counted g c)
+    let known = known_all seats c.gathered.new.front c.gathered.ensures.known in
+    let first = subst (λ (t : List Entry). IsPrefix t c.gathered.new.front) (c.again-seen.ensures ∙ c.locked.invariant.1) c.gathered.ensures.grows in
+    let begins : IsPrefix h log = prefix_trans h c.gathered.new.front log first c.observe-found.ensures.grows in
+    let all = known_grows seats c.gathered.new.front log c.observe-found.ensures.grows known in
+    record {
+      log = log;
+      length_is = c.observe-found.ensures.found;
+      whole = begins;
+      seen = all_seen seats log all;
+      begins = each_begins seats h c.gathered.new.front first known;
+      told = λ same. (let whole : h ≡ log = prefix_whole h log begins (omega (arith, same, c.observe-found.ensures.found)) in
+          counted_told seats h g.N.Naming.names.settings.limits.mutators (subst (λ (t : List Entry). All (IsKnown t) seats) (sym whole) all) c.requires (returns-clause-counted g c));
+    }

@@ -37,7 +37,7 @@ split_seat-seat-requires c =
     let ends = ap (λ (y : Me Ringed Known). y.0.to) did.2 in (
       did.0 ∙ (c.self.invariant.0 ∙ sym (ap (λ t. t.shared.table_id) d)),
       omega (arith, words),
-      splits key seat.id seat.me.0 (ap (λ (y : Me Ringed Known). y.0.inside) did.2 ∙ out.1)
+      splits key seat.id seat.me.0 _ (ap (λ (y : Me Ringed Known). y.0.config) did.2 ∙ c.self.invariant.2) (ap (λ (y : Me Ringed Known). y.0.inside) did.2 ∙ out.1)
           (omega (arith, cut, starts, from, low, c.self.invariant.3))
           (omega (arith, cut, ends, from, high, c.self.invariant.4)),
     )

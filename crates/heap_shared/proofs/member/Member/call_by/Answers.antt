@@ -11,7 +11,7 @@ invariant_of-self g c =
     let low : c.self.inside.from ≤ c.args.mutator = search rules in
     let high : c.args.mutator < c.self.inside.to = search rules in
     let within : IsWithin known.from known.to c.args.mutator = (omega (arith, i.3, low), omega (arith, i.4, high)) in
-    with_last i (commanded _ _ _ _ _ _ has i.5 c.slot_mut.ensures.value _ c.args.mutator c.args.command c.call_by.result within refl c.call_by.ensures.does c.call_by.ensures.ring)
+    with_last i (commanded _ _ _ _ _ _ has i.5 c.slot_mut.ensures.value _ c.args.mutator c.args.command c.call_by.result within refl c.call_by.ensures)
 
 pub returns : goal.returns
 returns g c =
@@ -20,4 +20,4 @@ returns g c =
     let low : c.self.inside.from ≤ c.args.mutator = search rules in
     let high : c.args.mutator < c.self.inside.to = search rules in
     let within : IsWithin known.from known.to c.args.mutator = (omega (arith, c.self.invariant.3, low), omega (arith, c.self.invariant.4, high)) in
-    called _ _ _ _ _ c.call_by.new.self has c.self.invariant.5 c.slot_mut.ensures.value _ _ c.self.view_is c.args.mutator c.args.command c.call_by.result within c.call_by.ensures.does
+    called _ _ _ _ _ c.call_by.new.self has c.self.invariant.5 c.slot_mut.ensures.value _ _ c.self.view_is c.args.mutator c.args.command c.call_by.result within c.call_by.ensures

@@ -2,7 +2,7 @@ use Rattle.std.proofs.Common.{rules, ◌≡◌, ◌<◌, true, sym, ap, ◌∙�
 use Rattle.std.specs.Arc.{arc_value}
 use Rattle.heap_shared.proofs.Turns.{leaves}
 use Rattle.heap_shared.specs.Members.{Leaves}
-use Rattle.heap_shared.proofs.Members.{carries_one, leaves_so, shown_so}
+use Rattle.heap_shared.proofs.Members.{carries_one, leaves_so, leaves_grow, shown_so}
 use Rattle.heap_shared.proofs.member.Member.leave.Goals as goal
 
 pub store-requires : goal.store-requires
@@ -28,3 +28,6 @@ returns-clause-leaves c =
     let new = c.store.new.seat in
     let has : c.self.inside.inside ≡ true = search rules in
     shown_so (λ v w. Leaves v true w) old.table_id new.table_id key old.me new.me _ c.store.ensures.0 c.self.view_is (leaves_so old.table_id key _ _ old.me new.me has c.self.invariant.5 c.store.ensures.2)
+
+pub returns-clause-grows : goal.returns-clause-grows
+returns-clause-grows c = leaves_grow _ true _ (returns-clause-leaves c)

@@ -10,4 +10,4 @@ new-requires-2 c =
     let config = c.args.asked.now in
     let r = c.in_ok-heap.heap in
     let items : c.push_reserved.new.self.items ≡ r ∷ [] = c.push_reserved.ensures.items ∙ ap (λ (xs : List Ringed). xs ++ r ∷ []) c.in_ok-slots.ensures.items in
-    subst (λ (xs : List Ringed). Keeps config (opening _ xs (newcomer config))) (sym items) (opens config _ r (omega arith) refl c.in_ok-heap.ensures.history c.in_ok-heap.ensures.asked)
+    subst (λ (xs : List Ringed). Keeps config (opening _ xs (newcomer config))) (sym items) (opens config _ r (omega arith) refl c.in_ok-heap.ensures.events c.in_ok-heap.ensures.asked)

@@ -1,15 +1,26 @@
-use Rattle.std.proofs.Common.{◌≡◌, refl, sym, subst}
+use Rattle.std.proofs.Common.{refl, ◌∙◌, sym, ap, List}
 use Rattle.circular_buffer.specs.Buffer.{keep_last}
-use Rattle.heap_model.specs.Event.{Cycle_begun, IsCourse}
-use Rattle.heap_model.proofs.Event.Kept.{does_course}
-use Rattle.heap_shared.specs.Past.{PastView, course_of, begun_here}
+use Rattle.graph_heap.specs.declared.command.Entry.{Entry}
+use Rattle.machine.specs.Recorded.{begin_done}
+use Rattle.heap_shared.proofs.Pasts.{begin_does, begin_quiet, led_now, goes_by, history_still}
 use Rattle.heap_shared.proofs.shared_heap.SharedHeap.begin.Goals as goal
 
-pub invariant_of-self-2 : goal.invariant_of-self-2
-invariant_of-self-2 c =
-    let b = c.in_ok-begin.ensures.begins in
-    let p = c.self.inside.history.value in
-    let ring = c.self.inside.ring.entries in
-    let i = c.self.invariant in
-    subst (λ (q : PastView). IsCourse (course_of c.begin.new.self q) × (ring.items ≡ keep_last ring.capacity q.history)) (sym c.begun-self-inside.ensures)
-    (does_course (course_of c.self.inside.heap p) Cycle_begun (course_of c.begin.new.self (begun_here p)) i.0 (record { idle = b.0; heap = b.1; history = refl; place = refl }), i.1)
+pub invariant_of-self : goal.invariant_of-self
+invariant_of-self c =
+    let h = c.self.inside.heap in
+    let p = c.self.inside.past.value in
+    let a = c.begin-told.result in
+    let now = c.begun-self-inside in
+    let does = begin_does h p _ a c.begin-told.ensures.begins in
+    let cap = c.self.inside.ring.entries.capacity in (
+      led_now h _ p now.result.value (begin_done a) now.ensures does c.self.invariant.0,
+      c.self.invariant.1 ∙ ap (λ (es : List Entry). keep_last cap es) (sym (history_still h _ p now.result.value (begin_done a) now.ensures does (begin_quiet a))),
+    )
+
+pub returns : goal.returns
+returns c =
+    let h = c.self.inside.heap in
+    let p = c.self.inside.past.value in
+    let a = c.begin-told.result in
+    let now = c.begun-self-inside in
+    goes_by h _ p now.result.value (begin_done a) now.ensures (begin_does h p _ a c.begin-told.ensures.begins) _ _ _ c.self.view_is refl

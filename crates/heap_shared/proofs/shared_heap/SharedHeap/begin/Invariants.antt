@@ -1,6 +1,7 @@
-use Rattle.heap_shared.specs.Past.{begun_here}
+use Rattle.machine.specs.Recorded.{begin_done}
+use Rattle.heap_shared.specs.Past.{with_event}
 use Rattle.heap_shared.proofs.shared_heap.SharedHeap.begin.Given as goal
 
 -- the past after the call
 abbrev pub ghost-begun : goal.ghost-begun
-ghost-begun a = begun_here a.past.now.value
+ghost-begun a = with_event a.past.now.value (begin_done a._told)

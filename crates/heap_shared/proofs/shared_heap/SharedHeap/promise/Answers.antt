@@ -1,15 +1,13 @@
 use Rattle.std.proofs.Common.{subst}
-use Rattle.heap_model.specs.Event.{IsCourse}
 use Rattle.machine.proofs.Headline.{always_holds}
-use Rattle.machine.proofs.Space.{finds_space, found_space}
+use Rattle.heap_shared.specs.Past.{IsLed}
 use Rattle.heap_shared.specs.Ring.{Ringed}
+use Rattle.heap_shared.proofs.Pasts.{led_course}
 use Rattle.heap_shared.proofs.shared_heap.SharedHeap.promise.Goals as goal
 
-pub returns-clause-space : goal.returns-clause-space
-returns-clause-space c = finds_space c.args.self.now.course
-
 pub returns-clause-headline : goal.returns-clause-headline
-returns-clause-headline c = always_holds c.args.self.now.course (subst (λ (x : Ringed). IsCourse x.course) c.self.view_is c.self.invariant.0)
+returns-clause-headline c =
+    always_holds c.args.self.now.course (led_course _ _ (subst (λ (x : Ringed). IsLed x.events x.course) c.self.view_is c.self.invariant.0))
 
-pub returns-clause-found : goal.returns-clause-found
-returns-clause-found c = found_space c.args.self.now.course
+pub returns-clause-led : goal.returns-clause-led
+returns-clause-led c = subst (λ (x : Ringed). IsLed x.events x.course) c.self.view_is c.self.invariant.0

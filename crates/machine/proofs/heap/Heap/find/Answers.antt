@@ -1,7 +1,7 @@
 use Rattle.std.proofs.Common.{◌∙◌, Ok, refl, subst, sym, slice_index}
 use Rattle.std.proofs.lemmas.Result.{err_from_is_err_and}
 use Rattle.machine.proofs.Cells.{cell_refused, no_cell}
-use Rattle.machine.specs.declared.plan.Cell.{Cell}
+use Rattle.arraylets.specs.declared.cells.Cell.{Cell}
 use Rattle.machine.specs.Reading.{FindsCell}
 use Rattle.machine.proofs.FarCells.{stands_in, reaches_far, same_cell}
 use Rattle.machine.proofs.Reached.{reached, finds_cell}

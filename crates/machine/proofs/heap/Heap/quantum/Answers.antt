@@ -4,14 +4,12 @@ use Rattle.heap_model.specs.Agreement.{Agrees}
 use Rattle.heap_model.specs.QuantumSpending.{QuantumSpends}
 use Rattle.heap_model.proofs.QuantumSpending.Costs.{turn_left}
 use Rattle.nodes.specs.HeapFields.{state_of}
-use Rattle.nodes.proofs.Linking.{none_linked}
 use Rattle.machine.proofs.Collecting.{chain_agrees, flushed_heap, flushed_turn}
 use Rattle.machine.proofs.heap.Heap.quantum.Goals as goal
 
 pub spend-units-requires-clause-heap : goal.spend-units-requires-clause-heap
 spend-units-requires-clause-heap c =
-    flushed_heap c.self.inside.fields c.flush_all.new.heap c.self.invariant c.flush_all.ensures.same c.flush_all.ensures.grey c.flush_all.ensures.links c.flush_all.ensures.count
-    (none_linked c.flush_all.new.heap.nodes c.flush_all.new.heap.grey c.flush_all.ensures.buffers)
+    flushed_heap c.self.inside.fields c.flush_all.new.heap c.self.invariant c.flush_all.ensures.same c.flush_all.ensures.grey c.flush_all.ensures.links c.flush_all.ensures.count c.flush_all.ensures.linked
 
 -- the turn begins where the buffers have what was recorded
 turn : (c : goal.After-result-1) → QuantumSpends (state_of c.self.inside.fields) c.args.budget (state_of c.spend-units.new.heap) c.spend-units.result

@@ -25,7 +25,7 @@ act-requires-clause-buffers c = ap in_buffers c.loop-heap.invariant.buffers ∙ 
 
 -- after one more step
 on : (c : goal.Then-act) → HasSpent c.args.heap.now c.act.new.heap c.args.budget × (c.loop-heap.heap.units < c.act.new.heap.units)
-on c = spends_on c.args.heap.now c.loop-heap.heap c.act.new.heap c.args.budget c.loop-heap.invariant c.if-act.ensures.acts c.if-act.ensures.buffers c.requires.buffers
+on c = spends_on c.args.heap.now c.loop-heap.heap c.act.new.heap c.args.budget c.loop-heap.invariant c.if-act.ensures.acts c.if-act.ensures.buffers c.if-act.ensures.linked
 
 pub loop-heap-smaller : goal.loop-heap-smaller
 loop-heap-smaller c =

@@ -39,7 +39,7 @@ loop-i-preserved c =
     let does : DoesEach (state_of a) write (state_of b) = subst (DoesEach (state_of a) write) (sym same) (word_does (state_of a) (cell_behind c.args.run.at i) word c.set_cell.new.self c.set_cell.ensures.written) in
     let now = (c.loop-i.invariant.1 r.0 r.1 r.2 r.3).0 in (
       written_heap a b w write (run_can (state_of a) w.heap r.0 r.1 r.2 c.args.run now i (omega arith) word) does refl
-          (linked_still a c.set_cell.new.self w.linked (are_allocated a w) c.set_cell.ensures.links),
+          (linked_still a c.set_cell.new.self w.linked (are_allocated a w) (ap length c.set_cell.ensures.written.pages) c.set_cell.ensures.links),
       λ m obj first has.
           let so = c.loop-i.invariant.1 m obj first has in (
             subst (λ (x : HeapState). HasRun x m obj first c.args.run) (sym same)

@@ -19,27 +19,22 @@ returns-in-Nothing c =
     subst (λ (w : Write). IsWritten a c.args.mutator w a) (sym c.in-Nothing.is)
     (record { does = λ g x is p. subst (λ (y : Change). DoesChange h g y h) (sym p) Does_nothing; buffers = refl; linked = c.requires.heap.linked })
 
-pub set_cell-requires-clause-allocated : goal.set_cell-requires-clause-allocated
-set_cell-requires-clause-allocated c =
+pub put-requires : goal.put-requires
+put-requires c =
     let w = c.requires.heap.heap in
     let p = subst (CanPerform (state_of c.args.heap.now)) c.in-Word.is c.requires.write w.present (present_agrees _ w) in
-    word_allocated (state_of c.args.heap.now) w.present (present_agrees _ w) p.1.0 p.1.1 c.in-Word.at p.1.3
-
-pub set_cell-requires-clause-within : goal.set_cell-requires-clause-within
-set_cell-requires-clause-within c =
-    let w = c.requires.heap.heap in
-    (subst (CanPerform (state_of c.args.heap.now)) c.in-Word.is c.requires.write w.present (present_agrees _ w)).1.3.1.within
+    record { allocated = word_allocated (state_of c.args.heap.now) w.present (present_agrees _ w) p.1.0 p.1.1 c.in-Word.at p.1.3; within = p.1.3.1.within }
 
 pub returns-in-Word : goal.returns-in-Word
 returns-in-Word c =
     let a = c.args.heap.now in let h = state_of a in
-    subst (λ (w : Write). IsWritten a c.args.mutator w (record a { nodes = c.set_cell.new.self })) (sym c.in-Word.is)
+    subst (λ (w : Write). IsWritten a c.args.mutator w (record a { nodes = c.put.new.nodes })) (sym c.in-Word.is)
     (record {
       does =
-          subst (DoesEach h (writes.Word c.in-Word.at c.in-Word.word)) (sym (store_kept a (are_allocated a c.requires.heap) c.set_cell.new.self (ap length c.set_cell.ensures.written.pages) c.set_cell.ensures.links))
-          (word_does h c.in-Word.at c.in-Word.word _ c.set_cell.ensures.written);
+          subst (DoesEach h (writes.Word c.in-Word.at c.in-Word.word)) (sym (store_kept a (are_allocated a c.requires.heap) c.put.new.nodes (ap length c.put.ensures.written.pages) c.put.ensures.links))
+          (word_does h c.in-Word.at c.in-Word.word _ c.put.ensures.written);
       buffers = refl;
-      linked = linked_still a c.set_cell.new.self c.requires.heap.linked (are_allocated a c.requires.heap) c.set_cell.ensures.links;
+      linked = linked_still a c.put.new.nodes c.requires.heap.linked (are_allocated a c.requires.heap) (ap length c.put.ensures.written.pages) c.put.ensures.links;
     })
 
 pub set_live-requires : goal.set_live-requires

@@ -45,5 +45,5 @@ returns c =
           (sym (store_kept rec c.record_root.ensures.allocated new count c.new_object-block.ensures.links))
           (new_does (state_of a) (state_of rec) _ c.record_root.ensures.records c.args.root c.new_object-block.result c.args.shape new refl made));
       buffers = c.record_root.ensures.buffers;
-      linked = linked_still rec new c.record_root.ensures.linked c.record_root.ensures.allocated c.new_object-block.ensures.links;
+      linked = linked_still rec new c.record_root.ensures.linked c.record_root.ensures.allocated count c.new_object-block.ensures.links;
     }

@@ -12,7 +12,7 @@ returns-clause-told g c = (Ok c.in_ok-draw_graph.field-0, c.in_ok-draw_graph.ens
 
 pub returns-in_err-draw_graph-clause-reads : goal.returns-in_err-draw_graph-clause-reads
 returns-in_err-draw_graph-clause-reads g c =
-    let taken = taken_by g.K.Sink.taken c.args.sink.now c.draw_graph.new.sink in
+    let taken = taken_by g.K.Sink.taken g.K.Sink.sent c.args.sink.now c.draw_graph.new.sink in
     text_unread c.from_residual.result c.in_err-draw_graph.field-0.0 c.from_residual.ensures.1 (drawn_unread c.args.graph.now c.args.most taken (Err c.in_err-draw_graph.field-0.0) c.in_err-draw_graph.ensures.drawn)
 
 pub returns-in_err-draw_graph-clause-writes : goal.returns-in_err-draw_graph-clause-writes

@@ -1,8 +1,6 @@
-use Rattle.std.proofs.Common.{arith, ◌∙◌, sym}
+use Rattle.std.proofs.Common.{◌∙◌, sym}
 use Rattle.graph_heap.specs.declared.command.Command.TheVariants as commands
-use Rattle.metronome_c.proofs.Asking.{heap_so}
 use Rattle.metronome_c.proofs.Paying.{makes_alone, makes_kept}
-use Rattle.metronome_c.proofs.Stepping.{does_by}
 use Rattle.metronome_c.proofs.metronome.Metronome.make.Goals as goal
 
 pub returns-then-keeps_plan : goal.returns-then-keeps_plan
@@ -11,4 +9,4 @@ returns-then-keeps_plan c = makes_kept c.args.mutator (commands.New c.args.dst c
 pub returns : goal.returns
 returns c =
     makes_alone c.args.mutator (commands.New c.args.dst c.args.shape) _ _ _ _ _ c.keeps_plan.ensures.same (sym c.keeps_plan.ensures.keeps ∙ c.if-keeps_plan.false)
-    (heap_so _ _ (λ h r k met. does_by c.args.mutator (commands.New c.args.dst c.args.shape) h r k (grind arith steps 200000)) _ _ _ c.answer.ensures.1) c.answer.ensures.2
+    c.make_unpaid.ensures.1 c.make_unpaid.ensures.2

@@ -10,4 +10,4 @@ pub returns-clause-same : goal.returns-clause-same
 returns-clause-same c = still_held _ _ _ (asks_so _ _ (λ s a k met. search rules) _ _ _ c.ask-asked.ensures)
 
 pub returns-clause-promised : goal.returns-clause-promised
-returns-clause-promised c = shows (λ s. IfSome s.turn IsPromised) _ _ _ (asks_so _ _ (λ s a k met. search rules) _ _ _ c.ask-asked.ensures)
+returns-clause-promised c = shows (λ s. IfSome s.turn (IsPromised s)) _ _ _ (asks_so _ _ (λ s a k met. search rules) _ _ _ c.ask-asked.ensures)

@@ -17,13 +17,13 @@ returns-then-not-is_closed c = creates_bad (IsNewSeat c.args.ring) _ _ _ _ (sym 
 pub returns-in-Err : goal.returns-in-Err
 returns-in-Err c =
     let s = c.args.settings.now in
-    let f : Some c.in-Err.fault ≡ fault_of Library s = ap result_err (sym c.in-Err.is) ∙ c.check.ensures.fault in
+    let f : Some c.in-Err.fault ≡ fault_of Library s = ap result_err (sym c.in-Err.is) ∙ c.check_for_library.ensures.fault in
     creates_none (IsNewSeat c.args.ring) _ _ s c.in-Err.fault _ (sym c.is_open.ensures ∙ c.if-is_open.false) (sym c.is_closed.ensures ∙ c.if-not-is_closed.false) f (c.number-in-Err.ensures ∙ ap status_number c.of_fault.ensures)
 
 pub returns : goal.returns
 returns c =
     let s = c.args.settings.now in
-    let f : None ≡ fault_of Library s = ap result_err (sym c.in-Ok.is) ∙ c.check.ensures.fault in
+    let f : None ≡ fault_of Library s = ap result_err (sym c.in-Ok.is) ∙ c.check_for_library.ensures.fault in
     let new = c.in-Ok-with_ring.ensures in
     creates_one (IsNewSeat c.args.ring) _ _ _ _ c.in-Ok-with_ring.made s _ (sym c.is_open.ensures ∙ c.if-is_open.false) (sym c.is_closed.ensures ∙ c.if-not-is_closed.false) f (c.put.ensures ∙ ap Some c.in-Ok-new.ensures.ok) (search rules)
-    (record { config = c.in-Ok.config; of = c.in-Ok.ensures.values; settings = new.settings; mutators = new.mutators; seen = new.seen; turn = new.turn })
+    (record { config = c.in-Ok.config; of = c.in-Ok.ensures.values; settings = new.settings; mutators = new.mutators; numbers = new.numbers; seen = new.seen; turn = new.turn })

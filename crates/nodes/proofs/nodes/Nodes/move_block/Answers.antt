@@ -1,5 +1,5 @@
 use Rattle.std.proofs.Common.{◌∙◌, sym}
-use Rattle.nodes.proofs.Moved.{source_fit, target_fit, open_by, from_there, both_fit, moved_nodes, moves_by, pages_by}
+use Rattle.nodes.proofs.Moved.{source_fit, target_fit, open_by, from_there, both_fit, moved_nodes, moves_by, copies_by, pages_by}
 use Rattle.nodes.proofs.Freeing.{page_within}
 use Rattle.nodes.proofs.Joining.{below_by}
 use Rattle.nodes.proofs.nodes.Nodes.move_block.Goals as goal
@@ -32,6 +32,11 @@ returns-clause-free c = open_by _ _ _ c.self.view_is c.self.invariant.0 c.args.p
 pub returns-clause-moved : goal.returns-clause-moved
 returns-clause-moved c =
     moves_by _ _ _ c.self.view_is c.self.invariant.0 c.args.page c.args.index c.args.to c.requires c.block_size-size.result c.block_size-size.ensures.size c.take_on_target-place.result c.take_on_target-place.ensures.«open» c.take_on_target-place.new.arena.words c.take_on_target-place.ensures.words c.address-from.result c.address-target.result c.address-from.ensures c.address-target.ensures
+    c.take_on_target-place.new.self c.take_on_target-place.ensures.together c.take_on_target-place.ensures.allocated c.set_forward.new.self.words c.copy_block.new.self.words c.set_forward.ensures.words c.copy_block.ensures.words
+
+pub returns-clause-links : goal.returns-clause-links
+returns-clause-links c =
+    copies_by _ _ _ c.self.view_is c.self.invariant.0 c.args.page c.args.index c.args.to c.requires c.block_size-size.result c.block_size-size.ensures.size c.take_on_target-place.result c.take_on_target-place.ensures.«open» c.take_on_target-place.new.arena.words c.take_on_target-place.ensures.words c.address-from.result c.address-target.result c.address-from.ensures c.address-target.ensures
     c.take_on_target-place.new.self c.take_on_target-place.ensures.together c.take_on_target-place.ensures.allocated c.set_forward.new.self.words c.copy_block.new.self.words c.set_forward.ensures.words c.copy_block.ensures.words
 
 pub returns-clause-pages : goal.returns-clause-pages

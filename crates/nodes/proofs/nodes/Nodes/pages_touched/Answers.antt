@@ -1,4 +1,4 @@
-use Rattle.std.proofs.Common.{length, arith}
+use Rattle.std.proofs.Common.{arith}
 use Rattle.pages.proofs.Telling.{length-pages}
 use Rattle.nodes.proofs.Touching.{untouched_free}
 use Rattle.nodes.proofs.nodes.Nodes.pages_touched.Goals as goal

@@ -2,7 +2,7 @@ use Rattle.std.proofs.Common.{◌+◌, ◌≤◌, length, sym, subst, ◌∙◌}
 use Rattle.std.specs.Prelude.{IsSomeAnd}
 use Rattle.heap_model.specs.Pages.{page_at}
 use Rattle.heap_model.specs.Store.{Store}
-use Rattle.nodes.proofs.Sweeping.{swept_sound, sweeps_by}
+use Rattle.nodes.proofs.Sweeping.{swept_sound, sweeps_by, left_by}
 use Rattle.nodes.proofs.nodes.Nodes.sweep.Goals as goal
 
 pub sweep-requires-clause-blocks : goal.sweep-requires-clause-blocks
@@ -15,5 +15,8 @@ invariant_of-self c = (
   c.sweep.ensures.pages ∙ c.self.invariant.1 ∙ sym c.sweep.ensures.len,
 )
 
-pub returns : goal.returns
-returns c = sweeps_by _ _ _ c.self.view_is c.self.invariant.0.whole c.self.invariant.0.headers c.args.colour c.args.page c.args.index c.args.count c.sweep.ensures.looks
+pub returns-clause-links : goal.returns-clause-links
+returns-clause-links c = left_by _ _ _ c.self.view_is c.self.invariant.0.whole c.self.invariant.0.headers c.args.colour c.args.page c.args.index c.args.count c.sweep.ensures.looks
+
+pub returns-clause-sweeps : goal.returns-clause-sweeps
+returns-clause-sweeps c = sweeps_by _ _ _ c.self.view_is c.self.invariant.0.whole c.self.invariant.0.headers c.args.colour c.args.page c.args.index c.args.count c.sweep.ensures.looks

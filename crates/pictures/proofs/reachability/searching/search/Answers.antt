@@ -11,7 +11,7 @@ loop-found-init c =
     let none : c.in_ok-search.search ≡ first (length g.objects) = c.in_ok-search.ensures ∙ ap first c.count.ensures in
     searched_first g c.add_all.new.self
     (subst (λ s. Adds g.roots 0 (holders None) (length g.roots) s c.add_all.new.self) none
-    (subst (λ (r : List ℕ). Adds r 0 (holders None) (length r) c.in_ok-search.search c.add_all.new.self) c.roots.ensures c.in_ok-add_all.ensures))
+    (subst (λ (r : List ℕ). Adds r 0 (holders None) (length r) c.in_ok-search.search c.add_all.new.self) (c.as_slice.ensures.value ∙ c.in_ok-roots.ensures) c.in_ok-add_all.ensures))
 
 pub loop-found-preserved : goal.loop-found-preserved
 loop-found-preserved c =

@@ -1,2 +1,0 @@
-mod Classes
-mod Numbers

@@ -1,7 +1,7 @@
 //! What the tests share: settings, and commands.
 use graph_heap::{Command, Shape};
 use machine::Event;
-use settings::{Config, Settings};
+use size_classes::{Config, Settings};
 use std::process::Abort;
 
 mod drawn;

@@ -13,7 +13,7 @@ use crate::fault::{Refusal, WordsFault};
 use crate::job::{Job, Picture, Report, Request, Sizing};
 use clap::ArgMatches;
 use clap::error::ErrorKind;
-use settings::{LEAST_BUDGET, MOST_BUDGET};
+use size_classes::{LEAST_BUDGET, MOST_BUDGET};
 use std::alloc::Global;
 use std::convert::AsStr;
 use std::fmt::Display;

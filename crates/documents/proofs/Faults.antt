@@ -1,7 +1,7 @@
 -- The first fault of a document.
 use Rattle.std.proofs.Common.{◌≡◌, false, List, [], ◌∷◌, ◌++◌, Option, Some, None, refl}
-use Rattle.settings.specs.declared.fault.ConfigFault.{ConfigFault}
-use Rattle.settings.specs.Config.{budget_fault}
+use Rattle.size_classes.specs.declared.fault.ConfigFault.{ConfigFault}
+use Rattle.size_classes.specs.Config.{budget_fault}
 use Rattle.toml.specs.Data.{Members}
 use Rattle.documents.specs.ConfigFile.{has_unknown_key, keys_faults, settings_of, document_fault}
 use Rattle.documents.specs.TomlTable.{first_some}

@@ -4,11 +4,11 @@ use Rattle.std.proofs.lemmas.Int.{ints}
 use Rattle.std.specs.Prelude.{ℤ, pos, ◌≤ℤ◌, IfOk}
 use Rattle.std.specs.Option.{ok_or, unwrap_or}
 use Rattle.std.specs.Result.{result_err}
-use Rattle.settings.specs.declared.key.Key.{Key}
-use Rattle.settings.specs.declared.key.Key.TheVariants.{Pages, Mutators, Slots, Statics, Identities, DefragBelow, DefragPages, CollectorTicks, MutatorTicks, Rate, Live}
-use Rattle.settings.specs.declared.fault.ConfigFault.TheVariants as faults
-use Rattle.settings.specs.declared.ranges.Ranges.TheVariants.{File}
-use Rattle.settings.specs.Keys.{name_of, row_of, is_between, is_allowed}
+use Rattle.size_classes.specs.declared.key.Key.{Key}
+use Rattle.size_classes.specs.declared.key.Key.TheVariants.{Pages, Mutators, Slots, Statics, Identities, DefragBelow, DefragPages, CollectorTicks, MutatorTicks, Rate, Live}
+use Rattle.size_classes.specs.declared.fault.ConfigFault.TheVariants as faults
+use Rattle.size_classes.specs.declared.ranges.Ranges.TheVariants.{File}
+use Rattle.size_classes.specs.Keys.{name_of, row_of, is_between, is_allowed}
 use Rattle.toml.specs.Data.{Data, Members, get_member}
 use Rattle.documents.specs.ConfigFile.{value_fault, number_in, number_for, mutators_of}
 

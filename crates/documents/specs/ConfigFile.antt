@@ -3,16 +3,16 @@ use Rattle.std.specs.Prelude.{◌≡◌, ℕ, nat_lt, ℤ, pos, ◌≤ℤ◌, Bo
 use Rattle.std.specs.Option.{unwrap_or}
 use Rattle.std.specs.List.{list_any}
 use Rattle.std.specs.Str.{bytes_eq}
-use Rattle.settings.specs.declared.config.Config.{Config}
-use Rattle.settings.specs.declared.ranges.Ranges.TheVariants.{File}
-use Rattle.settings.specs.declared.key.Key.{Key}
-use Rattle.settings.specs.declared.key.Key.TheVariants as keys_of_files
-use Rattle.settings.specs.declared.key.TheConstants.Key.{ALL}
-use Rattle.settings.specs.declared.fault.ConfigFault.{ConfigFault}
-use Rattle.settings.specs.declared.fault.ConfigFault.TheVariants as faults
-use Rattle.settings.specs.declared.settings.Settings.{Settings}
-use Rattle.settings.specs.Keys.{name_of, row_of, is_allowed}
-use Rattle.settings.specs.Config.{budget_fault, IsOf}
+use Rattle.size_classes.specs.declared.config.Config.{Config}
+use Rattle.size_classes.specs.declared.ranges.Ranges.TheVariants.{File}
+use Rattle.size_classes.specs.declared.key.Key.{Key}
+use Rattle.size_classes.specs.declared.key.Key.TheVariants as keys_of_files
+use Rattle.size_classes.specs.declared.key.TheConstants.Key.{ALL}
+use Rattle.size_classes.specs.declared.fault.ConfigFault.{ConfigFault}
+use Rattle.size_classes.specs.declared.fault.ConfigFault.TheVariants as faults
+use Rattle.size_classes.specs.declared.settings.Settings.{Settings}
+use Rattle.size_classes.specs.Keys.{name_of, row_of, is_allowed}
+use Rattle.size_classes.specs.Config.{budget_fault, IsOf}
 use Rattle.toml.specs.Data.{Data, as_integer, get_member, Members}
 use Rattle.documents.specs.declared.toml_table.ReadFault.{ReadFault}
 use Rattle.documents.specs.declared.toml_table.ReadFault.TheVariants.{Refused, NoMemory}

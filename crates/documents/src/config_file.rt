@@ -1,15 +1,15 @@
 //! The configuration file.
 ghost use Rattle.std.specs.Prelude.{◌≡◌, true, None, IfOk};
 ghost use Rattle.std.specs.Result.{result_err};
-ghost use Rattle.settings.specs.declared.ranges.Ranges.TheVariants.{File};
-ghost use Rattle.settings.specs.Keys.{is_allowed};
-ghost use Rattle.settings.specs.Config.{first_outside, IsOf};
+ghost use Rattle.size_classes.specs.declared.ranges.Ranges.TheVariants.{File};
+ghost use Rattle.size_classes.specs.Keys.{is_allowed};
+ghost use Rattle.size_classes.specs.Config.{first_outside, IsOf};
 ghost use Rattle.toml.specs.View.{table_view};
 ghost use Rattle.documents.specs.ConfigFile.{IsRead, is_known, has_unknown_key, mutators_of, key_fault, number_for, HasRange, settings_of, document_fault, keys_faults};
 ghost use Rattle.documents.specs.TomlTable.{first_some};
 
 use crate::toml_table::{ReadFault, any_member, open_document};
-use settings::{Config, ConfigFault, Key, Ranges, Settings};
+use size_classes::{Config, ConfigFault, Key, Ranges, Settings};
 use std::alloc::Global;
 use toml::Table;
 

@@ -1,8 +1,8 @@
 -- The laws, in a configuration's numbers.
 use Rattle.std.proofs.Common.{◌≡◌, ℕ, ◌+◌, ◌*◌, ◌<◌, ◌≤◌, inl, inr, List, length, sym, subst, arith}
 use Rattle.size_classes.specs.declared.class.TheConstants.{CLASSES}
-use Rattle.settings.specs.declared.config.TheConstants.{LEAST_BUDGET}
-use Rattle.settings.specs.declared.config.Config.{Config}
+use Rattle.size_classes.specs.declared.config.TheConstants.{LEAST_BUDGET}
+use Rattle.size_classes.specs.declared.config.Config.{Config}
 use Rattle.heap_model.specs.State.{HeapState}
 use Rattle.heap_model.specs.Settings.{settings_of, settings_by}
 use Rattle.heap_model.specs.Opening.{IsOpening}

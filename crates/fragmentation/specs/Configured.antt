@@ -1,7 +1,7 @@
 -- What suffices, in a configuration's numbers.
 use Rattle.std.specs.Prelude.{ℕ, ◌+◌, ◌*◌, ◌<◌, ◌≤◌, ◌⊎◌}
 use Rattle.size_classes.specs.declared.class.TheConstants.{CLASSES}
-use Rattle.settings.specs.declared.config.Config.{Config}
+use Rattle.size_classes.specs.declared.config.Config.{Config}
 use Rattle.space.specs.Space.{pages_for}
 use Rattle.space.specs.Fitting.{spare_in, below_in}
 use Rattle.fragmentation.specs.Suffice.{sparse_pages}

@@ -5,7 +5,7 @@ use Rattle.graph_heap.specs.Graph.{Graph, opening}
 use Rattle.graph_heap.specs.History.{after_entry}
 use Rattle.size_classes.specs.declared.class.TheConstants.{CLASSES, MOST_BLOCKS, PAGE_WORDS}
 use Rattle.size_classes.specs.Sizes.{size_of}
-use Rattle.settings.specs.declared.config.TheConstants.{LEAST_BUDGET}
+use Rattle.size_classes.specs.declared.config.TheConstants.{LEAST_BUDGET}
 use Rattle.heap_model.specs.State.{HeapState}
 use Rattle.heap_model.specs.Event.{Event, Command_done, Cycle_begun, Begin_refused, Quantum_done, Quantum_refused}
 use Rattle.space.specs.Demand.{LiveWithin, asked_for}

@@ -1,8 +1,8 @@
 -- What stays of a heap while it is used.
 use Rattle.std.specs.Prelude.{ℕ, length}
 use Rattle.graph_heap.specs.declared.command.Limits.{Limits}
-use Rattle.settings.specs.declared.config.Config.{Config}
-use Rattle.settings.specs.Config.{limits_of}
+use Rattle.size_classes.specs.declared.config.Config.{Config}
+use Rattle.size_classes.specs.Config.{limits_of}
 use Rattle.heap_model.specs.State.{HeapState}
 
 -- its limits, how many pages it has, below how many free pages it moves, and how many pages a cycle empties at most

@@ -15,7 +15,7 @@ use crate::workers::{collect, play_seats};
 use ghosts::Ghost;
 use graph_heap::{Command, NoMemory};
 use machine::Recorded;
-use settings::Config;
+use size_classes::Config;
 use std::alloc::Global;
 use std::marker::Brand;
 use std::sync::Wait;

@@ -18,7 +18,7 @@ use crate::naming::{Calls, Naming, Opening};
 use crate::place::{Front, HistoryLength};
 use graph_heap::{Command, NoMemory};
 use machine::{BudgetOutOfRange, Busy, Receipt, Recorded, Spent};
-use settings::Config;
+use size_classes::Config;
 use std::alloc::Global;
 use std::sync::ledger::Share;
 use std::sync::{Mutex, Wait};

@@ -5,7 +5,7 @@ ghost use Rattle.heap_server.specs.Opened.{names_of};
 use crate::naming::{Naming, Opening};
 use crate::server::Server;
 use graph_heap::{Command, NoMemory};
-use settings::{Config, Settings};
+use size_classes::{Config, Settings};
 use std::alloc::AllocGlobal;
 use std::marker::Brand;
 use std::process::Abort;

@@ -15,7 +15,7 @@ use crate::shared_heap::{SharedConfig, SharedHeap};
 use atomic_table::{Refused, Seat, Table};
 use graph_heap::{Command, Entry, NoMemory, Reply};
 use machine::{BudgetOutOfRange, Busy, Heap, Spent};
-use settings::Config;
+use size_classes::Config;
 use std::alloc::{AllocFailed, Global};
 use std::marker::Model;
 use std::sync::Arc;

@@ -4,7 +4,7 @@ use Rattle.std.proofs.lemmas.Bool.{eq-eqb, ne_eqb}
 use Rattle.size_classes.specs.declared.class.TheConstants.{CLASSES}
 use Rattle.heap_model.specs.State.{HeapState}
 use Rattle.heap_model.specs.Store.{Store}
-use Rattle.streams.specs.Streams.{GrowsByPart}
+use Rattle.trace.specs.Streams.{GrowsByPart}
 use Rattle.trace.specs.Lines.{text_of}
 use Rattle.inspector.specs.declared.filling.Filling.{Filling}
 use Rattle.inspector.specs.Filling.{filling_of, filling_in, class_line, class_lines, classes_lines, sum_line, fragmentation_line, sizes_told}

@@ -4,7 +4,7 @@ use Rattle.std.proofs.lemmas.Grind.{flat_map-append}
 use Rattle.std.proofs.Math.Seq.{drop-cons}
 use Rattle.heap_model.specs.Pages.{Page, page_at}
 use Rattle.pages.specs.View.{view_of}
-use Rattle.streams.specs.Streams.{GrowsByPart}
+use Rattle.trace.specs.Streams.{GrowsByPart}
 use Rattle.trace.specs.Lines.{text_of}
 use Rattle.inspector.specs.Report.{lines_on, page_lines}
 use Rattle.inspector.proofs.Parts.{part_first, part_after}

@@ -3,7 +3,7 @@ use Rattle.std.proofs.Common.{◌≡◌, ℕ, ◌+◌, ◌≤◌, List, ◌++◌
 use Rattle.std.specs.Prelude.{Result, Ok, Err, OnOk, OnErr}
 use Rattle.std.proofs.lemmas.List.{take-append-le}
 use Rattle.std.proofs.Math.Seq.{take-append-add}
-use Rattle.streams.specs.Streams.{GrowsByPart}
+use Rattle.trace.specs.Streams.{GrowsByPart}
 
 -- a part of the first text is a part of both
 pub part_first : (old new a b : List ℕ) → GrowsByPart old new a → GrowsByPart old new (a ++ b)

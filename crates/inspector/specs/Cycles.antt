@@ -6,7 +6,7 @@ use Rattle.nodes.specs.Copies.{copies_in}
 use Rattle.nodes.specs.declared.nodes.counting.Copies.{Copies}
 use Rattle.inspector.specs.declared.cycles.cycle.Cycle.{Cycle}
 use Rattle.inspector.specs.declared.cycles.cycle.Sweep.{Sweep}
-use Rattle.player.specs.Steps.{Step}
+use Rattle.trace.specs.Steps.{Step}
 use Rattle.inspector.specs.Steps.{begins, works, ends_sweep, ends_cycle}
 use Rattle.inspector.specs.Made.{makes, blocks_made, entered_since}
 

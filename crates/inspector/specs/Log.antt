@@ -11,8 +11,8 @@ use Rattle.inspector.specs.declared.cycles.open.Open.{Open}
 use Rattle.inspector.specs.declared.cycles.open.Start.{Start}
 use Rattle.inspector.specs.declared.cycles.turn.QuantumEffect.{QuantumEffect}
 use Rattle.inspector.specs.declared.cycles.log.Log.{Log}
-use Rattle.player.specs.Observing.{Run}
-use Rattle.player.specs.Steps.{Step}
+use Rattle.trace.specs.Observing.{Run}
+use Rattle.trace.specs.Steps.{Step}
 use Rattle.inspector.specs.Steps.{begins, works, ends_sweep, ends_cycle}
 use Rattle.inspector.specs.Cycles.{counted, after_last, copies_at, units_by, longest_of, end_of, SweptBy, AreCycles}
 

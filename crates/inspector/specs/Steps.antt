@@ -3,7 +3,7 @@ use Rattle.std.specs.Prelude.{Bool, true, false, ◌&&◌, not}
 use Rattle.heap_model.specs.Event.{Event, Cycle_begun, Quantum_done}
 use Rattle.heap_model.specs.Phases.{awaits_sweep_end}
 use Rattle.space.specs.Pace.{in_cycle}
-use Rattle.player.specs.Steps.{Step}
+use Rattle.trace.specs.Steps.{Step}
 
 -- the event is the beginning of a cycle
 abbrev pub is_beginning : Event → Bool

@@ -1,11 +1,11 @@
 -- What it is to take the cycles of a run.
 use Rattle.std.specs.Prelude.{Result}
-use Rattle.settings.specs.declared.config.Config.{Config}
+use Rattle.size_classes.specs.declared.config.Config.{Config}
 use Rattle.trace.specs.declared.fault.PlayFault.{PlayFault}
-use Rattle.streams.specs.Streams.{Given}
-use Rattle.player.specs.Observing.{brought}
-use Rattle.player.specs.Steps.{steps_in}
-use Rattle.player.specs.Surveying.{NewRun, Surveyed}
+use Rattle.trace.specs.Streams.{Given}
+use Rattle.trace.specs.Observing.{brought}
+use Rattle.trace.specs.Steps.{steps_in}
+use Rattle.trace.specs.Surveying.{NewRun, Surveyed}
 use Rattle.inspector.specs.declared.cycles.cycle.Cycles.{Cycles}
 use Rattle.inspector.specs.Cycles.{AreCycles}
 

@@ -1,7 +1,7 @@
 //! The report by size class.
 ghost use Rattle.std.specs.Prelude.{◌≡◌, ◌≤◌, ◌+◌, ◌++◌, ◌∷◌, [], length, IfOk, OnOk, OnErr, take};
 ghost use Rattle.size_classes.specs.declared.class.TheConstants.{CLASSES};
-ghost use Rattle.streams.specs.Streams.{GrowsByPart, failed};
+ghost use Rattle.trace.specs.Streams.{GrowsByPart, failed};
 ghost use Rattle.trace.specs.Lines.{text_of};
 ghost use Rattle.inspector.specs.Filling.{IsWithin, filling_in, figures, class_line, class_lines, classes_lines, sum_line, fragmentation_line, sizes_told};
 
@@ -9,8 +9,7 @@ use crate::fault::WriteFault;
 use crate::filling::{Filling, both, filling_of, nothing};
 use machine::Heap;
 use size_classes::{CLASSES, Class, PAGE_WORDS};
-use streams::{Sink, WriteFailed};
-use trace::{end_line, put, put_named};
+use trace::{Sink, WriteFailed, end_line, put, put_named};
 
 /// Puts the figures of pages at a place, after which there must be room for them, and answers the place after them.
 /// What stands before the place stays.

@@ -1,6 +1,6 @@
 //! Why a report could not be written.
-use streams::WriteFailed;
 use thiserror::Error;
+use trace::WriteFailed;
 
 /// The sink failed. It has taken a beginning of the report.
 #[derive(Clone, Copy, Debug, PartialEq, Eq, Error)]

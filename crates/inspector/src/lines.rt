@@ -3,7 +3,7 @@ ghost use Rattle.std.specs.Prelude.{◌≡◌, ◌≤◌, ◌<◌, ◌+◌, ◌+
 ghost use Rattle.heap_model.specs.Pages.{page_at};
 ghost use Rattle.pages.specs.View.{view_of};
 ghost use Rattle.nodes.specs.Copies.{copies_in};
-ghost use Rattle.streams.specs.Streams.{GrowsByPart, failed};
+ghost use Rattle.trace.specs.Streams.{GrowsByPart, failed};
 ghost use Rattle.trace.specs.Lines.{text_of};
 ghost use Rattle.inspector.specs.Report.{phase_name, phase_line, units_line, two_named, pages_line, page_line, lines_on, roots_line, copies_line, head_lines, tail_lines};
 
@@ -11,8 +11,7 @@ use heap_model::phase::Phase;
 use machine::Heap;
 use nodes::Copies;
 use pages::PageView;
-use streams::{Sink, WriteFailed};
-use trace::{end_line, put, put_named};
+use trace::{Sink, WriteFailed, end_line, put, put_named};
 
 /// The name of a phase.
 fn name(phase: Phase) -> &'static [u8]

@@ -1,13 +1,13 @@
 //! The whole report.
 ghost use Rattle.std.specs.Prelude.{◌≡◌, ◌+◌, ◌++◌, OnOk, OnErr};
-ghost use Rattle.streams.specs.Streams.{GrowsByPart, failed};
+ghost use Rattle.trace.specs.Streams.{GrowsByPart, failed};
 ghost use Rattle.trace.specs.Lines.{text_of};
 ghost use Rattle.inspector.specs.Report.{page_lines, report_of};
 
 use crate::fault::WriteFault;
 use crate::lines::{write_head, write_page, write_tail};
 use machine::Heap;
-use streams::{Sink, WriteFailed};
+use trace::{Sink, WriteFailed};
 
 /// Writes a line for each page in use, in rising number.
 fn write_page_lines<K: Sink>(heap: &Heap, sink: &mut K) -> Result<(), WriteFailed>

@@ -1,8 +1,8 @@
 -- A heap that was just made has room for what fits its configuration.
 use Rattle.std.proofs.Common.{◌≡◌, ◌*◌, List, [], ◌∷◌, ap, ◌∙◌, sym, subst}
 use Rattle.graph_heap.specs.declared.command.Limits.{Limits}
-use Rattle.settings.specs.declared.config.Config.{Config}
-use Rattle.settings.specs.Config.{limits_of}
+use Rattle.size_classes.specs.declared.config.Config.{Config}
+use Rattle.size_classes.specs.Config.{limits_of}
 use Rattle.heap_model.specs.State.{HeapState}
 use Rattle.heap_model.specs.Event.{Course, Event, Runs}
 use Rattle.heap_model.specs.ReachedFrom.{opened}

@@ -1,7 +1,7 @@
 -- When a heap that was just made has room for whatever comes.
 use Rattle.std.specs.Prelude.{◌≡◌, ℕ, ◌*◌, ◌≤◌, List}
-use Rattle.settings.specs.declared.config.Config.{Config}
-use Rattle.settings.specs.Config.{limits_of}
+use Rattle.size_classes.specs.declared.config.Config.{Config}
+use Rattle.size_classes.specs.Config.{limits_of}
 use Rattle.heap_model.specs.State.{HeapState}
 use Rattle.heap_model.specs.Event.{Course, Event, Runs}
 use Rattle.heap_model.specs.ReachedFrom.{opened}

@@ -12,7 +12,7 @@ ghost use Rattle.machine.specs.Plan.{CanCommit, CommitsEach};
 
 use graph_heap::{Command, NoMemory, Reply, dispatch};
 use nodes::HeapFields;
-use settings::Config;
+use size_classes::Config;
 use std::alloc::Global;
 use std::marker::Model;
 

@@ -17,7 +17,7 @@ use crate::collector::{BudgetOutOfRange, Busy, Spent};
 use crate::event::Event;
 use crate::heap::Heap;
 use graph_heap::{Command, Entry, NoMemory};
-use settings::Config;
+use size_classes::Config;
 use std::alloc::Global;
 use std::marker::Model;
 

@@ -6,16 +6,16 @@ use Rattle.graph_heap.specs.declared.command.Limits.{Limits}
 use Rattle.graph_heap.specs.declared.command.Entry.{Entry}
 use Rattle.graph_heap.specs.Graph.{Graph, opening}
 use Rattle.graph_heap.specs.History.{after, IsLegal}
-use Rattle.settings.specs.declared.config.Config.{Config}
+use Rattle.size_classes.specs.declared.config.Config.{Config}
 use Rattle.heap_model.specs.Event.{Course, present_of}
 use Rattle.heap_model.specs.Settings.{settings_of, settings_by}
 use Rattle.machine.proofs.Space.{runs_settings}
-use Rattle.streams.specs.Streams.{Given, Taken}
-use Rattle.player.specs.declared.style.Style.{Style}
-use Rattle.player.specs.declared.style.Style.TheVariants.{Nothing}
-use Rattle.player.specs.New.{IsNew}
-use Rattle.player.specs.Playing.{Session, OrHeld, PlayedUpTo}
-use Rattle.player.proofs.Promised.{up_to_reaches}
+use Rattle.trace.specs.Streams.{Given, Taken}
+use Rattle.trace.specs.declared.player.style.Style.{Style}
+use Rattle.trace.specs.declared.player.style.Style.TheVariants.{Nothing}
+use Rattle.trace.specs.New.{IsNew}
+use Rattle.trace.specs.Playing.{Session, OrHeld, PlayedUpTo}
+use Rattle.trace.proofs.Promised.{up_to_reaches}
 
 -- the heap behind a play has the configuration's settings
 pub played_settings : (config : Config) (n : Option ℕ) (style : Style) (given : Given) (old new : Session) → IsNew config old.player → PlayedUpTo n style given old new (Ok tt) → settings_of new.player.course.heap ≡ settings_by config

@@ -1,9 +1,9 @@
 -- A source that reads from another.
 use Rattle.std.proofs.Common.{◌≡◌, ℕ, ◌+◌, Bool, List, ap, ◌∙◌, subst}
 use Rattle.std.specs.Prelude.{Result}
-use Rattle.settings.specs.declared.config.Config.{Config}
+use Rattle.size_classes.specs.declared.config.Config.{Config}
 use Rattle.command_line.specs.declared.job.Job.{Job}
-use Rattle.streams.specs.Streams.{Taken, given_by}
+use Rattle.trace.specs.Streams.{Taken, given_by}
 use Rattle.metronome.specs.declared.fault.Ending.{Ending}
 use Rattle.metronome.specs.declared.fault.RunFault.{RunFault}
 use Rattle.metronome.specs.Faults.{failed_reads}

@@ -3,26 +3,26 @@ use Rattle.std.proofs.Common.{◌≡◌, ℕ, ◌+◌, Bool, true, false, [], in
 use Rattle.std.specs.Prelude.{Result, Ok, Err}
 use Rattle.std.specs.Result.{IsErrAnd}
 use Rattle.graph_heap.specs.Graph.{Graph, opening}
-use Rattle.settings.specs.declared.config.Config.{Config as Settings}
-use Rattle.settings.specs.Config.{limits_of}
+use Rattle.size_classes.specs.declared.config.Config.{Config as Settings}
+use Rattle.size_classes.specs.Config.{limits_of}
 use Rattle.trace.proofs.LinesProcessed.{reached_by}
 use Rattle.trace.specs.declared.fault.PlayFault.{PlayFault}
 use Rattle.trace.specs.declared.fault.PlayFault.TheVariants as texts
 use Rattle.trace.specs.LinesProcessed.{Reached, ProcessingEnds, reads_failed, writes_failed}
 use Rattle.trace.specs.TextLine.{Text as LineText}
-use Rattle.streams.specs.Streams.{Given, Taken}
+use Rattle.trace.specs.Streams.{Given, Taken}
 use Rattle.trace.specs.declared.transcripts.histories.Checked.{Checked}
 use Rattle.trace.specs.Histories.{EntriesChecked, HistoryStops}
 use Rattle.trace.specs.Scripts.{ReadScripts, AreScripts, ScriptsRead, ScriptStops}
-use Rattle.player.specs.declared.style.Style.TheVariants.{Nothing}
-use Rattle.player.specs.Playing.{Session, session, StopsText, Played}
-use Rattle.player.specs.Surveying.{NewRun, Surveyed}
-use Rattle.player.proofs.Lines.{nothing_fails}
+use Rattle.trace.specs.declared.player.style.Style.TheVariants.{Nothing}
+use Rattle.trace.specs.Playing.{Session, session, StopsText, Played}
+use Rattle.trace.specs.Surveying.{NewRun, Surveyed}
+use Rattle.trace.proofs.Lines.{nothing_fails}
 use Rattle.pictures.specs.GraphDrawn.{GraphDrawn}
 use Rattle.inspector.specs.Taking.{TellsCycles}
 use Rattle.plans.specs.Live.{TellsMostLive}
 use Rattle.sizing.specs.Measuring.{RunMeasured}
-use Rattle.settings.specs.declared.fault.ConfigFault.{ConfigFault}
+use Rattle.size_classes.specs.declared.fault.ConfigFault.{ConfigFault}
 use Rattle.documents.specs.declared.toml_table.ReadFault.{ReadFault}
 use Rattle.documents.specs.declared.toml_table.ReadFault.TheVariants as settings
 use Rattle.metronome.specs.declared.fault.RunFault.{RunFault}

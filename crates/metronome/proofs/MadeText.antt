@@ -3,7 +3,7 @@ use Rattle.std.proofs.Common.{◌≡◌, ℕ, List, ◌++◌, inl, inr, refl, sy
 use Rattle.std.specs.Prelude.{Result, Ok, Err, IfOk, OnOk, OnErr, String, string_bytes}
 use Rattle.std.specs.declared.alloc.Global.{Global}
 use Rattle.trace.specs.declared.fault.PlayFault.TheVariants.{Write}
-use Rattle.streams.specs.Streams.{Taken, GrowsByPart}
+use Rattle.trace.specs.Streams.{Taken, GrowsByPart}
 use Rattle.metronome.specs.declared.fault.Ending.{Ending}
 use Rattle.metronome.specs.declared.fault.Ending.TheVariants.{Done}
 use Rattle.metronome.specs.declared.fault.RunFault.{RunFault}

@@ -5,15 +5,15 @@ use Rattle.std.specs.Str.{bytes_eq}
 use Rattle.std.proofs.Math.Seq.{take-append_seam}
 use Rattle.std.proofs.lemmas.Option.{same_Some}
 use Rattle.std.specs.Prelude.{codes, nat_lt, if◌then◌else◌, ◌||◌, IsTrue, IfSome, IfOk, Result, Ok, Err}
-use Rattle.settings.specs.declared.config.Config.{Config}
-use Rattle.settings.specs.declared.fault.ConfigFault.{ConfigFault}
-use Rattle.settings.specs.declared.fault.ConfigFault.TheVariants as faults
+use Rattle.size_classes.specs.declared.config.Config.{Config}
+use Rattle.size_classes.specs.declared.fault.ConfigFault.{ConfigFault}
+use Rattle.size_classes.specs.declared.fault.ConfigFault.TheVariants as faults
 use Rattle.documents.specs.ConfigFile.{IsRead, file_fault, fault_in}
 use Rattle.documents.specs.TomlTable.{document_of}
 use Rattle.command_line.specs.declared.job.Job.{Job}
 use Rattle.documents.specs.declared.toml_table.ReadFault.{ReadFault}
 use Rattle.documents.specs.declared.toml_table.ReadFault.TheVariants.{Refused, NoMemory}
-use Rattle.streams.specs.Streams.{Given, Taken, Stays, Begins, given_by}
+use Rattle.trace.specs.Streams.{Given, Taken, Stays, Begins, given_by}
 use Rattle.metronome.specs.declared.fault.Ending.{Ending}
 use Rattle.trace.proofs.LinesProcessed.{stays_on}
 use Rattle.trace.specs.declared.fault.PlayFault.TheVariants as texts

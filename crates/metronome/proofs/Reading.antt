@@ -2,9 +2,9 @@
 use Rattle.std.proofs.Common.{◌≡◌, ℕ, List, [], length, take, Some, ap, ◌∙◌, subst}
 use Rattle.std.specs.Prelude.{nat_le}
 use Rattle.std.proofs.lemmas.Option.{same_Some}
-use Rattle.streams.specs.declared.memory.MemorySource.{MemorySource}
-use Rattle.streams.specs.Memory.{take_begins}
-use Rattle.streams.specs.Streams.{Begins, Stays}
+use Rattle.trace.specs.declared.streams.memory.MemorySource.{MemorySource}
+use Rattle.trace.specs.Memory.{take_begins}
+use Rattle.trace.specs.Streams.{Begins, Stays}
 use Rattle.metronome.specs.Texts.{ReadsText}
 
 -- a source over memory that has given nothing yet gives its bytes from the first on

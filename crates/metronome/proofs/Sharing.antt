@@ -1,7 +1,7 @@
 -- The shares of windows don't hang on the memory that is reserved.
 use Rattle.std.proofs.Common.{ℕ, List, [], ◌∷◌}
 use Rattle.std.specs.List.{AllZip}
-use Rattle.settings.specs.declared.config.Config.{Config}
+use Rattle.size_classes.specs.declared.config.Config.{Config}
 use Rattle.quanta.specs.Timetable.{Timetable, with_reserved}
 use Rattle.pictures.specs.declared.share.Share.{Share}
 use Rattle.pictures.specs.Utilisation.{IsShare, AreShares}

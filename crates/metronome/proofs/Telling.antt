@@ -3,10 +3,10 @@ use Rattle.std.proofs.Common.{◌≡◌, ℕ, subst, List, [], ◌∷◌, ◌++�
 use Rattle.std.specs.Prelude.{Result, Ok, Err, IfErr}
 use Rattle.std.specs.Result.{IsErrAnd}
 use Rattle.std.specs.List.{AllZip, concat}
-use Rattle.settings.specs.declared.config.Config.{Config}
+use Rattle.size_classes.specs.declared.config.Config.{Config}
 use Rattle.quanta.specs.Timetable.{Timetable, with_reserved}
 use Rattle.trace.specs.declared.fault.PlayFault.TheVariants.{Write, NoMemory}
-use Rattle.streams.specs.Streams.{GrowsByPart}
+use Rattle.trace.specs.Streams.{GrowsByPart}
 use Rattle.inspector.proofs.Parts.{part_after}
 use Rattle.plans.proofs.Rows.{zip_more, concat_more}
 use Rattle.metronome.specs.declared.fault.RunFault.{RunFault}

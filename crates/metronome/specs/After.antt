@@ -1,13 +1,13 @@
 -- What is played before something is reported of the player.
 use Rattle.std.specs.Prelude.{◌≡◌, ℕ, ◌⊎◌, List, Option, Result, Ok, Err}
-use Rattle.settings.specs.declared.config.Config.{Config}
+use Rattle.size_classes.specs.declared.config.Config.{Config}
 use Rattle.trace.specs.declared.fault.PlayFault.{PlayFault}
 use Rattle.trace.specs.declared.fault.PlayFault.TheVariants.{NoMemory}
-use Rattle.streams.specs.Streams.{Given, Taken}
-use Rattle.player.specs.declared.style.Style.TheVariants.{Nothing}
-use Rattle.player.specs.New.{IsNew}
-use Rattle.player.specs.Player.{PlayerState}
-use Rattle.player.specs.Playing.{session, PlayedUpTo}
+use Rattle.trace.specs.Streams.{Given, Taken}
+use Rattle.trace.specs.declared.player.style.Style.TheVariants.{Nothing}
+use Rattle.trace.specs.New.{IsNew}
+use Rattle.trace.specs.Player.{PlayerState}
+use Rattle.trace.specs.Playing.{session, PlayedUpTo}
 use Rattle.metronome.specs.declared.fault.Ending.{Ending}
 use Rattle.metronome.specs.declared.fault.RunFault.{RunFault}
 use Rattle.metronome.specs.declared.fault.RunFault.TheVariants.{Text}

@@ -1,7 +1,7 @@
 -- Between which numbers of pages they begin to be enough for a trace.
 use Rattle.std.specs.Prelude.{ℕ, ◌<◌, ◌≤◌, if◌then◌else◌, List, Option, Some, None}
-use Rattle.settings.specs.declared.config.Config.{Config}
-use Rattle.settings.specs.declared.config.TheConstants.{MOST_PAGES}
+use Rattle.size_classes.specs.declared.config.Config.{Config}
+use Rattle.size_classes.specs.declared.config.TheConstants.{MOST_PAGES}
 use Rattle.metronome.specs.declared.room.Trial.{Trial}
 use Rattle.metronome.specs.declared.room.Bounds.{Bounds}
 use Rattle.metronome.specs.Demand.{IsEnoughOn}

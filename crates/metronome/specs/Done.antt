@@ -1,13 +1,13 @@
 -- What the job of a command line reads and writes.
 use Rattle.std.specs.Prelude.{Bool, if◌then◌else◌, None, option_map, Result}
-use Rattle.settings.specs.declared.config.Config.{Config}
+use Rattle.size_classes.specs.declared.config.Config.{Config}
 use Rattle.heap_model.specs.Event.{present_of}
-use Rattle.streams.specs.Streams.{Given, Taken}
+use Rattle.trace.specs.Streams.{Given, Taken}
 use Rattle.command_line.specs.declared.job.Job.{Job}
 use Rattle.command_line.specs.declared.job.Sizing.TheVariants.{Demand, Pace, Plan as By_plan}
 use Rattle.command_line.specs.declared.job.Job.TheVariants.{Play, Check, Threads, Inspect, Cycles, Path, Mmu, Draw, DrawGraph, DrawTime, Pages, Plan}
-use Rattle.player.specs.declared.style.Style.{Style}
-use Rattle.player.specs.declared.style.Style.TheVariants.{Replies, Entries}
+use Rattle.trace.specs.declared.player.style.Style.{Style}
+use Rattle.trace.specs.declared.player.style.Style.TheVariants.{Replies, Entries}
 use Rattle.metronome.specs.declared.fault.Ending.{Ending}
 use Rattle.metronome.specs.declared.fault.RunFault.{RunFault}
 use Rattle.metronome.specs.declared.answer_job.Question.TheVariants as questions

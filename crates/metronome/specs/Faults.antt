@@ -1,6 +1,6 @@
 -- The faults of the crates below, as faults of a run.
 use Rattle.std.specs.Prelude.{ℕ, Bool, IsTrue, Result, Err}
-use Rattle.settings.specs.declared.fault.ConfigFault.{ConfigFault}
+use Rattle.size_classes.specs.declared.fault.ConfigFault.{ConfigFault}
 use Rattle.documents.specs.declared.toml_table.ReadFault.{ReadFault}
 use Rattle.documents.specs.declared.toml_table.ReadFault.TheVariants as settings
 use Rattle.trace.specs.declared.fault.PlayFault.TheVariants.{Read, NoMemory}

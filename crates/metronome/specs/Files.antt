@@ -1,6 +1,6 @@
 -- What is known of the files that words name.
 use Rattle.std.specs.Prelude.{◌≡◌, ℕ, ◌<◌, ◌≤◌, ◌⊎◌, ◌++◌, Bool, true, false, IsTrue, List, [], length, take, Option, Some, None, IfSome}
-use Rattle.streams.specs.Streams.{Given, Stays}
+use Rattle.trace.specs.Streams.{Given, Stays}
 
 -- What is known of a file: its bytes, if they are known, and whether opening or reading it failed.
 pub record KnownFile : Type 0 where

@@ -1,19 +1,19 @@
 -- What each subcommand reads and writes.
 use Rattle.std.specs.Prelude.{◌≡◌, ℕ, Bool, true, false, ◌⊎◌, ◌++◌, map, replicate, Result, Ok, Err}
-use Rattle.settings.specs.declared.config.Config.{Config}
+use Rattle.size_classes.specs.declared.config.Config.{Config}
 use Rattle.trace.specs.declared.fault.PlayFault.{PlayFault}
 use Rattle.trace.specs.declared.fault.PlayFault.TheVariants.{Write, NoMemory}
 use Rattle.trace.specs.declared.version.Version.{Version}
-use Rattle.streams.specs.Streams.{Given, Taken, GrowsByPart}
+use Rattle.trace.specs.Streams.{Given, Taken, GrowsByPart}
 use Rattle.trace.specs.Scripts.{ReadScripts, ScriptsRead}
 use Rattle.heap_server.specs.declared.play.Outcome.{Outcome}
 use Rattle.heap_model.specs.Settings.{settings_by}
 use Rattle.heap_server.specs.Played.{IsOutcome}
-use Rattle.player.specs.declared.style.Style.{Style}
-use Rattle.player.specs.declared.style.Style.TheVariants.{Entries}
-use Rattle.player.specs.New.{IsNew}
-use Rattle.player.specs.Player.{PlayerState}
-use Rattle.player.specs.Playing.{session, OrHeld, IsSentUpTo, Played, text_written}
+use Rattle.trace.specs.declared.player.style.Style.{Style}
+use Rattle.trace.specs.declared.player.style.Style.TheVariants.{Entries}
+use Rattle.trace.specs.New.{IsNew}
+use Rattle.trace.specs.Player.{PlayerState}
+use Rattle.trace.specs.Playing.{session, OrHeld, IsSentUpTo, Played, text_written}
 use Rattle.metronome.specs.declared.fault.Ending.{Ending}
 use Rattle.metronome.specs.declared.fault.Ending.TheVariants.{Done}
 use Rattle.metronome.specs.declared.fault.RunFault.{RunFault}

@@ -1,8 +1,8 @@
 -- What is drawn of a heap over a run.
 use Rattle.std.specs.Prelude.{ℕ, List, Result}
-use Rattle.settings.specs.declared.config.Config.{Config}
+use Rattle.size_classes.specs.declared.config.Config.{Config}
 use Rattle.trace.specs.declared.fault.PlayFault.{PlayFault}
-use Rattle.streams.specs.Streams.{Given, Taken}
+use Rattle.trace.specs.Streams.{Given, Taken}
 use Rattle.pictures.specs.declared.over_time.Scale.{Scale}
 use Rattle.pictures.specs.OverTime.{time_picture}
 use Rattle.pictures.specs.declared.timeline.samples.Samples.{Samples}

@@ -1,6 +1,6 @@
 -- What is told of the plans by which a heap paces itself.
 use Rattle.std.specs.Prelude.{◌≡◌, ℕ, Bool, true, false, List, Option}
-use Rattle.settings.specs.declared.config.Config.{Config}
+use Rattle.size_classes.specs.declared.config.Config.{Config}
 use Rattle.pictures.specs.declared.plan_bars.PlanBar.{PlanBar}
 use Rattle.pictures.specs.PlanBars.{bars_picture}
 use Rattle.plans.specs.Bars.{ArePlanBars}

@@ -2,14 +2,14 @@
 use Rattle.std.specs.Prelude.{◌≡◌, ℕ, ◌<◌, ◌≤◌, ◌⊎◌, ◌||◌, IsTrue, if◌then◌else◌, List, [], ◌++◌, length, codes, Option, Some, None, IfSome, Result, Ok, Err}
 use Rattle.std.specs.Borrow.{Bor}
 use Rattle.std.specs.Str.{bytes_eq}
-use Rattle.settings.specs.declared.config.Config.{Config}
-use Rattle.settings.specs.declared.fault.ConfigFault.{ConfigFault}
+use Rattle.size_classes.specs.declared.config.Config.{Config}
+use Rattle.size_classes.specs.declared.fault.ConfigFault.{ConfigFault}
 use Rattle.documents.specs.ConfigFile.{IsRead}
 use Rattle.command_line.specs.Words.{IsAskedForBy, AsksForHelp}
 use Rattle.command_line.specs.declared.job.Job.{Job}
 use Rattle.command_line.specs.declared.job.Request.{Request}
 use Rattle.documents.specs.declared.toml_table.ReadFault.{ReadFault}
-use Rattle.streams.specs.Streams.{Given, Taken, Begins}
+use Rattle.trace.specs.Streams.{Given, Taken, Begins}
 use Rattle.metronome.specs.declared.fault.Ending.{Ending}
 use Rattle.metronome.specs.declared.fault.Ending.TheVariants.{Done}
 use Rattle.metronome.specs.declared.fault.RunFault.{RunFault}

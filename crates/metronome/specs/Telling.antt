@@ -1,14 +1,14 @@
 -- What is reported of a player.
 use Rattle.std.specs.Prelude.{◌≡◌, ℕ, Bool, IsTrue, ◌↔◌, List, Result, Ok, Err}
-use Rattle.settings.specs.declared.config.Config.{Config}
+use Rattle.size_classes.specs.declared.config.Config.{Config}
 use Rattle.graph_heap.specs.Graph.{Graph}
 use Rattle.heap_model.specs.Event.{present_of}
 use Rattle.heap_model.specs.State.{HeapState}
 use Rattle.nodes.specs.Copies.{HasBlock}
 use Rattle.quanta.specs.Timetable.{Timetable}
 use Rattle.trace.specs.declared.fault.PlayFault.{PlayFault}
-use Rattle.streams.specs.Streams.{Taken}
-use Rattle.player.specs.Player.{PlayerState}
+use Rattle.trace.specs.Streams.{Taken}
+use Rattle.trace.specs.Player.{PlayerState}
 use Rattle.pictures.specs.PathText.{PathTold}
 use Rattle.inspector.specs.Filling.{sizes_told}
 use Rattle.inspector.specs.Report.{report_of}

@@ -1,8 +1,8 @@
 -- A trace that is read into memory, and measured there.
 use Rattle.std.specs.Prelude.{◌≡◌, ℕ, IsTrue, List, [], ◌++◌, Result}
-use Rattle.settings.specs.declared.config.Config.{Config}
+use Rattle.size_classes.specs.declared.config.Config.{Config}
 use Rattle.trace.specs.declared.fault.PlayFault.{PlayFault}
-use Rattle.streams.specs.Streams.{Given, Begins}
+use Rattle.trace.specs.Streams.{Given, Begins}
 use Rattle.sizing.specs.declared.measured.Measured.{Measured}
 use Rattle.sizing.specs.Measuring.{TraceMeasured}
 

@@ -3,7 +3,7 @@ use Rattle.std.specs.Prelude.{◌≡◌, ℕ, ◌⊎◌, List, ◌++◌, Result,
 use Rattle.std.specs.declared.alloc.Global.{Global}
 use Rattle.trace.specs.declared.fault.PlayFault.{PlayFault}
 use Rattle.trace.specs.declared.fault.PlayFault.TheVariants.{Write, NoMemory}
-use Rattle.streams.specs.Streams.{Taken, GrowsByPart}
+use Rattle.trace.specs.Streams.{Taken, GrowsByPart}
 use Rattle.metronome.specs.declared.fault.Ending.{Ending}
 use Rattle.metronome.specs.declared.fault.Ending.TheVariants.{Done}
 use Rattle.metronome.specs.declared.fault.RunFault.{RunFault}

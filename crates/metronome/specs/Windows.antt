@@ -1,11 +1,11 @@
 -- The lines that tell of windows.
 use Rattle.std.specs.Prelude.{◌≡◌, ℕ, ◌*◌, ◌/◌, ◌<◌, max, ◌⊎◌, List, ◌++◌, codes, decimal}
 use Rattle.std.specs.List.{AllZip, concat}
-use Rattle.settings.specs.declared.config.Config.{Config}
+use Rattle.size_classes.specs.declared.config.Config.{Config}
 use Rattle.quanta.specs.Timetable.{Timetable, last_end}
 use Rattle.mmu_report.specs.Utilisation.{IsLeast, bound_of}
 use Rattle.trace.specs.declared.fault.PlayFault.TheVariants.{Write, NoMemory}
-use Rattle.streams.specs.Streams.{GrowsByPart}
+use Rattle.trace.specs.Streams.{GrowsByPart}
 use Rattle.metronome.specs.declared.fault.RunFault.{RunFault}
 use Rattle.metronome.specs.declared.fault.RunFault.TheVariants.{Text}
 

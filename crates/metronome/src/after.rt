@@ -2,7 +2,7 @@
 ghost use Rattle.std.specs.Prelude.{◌≡◌, ◌+◌, IfOk};
 ghost use Rattle.heap_model.specs.Event.{present_of};
 ghost use Rattle.heap_model.specs.Settings.{settings_of, settings_by};
-ghost use Rattle.streams.specs.Streams.{given_by, taken_by, Stays};
+ghost use Rattle.trace.specs.Streams.{given_by, taken_by, Stays};
 ghost use Rattle.metronome.specs.Faults.{failed_reads, failed_writes};
 ghost use Rattle.metronome.specs.After.{PlayerAfter, AfterPlay};
 ghost use Rattle.metronome.specs.Telling.{Tells};
@@ -20,11 +20,10 @@ use graph_heap::{NoMemory, Reference};
 use path::tell_path;
 use picture::tell_picture;
 use pictures::present;
-use player::{Player, Style, play_up_to};
 use report::tell_report;
-use settings::Config;
+use size_classes::Config;
 use std::alloc::Global;
-use streams::{Sink, Source};
+use trace::{Player, Sink, Source, Style, play_up_to};
 use windows::tell_windows;
 
 /// What is reported.

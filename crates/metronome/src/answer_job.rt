@@ -1,7 +1,7 @@
 //! Answering a question about an input.
 ghost use Rattle.std.specs.Prelude.{◌≡◌, ◌+◌, IfOk, string_bytes};
 ghost use Rattle.trace.specs.LinesProcessed.{reads_failed};
-ghost use Rattle.streams.specs.Streams.{given_by, taken_by, Stays};
+ghost use Rattle.trace.specs.Streams.{given_by, taken_by, Stays};
 ghost use Rattle.metronome.specs.Faults.{failed_reads, failed_writes};
 ghost use Rattle.metronome.specs.Told.{TextWritten};
 ghost use Rattle.metronome.specs.Answered.{EntriesTaken, verdict, told_of, TellsPace, Offers, IsAnswer, Answered};
@@ -11,13 +11,11 @@ use graph_heap::Reference;
 use inspector::pages_needed::pace_report;
 use inspector::{Layout, Log, cycles_text};
 use plans::{LiveMeter, run_plans};
-use player::survey_run;
-use settings::Config;
+use size_classes::Config;
 use sizing::{Measured, Meter};
 use std::alloc::{AllocError, Global};
-use streams::{Sink, Source, write_all};
-use trace::PlayFault;
 use trace::transcripts::{Checked, check_entries};
+use trace::{PlayFault, Sink, Source, survey_run, write_all};
 
 /// What is asked about an input.
 #[derive(Clone, Copy)]

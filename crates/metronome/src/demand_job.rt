@@ -1,6 +1,6 @@
 //! Telling what a trace needs, and on how many pages it finds room.
 ghost use Rattle.std.specs.Prelude.{◌≡◌, ◌+◌};
-ghost use Rattle.streams.specs.Streams.{given_by, taken_by, Stays};
+ghost use Rattle.trace.specs.Streams.{given_by, taken_by, Stays};
 ghost use Rattle.metronome.specs.Faults.{failed_reads, failed_writes};
 ghost use Rattle.metronome.specs.Demand.{NeededTold, DemandTold};
 
@@ -10,9 +10,9 @@ use crate::measuring::measure_text;
 use crate::room::find_room;
 use crate::told::tell_text;
 use inspector::pages_needed::needed_report;
-use settings::Config;
+use size_classes::Config;
 use std::alloc::Global;
-use streams::{Sink, Source};
+use trace::{Sink, Source};
 
 /// Plays the trace of a text on a new heap, and writes what it needs there, and on how many pages it finds room.
 fn tell_needed<K: Sink>(

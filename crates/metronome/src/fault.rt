@@ -7,10 +7,9 @@ ghost use Rattle.metronome.specs.Status.{ending_status, fault_status};
 
 use documents::ReadFault;
 use graph_heap::NoMemory;
-use settings::ConfigFault;
-use streams::WriteFailed;
+use size_classes::ConfigFault;
 use thiserror::Error;
-use trace::PlayFault;
+use trace::{PlayFault, WriteFailed};
 
 /// How a run ends that meets no fault.
 #[derive(Clone, Copy, Debug, PartialEq, Eq)]

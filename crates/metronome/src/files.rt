@@ -1,6 +1,6 @@
 //! Files by name, and standard input.
 ghost use Rattle.std.specs.Prelude.{◌≡◌, ◌⊎◌, ◌+◌, ◌<◌, ◌≤◌, ℕ, Some, true, IfOk, IfErr, IfSome, IsTrue};
-ghost use Rattle.streams.specs.Streams.{given_by, Stays};
+ghost use Rattle.trace.specs.Streams.{given_by, Stays};
 ghost use Rattle.metronome.specs.Faults.{IsUnreadable, failed_reads};
 ghost use Rattle.metronome.specs.Files.{KnownFiles, IsOpened, IsFront, document_bytes, unknown_files};
 
@@ -8,8 +8,7 @@ use crate::fault::RunFault;
 use std::alloc::Global;
 use std::fs::{self, Files};
 use std::io::{self, Input, Read};
-use streams::{ReadSource, Source};
-use trace::PlayFault;
+use trace::{PlayFault, ReadSource, Source};
 
 /// The most bytes of a configuration that are read: one more than it may have.
 pub const DOCUMENT_BYTES: usize = 65537;

@@ -1,9 +1,9 @@
 //! What each subcommand does, from a source to a sink. Each ends in a failed read or write exactly where one failed.
 ghost use Rattle.std.specs.Prelude.{◌≡◌, ◌+◌, ◌≤◌, ◌++◌, map, replicate, vec_len, IfOk, OnOk, OnErr};
 ghost use Rattle.heap_model.specs.Settings.{settings_by};
-ghost use Rattle.streams.specs.Streams.{failed, GrowsByPart, given_by, taken_by, Stays};
-ghost use Rattle.player.specs.declared.style.Style.TheVariants.{Entries};
-ghost use Rattle.player.specs.Playing.{written_of, written_version, text_written};
+ghost use Rattle.trace.specs.Streams.{failed, GrowsByPart, given_by, taken_by, Stays};
+ghost use Rattle.trace.specs.declared.player.style.Style.TheVariants.{Entries};
+ghost use Rattle.trace.specs.Playing.{written_of, written_version, text_written};
 ghost use Rattle.heap_server.specs.Played.{IsOutcome};
 ghost use Rattle.metronome.specs.Faults.{failed_reads, failed_writes};
 ghost use Rattle.metronome.specs.Jobs.{TracePlayed, ScriptsRun, finish};
@@ -11,14 +11,15 @@ ghost use Rattle.metronome.specs.Jobs.{TracePlayed, ScriptsRun, finish};
 use crate::fault::{Ending, RunFault};
 use graph_heap::{Command, Entry, NoMemory};
 use heap_server::{OpenGate, Outcome, play_threads};
-use player::{Player, Style, play};
-use settings::Config;
+use size_classes::Config;
 use std::alloc::Global;
 use std::sync::Wait;
 use std::thread::Threads;
-use streams::{Sink, Source, WriteFailed};
 use trace::transcripts::read_scripts;
-use trace::{Version, end_line, put, version_line, write_entry};
+use trace::{
+    Player, Sink, Source, Style, Version, WriteFailed, end_line, play, put, version_line,
+    write_entry,
+};
 
 /// Plays a trace, and writes what the style says of each command.
 pub fn play_job<S: Source, K: Sink>(

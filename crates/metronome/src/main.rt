@@ -23,7 +23,7 @@ use run::{run, tell};
 use std::env;
 use std::io::{self, ErrorKind};
 use std::process::ExitCode;
-use streams::{BufferedSink, WriteSink};
+use trace::{BufferedSink, WriteSink};
 
 /// The words of the command line; the first is the program's name.
 fn words_of(rt: &HostRuntime) -> Result<Vec<String>, RunFault> {

@@ -3,12 +3,10 @@ ghost use Rattle.std.specs.Prelude.{◌≡◌};
 ghost use Rattle.trace.specs.LinesProcessed.{reads_failed, writes_failed};
 ghost use Rattle.metronome.specs.Texts.{TextMeasured};
 
-use player::survey_run;
-use settings::Config;
+use size_classes::Config;
 use sizing::{Measured, Meter};
 use std::alloc::Global;
-use streams::MemorySource;
-use trace::PlayFault;
+use trace::{MemorySource, PlayFault, survey_run};
 
 /// What the trace of a text needs on a new heap.
 pub fn measure_text(alloc: Global, config: &Config, text: &[u8]) -> Result<Measured, PlayFault>

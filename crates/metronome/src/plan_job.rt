@@ -1,6 +1,6 @@
 //! Telling of the plans by which a heap paces itself.
 ghost use Rattle.std.specs.Prelude.{◌≡◌, ◌+◌, IfOk, option_map, string_bytes};
-ghost use Rattle.streams.specs.Streams.{taken_by};
+ghost use Rattle.trace.specs.Streams.{taken_by};
 ghost use Rattle.plans.specs.Bars.{ArePlanBars};
 ghost use Rattle.plans.specs.Report.{IsPlansReport};
 ghost use Rattle.metronome.specs.Faults.{failed_reads, failed_writes};
@@ -12,10 +12,9 @@ use crate::told::{ended, tell_text};
 use graph_heap::NoMemory;
 use pictures::{PlanBar, draw_bars};
 use plans::{plan_bars, plans_report};
-use settings::Config;
-use size_classes::Class;
+use size_classes::{Class, Config};
 use std::alloc::Global;
-use streams::Sink;
+use trace::Sink;
 
 /// What is told of the plans for so many live words, and for these size classes, if any are said.
 fn plans_text(

@@ -4,7 +4,7 @@ ghost use Rattle.std.specs.Io.KnownBytes.{Appends};
 ghost use Rattle.metronome.specs.Progress.{line_ends, progress_line};
 
 use std::io::{self, Write};
-use streams::{ReadFailed, Source};
+use trace::{ReadFailed, Source};
 
 /// How many lines the first report takes.
 const FIRST_TOLD: u64 = 65536;

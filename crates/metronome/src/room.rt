@@ -1,12 +1,12 @@
 //! How many pages are enough for a trace itself: it is measured on some numbers of them.
 ghost use Rattle.std.specs.Prelude.{◌≡◌, ◌≤◌, Some};
-ghost use Rattle.settings.specs.declared.config.TheConstants.{MOST_PAGES};
+ghost use Rattle.size_classes.specs.declared.config.TheConstants.{MOST_PAGES};
 ghost use Rattle.trace.specs.LinesProcessed.{reads_failed, writes_failed};
 ghost use Rattle.metronome.specs.Demand.{is_enough, IsResized, Measures, IsEnoughOn, IsFound, OrFault};
 ghost use Rattle.metronome.specs.Bounds.{enough_of, AreBounds, BoundsOrNone};
 
 use crate::measuring::measure_text;
-use settings::{Config, MOST_PAGES};
+use size_classes::{Config, MOST_PAGES};
 use sizing::Needed;
 use std::alloc::Global;
 use trace::PlayFault;

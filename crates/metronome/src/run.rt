@@ -3,7 +3,7 @@ ghost use Rattle.std.specs.Prelude.{◌≡◌, ◌+◌, [], map, Result, OnOk};
 ghost use Rattle.std.specs.Io.KnownBytes.{Appends};
 ghost use Rattle.metronome.specs.declared.fault.Ending.{Ending};
 ghost use Rattle.metronome.specs.declared.fault.RunFault.{RunFault};
-ghost use Rattle.streams.specs.Streams.{given_by, taken_by, Stays};
+ghost use Rattle.trace.specs.Streams.{given_by, taken_by, Stays};
 ghost use Rattle.command_line.specs.declared.job.Job.TheVariants as jobs;
 ghost use Rattle.metronome.specs.Done.{JobDone, style_of, layout_of};
 ghost use Rattle.metronome.specs.Faults.{failed_reads, failed_writes};
@@ -23,15 +23,13 @@ use crate::time_job::time_job;
 use command_line::{Job, Request, Sizing, WordsFault, read_words};
 use documents::read_config;
 use inspector::Layout;
-use player::Style;
-use settings::Config;
+use size_classes::Config;
 use std::alloc::Global;
 use std::convert::AsStr;
 use std::io::{self, Write};
 use std::sync::Wait;
 use std::thread::Threads;
-use streams::{MemorySource, Sink, Source, write_all};
-use trace::PlayFault;
+use trace::{MemorySource, PlayFault, Sink, Source, Style, write_all};
 
 /// What a run has of the machine: threads, memory, and files by their names.
 #[derive(Clone, Copy, Drop)]

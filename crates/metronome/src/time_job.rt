@@ -1,16 +1,15 @@
 //! Drawing a heap over a run.
 ghost use Rattle.std.specs.Prelude.{◌≡◌, ◌+◌};
-ghost use Rattle.streams.specs.Streams.{given_by, taken_by, Stays};
+ghost use Rattle.trace.specs.Streams.{given_by, taken_by, Stays};
 ghost use Rattle.metronome.specs.Faults.{failed_reads, failed_writes};
 ghost use Rattle.metronome.specs.OverTime.{scale_of, TimeDrawn};
 
 use crate::fault::{Ending, RunFault};
 use pictures::timeline::{Sampler, Samples};
 use pictures::{Scale, draw_time};
-use player::survey_run;
-use settings::Config;
+use size_classes::Config;
 use std::alloc::Global;
-use streams::{Sink, Source};
+use trace::{Sink, Source, survey_run};
 
 /// The scale of a picture of samples.
 fn scale(config: &Config, samples: &Samples) -> Scale

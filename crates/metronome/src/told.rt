@@ -1,6 +1,6 @@
 //! Reports that are written, of which some are made as a text first.
 ghost use Rattle.std.specs.Prelude.{◌≡◌, ◌+◌, Ok, Err, OnOk, OnErr};
-ghost use Rattle.streams.specs.Streams.{failed, taken_by};
+ghost use Rattle.trace.specs.Streams.{failed, taken_by};
 ghost use Rattle.trace.specs.declared.fault.PlayFault.TheVariants as texts;
 ghost use Rattle.metronome.specs.Faults.{failed_reads, failed_writes};
 ghost use Rattle.metronome.specs.declared.fault.Ending.TheVariants as endings;
@@ -8,8 +8,7 @@ ghost use Rattle.metronome.specs.declared.fault.RunFault.TheVariants as faults;
 ghost use Rattle.metronome.specs.Told.{MadeTextTold};
 
 use crate::fault::{Ending, RunFault};
-use streams::{Sink, write_all};
-use trace::PlayFault;
+use trace::{PlayFault, Sink, write_all};
 
 /// How a run ends that wrote a report.
 pub fn ended<E: Drop>(written: Result<(), E>) -> Result<Ending, RunFault>

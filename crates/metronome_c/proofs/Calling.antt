@@ -4,11 +4,11 @@ use Rattle.std.specs.Prelude.{Option, Some, None}
 use Rattle.graph_heap.specs.declared.command.Command.{Command}
 use Rattle.graph_heap.specs.declared.command.Command.TheVariants as commands
 use Rattle.graph_heap.specs.declared.command.Reply.{Reply}
-use Rattle.settings.specs.declared.settings.Settings.{Settings}
-use Rattle.settings.specs.declared.config.Config.{Config}
-use Rattle.settings.specs.declared.fault.ConfigFault.{ConfigFault}
-use Rattle.settings.specs.declared.ranges.Ranges.TheVariants.{Library}
-use Rattle.settings.specs.Config.{fault_of}
+use Rattle.size_classes.specs.declared.settings.Settings.{Settings}
+use Rattle.size_classes.specs.declared.config.Config.{Config}
+use Rattle.size_classes.specs.declared.fault.ConfigFault.{ConfigFault}
+use Rattle.size_classes.specs.declared.ranges.Ranges.TheVariants.{Library}
+use Rattle.size_classes.specs.Config.{fault_of}
 use Rattle.heap_model.specs.State.{HeapState}
 use Rattle.heap_model.specs.Event.{Course, Event, Command_done, IsCourse, Does, Runs}
 use Rattle.heap_model.specs.ReachedFrom.{opened}

@@ -3,12 +3,12 @@ use Rattle.std.proofs.Common.{Bool, cond, ◌≡◌, ◌∙◌, ℕ, ◌+◌, �
 use Rattle.std.specs.Prelude.{Option, Some, None, length, pos, nat_abs}
 use Rattle.std.proofs.lemmas.List.Folds.{sum_by-replicate}
 use Rattle.std.proofs.Math.Nat.{mul-one}
-use Rattle.settings.specs.declared.settings.Settings.{Settings}
-use Rattle.settings.specs.declared.config.Config.{Config}
-use Rattle.settings.specs.declared.fault.ConfigFault.{ConfigFault}
-use Rattle.settings.specs.declared.fault.ConfigFault.TheVariants as faults
-use Rattle.settings.specs.declared.ranges.Ranges.TheVariants.{Library}
-use Rattle.settings.specs.Config.{fault_of, IsOf}
+use Rattle.size_classes.specs.declared.settings.Settings.{Settings}
+use Rattle.size_classes.specs.declared.config.Config.{Config}
+use Rattle.size_classes.specs.declared.fault.ConfigFault.{ConfigFault}
+use Rattle.size_classes.specs.declared.fault.ConfigFault.TheVariants as faults
+use Rattle.size_classes.specs.declared.ranges.Ranges.TheVariants.{Library}
+use Rattle.size_classes.specs.Config.{fault_of, IsOf}
 use Rattle.heap_model.specs.Opening.{IsOpening}
 use Rattle.heap_model.specs.Pages.{Page, is_free, free_pages}
 use Rattle.heap_model.specs.State.{HeapState}

@@ -4,12 +4,12 @@ use Rattle.std.specs.Prelude.{Option, Some, None}
 use Rattle.std.proofs.lemmas.List.{length-replicate}
 use Rattle.graph_heap.specs.Graph.{root_cells}
 use Rattle.size_classes.specs.declared.class.TheConstants.{CLASSES, PAGE_WORDS}
-use Rattle.settings.specs.declared.config.TheConstants.{LEAST_BUDGET}
-use Rattle.settings.specs.declared.config.Config.{Config}
-use Rattle.settings.specs.declared.fault.ConfigFault.{ConfigFault}
-use Rattle.settings.specs.declared.settings.Settings.{Settings}
-use Rattle.settings.specs.declared.ranges.Ranges.TheVariants.{Library}
-use Rattle.settings.specs.Config.{cycle_limit_of, fault_of, IsOf}
+use Rattle.size_classes.specs.declared.config.TheConstants.{LEAST_BUDGET}
+use Rattle.size_classes.specs.declared.config.Config.{Config}
+use Rattle.size_classes.specs.declared.fault.ConfigFault.{ConfigFault}
+use Rattle.size_classes.specs.declared.settings.Settings.{Settings}
+use Rattle.size_classes.specs.declared.ranges.Ranges.TheVariants.{Library}
+use Rattle.size_classes.specs.Config.{cycle_limit_of, fault_of, IsOf}
 use Rattle.heap_model.specs.State.{HeapState}
 use Rattle.heap_model.specs.Settings.{HeapSettings, settings_of, settings_by}
 use Rattle.heap_model.specs.Opening.{IsOpening}

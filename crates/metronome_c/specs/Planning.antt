@@ -1,10 +1,10 @@
 -- A plan is told.
 use Rattle.std.specs.Prelude.{◌≡◌, ℕ, ◌*◌, Option, Some, None}
-use Rattle.settings.specs.declared.settings.Settings.{Settings}
-use Rattle.settings.specs.declared.config.Config.{Config}
-use Rattle.settings.specs.declared.fault.ConfigFault.{ConfigFault}
-use Rattle.settings.specs.declared.ranges.Ranges.TheVariants.{Library}
-use Rattle.settings.specs.Config.{fault_of, IsOf}
+use Rattle.size_classes.specs.declared.settings.Settings.{Settings}
+use Rattle.size_classes.specs.declared.config.Config.{Config}
+use Rattle.size_classes.specs.declared.fault.ConfigFault.{ConfigFault}
+use Rattle.size_classes.specs.declared.ranges.Ranges.TheVariants.{Library}
+use Rattle.size_classes.specs.Config.{fault_of, IsOf}
 use Rattle.fragmentation.specs.Configured.{MovesAll}
 use Rattle.paced.specs.declared.plan.Plan.{Plan}
 use Rattle.paced.specs.Planning.{IsFastest, IsLeastPages}

@@ -2,9 +2,9 @@
 use Rattle.std.specs.Prelude.{◌≡◌, ℕ, Bool, true, false, [], Option, Some, None, Result, Ok, Err}
 use Rattle.graph_heap.specs.declared.command.Command.{Command}
 use Rattle.graph_heap.specs.declared.command.Reply.{Reply}
-use Rattle.settings.specs.declared.settings.Settings.{Settings}
-use Rattle.settings.specs.declared.config.Config.{Config}
-use Rattle.settings.specs.Config.{IsOf}
+use Rattle.size_classes.specs.declared.settings.Settings.{Settings}
+use Rattle.size_classes.specs.declared.config.Config.{Config}
+use Rattle.size_classes.specs.Config.{IsOf}
 use Rattle.heap_model.specs.Settings.{settings_by}
 use Rattle.heap_model.specs.State.{HeapState}
 use Rattle.machine.specs.declared.collector.Busy.{Busy as CycleOn}

@@ -3,12 +3,12 @@ use Rattle.std.specs.Prelude.{ℕ, ◌+◌, ◌++◌, ◌==◌, List, map, Optio
 use Rattle.std.specs.List.{position_or_len}
 use Rattle.graph_heap.specs.declared.command.Refusal.TheVariants.{BadSlot, NullSlot, BadIndex, WrongKind, TooLarge, IdentitiesSpent, NoSpace, BadStatic, NotLive, AlreadyLive}
 use Rattle.graph_heap.specs.Refusal.{refusal_number}
-use Rattle.settings.specs.declared.key.Key.{Key}
-use Rattle.settings.specs.contracts.key.KeyPartialEq.TheImpl as same_key
-use Rattle.settings.specs.declared.key.TheConstants.Key.{ALL}
-use Rattle.settings.specs.Keys.{name_of}
-use Rattle.settings.specs.declared.fault.ConfigFault.{ConfigFault}
-use Rattle.settings.specs.declared.fault.ConfigFault.TheVariants as faults
+use Rattle.size_classes.specs.declared.key.Key.{Key}
+use Rattle.size_classes.specs.contracts.key.KeyPartialEq.TheImpl as same_key
+use Rattle.size_classes.specs.declared.key.TheConstants.Key.{ALL}
+use Rattle.size_classes.specs.Keys.{name_of}
+use Rattle.size_classes.specs.declared.fault.ConfigFault.{ConfigFault}
+use Rattle.size_classes.specs.declared.fault.ConfigFault.TheVariants as faults
 use Rattle.heap_shared.specs.declared.member.NoTurn.{NoTurn}
 use Rattle.heap_shared.specs.declared.member.NoTurn.TheVariants as turns
 use Rattle.heap_shared.specs.declared.member.NotDone.{NotDone}

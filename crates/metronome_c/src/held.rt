@@ -11,7 +11,7 @@ use crate::planning::MetronomeFlow;
 use graph_heap::Shape;
 use machine::{BudgetOutOfRange, Busy, Heap, Spent};
 use paced::{Figures, Pacer, flow_fits, moves_all};
-use settings::Config;
+use size_classes::Config;
 
 /// A heap, the configuration that it was made of, its pacer, where the program keeps a plan, and its cycles, counted where the
 /// program keeps none.

@@ -1,9 +1,9 @@
 //! The laws of the library. Each function does nothing: its contract is the law.
 ghost use Rattle.std.specs.Prelude.{◌≡◌, ◌*◌, ℕ, List, [], ◌∷◌, Result, Ok, Err};
 ghost use Rattle.graph_heap.specs.declared.command.Refusal.TheVariants as refusals;
-ghost use Rattle.settings.specs.declared.config.Config.{Config};
-ghost use Rattle.settings.specs.declared.key.Key.TheVariants as keys;
-ghost use Rattle.settings.specs.declared.settings.Settings.{Settings};
+ghost use Rattle.size_classes.specs.declared.config.Config.{Config};
+ghost use Rattle.size_classes.specs.declared.key.Key.TheVariants as keys;
+ghost use Rattle.size_classes.specs.declared.settings.Settings.{Settings};
 ghost use Rattle.heap_model.specs.Bound.{most_quanta};
 ghost use Rattle.heap_model.specs.Opening.{IsOpening};
 ghost use Rattle.heap_model.specs.Settings.{settings_of, settings_by};

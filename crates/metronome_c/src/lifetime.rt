@@ -11,7 +11,7 @@ use crate::metronome::Metronome;
 use crate::status::Status;
 use crate::text::VERSION;
 use machine::Heap;
-use settings::{Config, Settings};
+use size_classes::{Config, Settings};
 
 /// Makes a heap of these settings, where the handle is closed and the program was built for this version. Of a program
 /// for another one nothing is read but that version.

@@ -3,7 +3,7 @@ ghost use Rattle.std.specs.Prelude.{◌≡◌};
 ghost use Rattle.metronome_c.specs.Limit.{limit_of, TellsLimit};
 
 use crate::status::Status;
-use settings::{Config, LEAST_BUDGET, Settings};
+use size_classes::{Config, LEAST_BUDGET, Settings};
 
 /// The units that a cycle takes at most, and the quanta of the schedule.
 #[repr(C)]

@@ -5,7 +5,7 @@ ghost use Rattle.metronome_c.specs.Planning.{plan_in, flow_told, IsPlanned, Tell
 
 use crate::status::Status;
 use paced::{Plan, least_pages, moves_all, planned};
-use settings::{Config, Settings};
+use size_classes::{Config, Settings};
 
 /// A plan, for what is live at most: how many words of blocks are made at most for each quantum of a budget, and in a whole
 /// cycle; and the least number of pages on which there is one, or 0.

@@ -6,7 +6,7 @@ ghost use Rattle.metronome_c.specs.Status.{no_turn_status, not_done_status, no_m
 
 use graph_heap::Refusal;
 use heap_shared::{NoMember, NoTurn, NotDone};
-use settings::{ConfigFault, Key};
+use size_classes::{ConfigFault, Key};
 
 /// How a call ends.
 #[derive(Clone, Copy, Debug, PartialEq, Eq)]

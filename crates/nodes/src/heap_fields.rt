@@ -8,7 +8,7 @@ use crate::nodes::Nodes;
 use graph_heap::NoMemory;
 use heap_model::phase::Phase;
 use roots::Roots;
-use settings::Config;
+use size_classes::Config;
 use std::alloc::Global;
 
 /// The fields of a heap. Each step of the collector and each write of a mutator is lent them all:

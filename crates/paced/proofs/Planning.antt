@@ -4,7 +4,7 @@ use Rattle.std.specs.Prelude.{min, Option, Some, None, is_some, IsTrue, IfSome}
 use Rattle.std.proofs.lemmas.Nat.{le-div}
 use Rattle.std.proofs.Math.Nat.{div-mul-le_self, mul-le-mul_left, mul-le-mul_right, lt-div-mul-add, le-min, min-le_left, min-le_right}
 use Rattle.size_classes.specs.declared.class.TheConstants.{PAGE_WORDS}
-use Rattle.settings.specs.declared.config.Config.{Config}
+use Rattle.size_classes.specs.declared.config.Config.{Config}
 use Rattle.fragmentation.specs.declared.flow.TheConstants.{LEAST_PAGE_FILL, PARTLY_FILLED_PAGES}
 use Rattle.fragmentation.specs.Flow.{Flow, classes_made, live_most, sweep_units, full_quanta, marked_quanta, sweep_quanta, flow_moving, flow_quanta, FlowFitsOn}
 use Rattle.fragmentation.specs.Configured.{roots_in}

@@ -3,7 +3,7 @@ use Rattle.std.proofs.Common.{◌≡◌, ℕ, ◌+◌, ◌-◌, ◌*◌, ◌/◌
 use Rattle.std.proofs.lemmas.Nat.{le-div, div_below}
 use Rattle.std.proofs.lemmas.Bool.{le-leb}
 use Rattle.std.proofs.Math.Nat.{mul-le-mul_right}
-use Rattle.settings.specs.declared.config.Config.{Config}
+use Rattle.size_classes.specs.declared.config.Config.{Config}
 use Rattle.heap_model.specs.declared.phase.Phase.{Phase}
 use Rattle.heap_model.specs.declared.phase.Phase.TheVariants as phases
 use Rattle.heap_model.specs.Event.{Event, Command_done, Cycle_begun, Begin_refused, Quantum_done, Quantum_refused, quanta_in}

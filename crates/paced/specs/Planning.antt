@@ -1,7 +1,7 @@
 -- Which plan is chosen.
 use Rattle.std.specs.Prelude.{◌≡◌, ℕ, ◌*◌, ◌<◌, ◌≤◌, Bool, true, Option, Some, None}
-use Rattle.settings.specs.declared.config.Config.{Config}
-use Rattle.settings.specs.declared.config.TheConstants.{MOST_HEAP_PAGES}
+use Rattle.size_classes.specs.declared.config.Config.{Config}
+use Rattle.size_classes.specs.declared.config.TheConstants.{MOST_HEAP_PAGES}
 use Rattle.fragmentation.specs.Flow.{Flow, flow_quanta, FlowFitsOn}
 use Rattle.fragmentation.specs.Configured.{roots_in}
 use Rattle.paced.specs.declared.plan.Plan.{Plan}

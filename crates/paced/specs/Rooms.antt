@@ -1,8 +1,8 @@
 -- What is promised of a heap that was paced since it was made.
 use Rattle.std.specs.Prelude.{◌≡◌, ℕ, ◌*◌, Bool, true, ◌==◌, List, Option, Some, None}
 use Rattle.std.specs.List.{list_any}
-use Rattle.settings.specs.declared.config.Config.{Config}
-use Rattle.settings.specs.Config.{limits_of}
+use Rattle.size_classes.specs.declared.config.Config.{Config}
+use Rattle.size_classes.specs.Config.{limits_of}
 use Rattle.heap_model.specs.State.{HeapState}
 use Rattle.heap_model.specs.Event.{Course, Event, Command_done, Runs}
 use Rattle.heap_model.specs.Opening.{IsOpening}

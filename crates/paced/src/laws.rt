@@ -3,7 +3,7 @@ ghost use Rattle.std.specs.Prelude.{◌≡◌, ◌↔◌, ℕ, ◌*◌, ◌≤�
 ghost use Rattle.std.specs.List.{AllByRecursion};
 ghost use Rattle.graph_heap.specs.declared.command.Command.{Command};
 ghost use Rattle.graph_heap.specs.declared.command.Reply.{Reply};
-ghost use Rattle.settings.specs.declared.config.Config.{Config};
+ghost use Rattle.size_classes.specs.declared.config.Config.{Config};
 ghost use Rattle.heap_model.specs.Event.{Course, Event, Command_done, IsCourse, Runs, quanta_in};
 ghost use Rattle.heap_model.specs.State.{HeapState};
 ghost use Rattle.fragmentation.specs.Configured.{MovesAll, FlowFitsIn};

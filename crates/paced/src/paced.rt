@@ -10,7 +10,7 @@ use crate::pacer::{AbovePlan, Pacer};
 use crate::plan::Plan;
 use graph_heap::{Command, NoMemory, Reply};
 use machine::{BudgetOutOfRange, Busy, Heap, Spent};
-use settings::Config;
+use size_classes::Config;
 use std::alloc::Global;
 use std::marker::Model;
 

@@ -17,7 +17,7 @@ use crate::figures::Figures;
 use crate::plan::Plan;
 use graph_heap::{Command, Reply, Shape};
 use machine::{BudgetOutOfRange, Busy, Heap, Spent};
-use settings::{Config, LEAST_BUDGET, MOST_BUDGET};
+use size_classes::{Config, LEAST_BUDGET, MOST_BUDGET};
 use std::marker::Model;
 use thiserror::Error;
 

@@ -1,6 +1,6 @@
 //! Plans, and whether the flow of one fits in a configuration.
 ghost use Rattle.std.specs.Prelude.{◌≡◌, ℕ, ◌+◌, ◌-◌, ◌*◌, ◌/◌, ◌^◌, ◌<◌, ◌≤◌, ◌↔◌, Bool, IsTrue, IfSome, Option, None, option_map};
-ghost use Rattle.settings.specs.declared.config.TheConstants.{MOST_HEAP_PAGES};
+ghost use Rattle.size_classes.specs.declared.config.TheConstants.{MOST_HEAP_PAGES};
 ghost use Rattle.fragmentation.specs.Configured.{roots_in, MovesAll, FlowFitsIn};
 ghost use Rattle.fragmentation.specs.Flow.{classes_made, FlowFitsOn};
 ghost use Rattle.paced.specs.Rooms.{flow_for, among, made_of};
@@ -10,8 +10,7 @@ ghost use Rattle.paced.specs.Bounds.{LastsWith};
 
 use crate::quanta::{quanta_on, sweep_quanta};
 use fragmentation::{LEAST_PAGE_FILL, PARTLY_FILLED_PAGES};
-use settings::{Config, MOST_HEAP_PAGES};
-use size_classes::{CLASSES, Class};
+use size_classes::{CLASSES, Class, Config, MOST_HEAP_PAGES};
 
 /// How many words of blocks a heap lets be asked for while its collector works.
 #[derive(Clone, Copy, Debug, PartialEq, Eq)]

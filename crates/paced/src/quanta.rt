@@ -1,6 +1,6 @@
 //! How many quanta a cycle takes at most where a plan is kept.
 ghost use Rattle.std.specs.Prelude.{◌≡◌, ℕ, ◌+◌, ◌*◌, ◌/◌, ◌^◌, ◌<◌, ◌≤◌, Bool};
-ghost use Rattle.settings.specs.declared.config.TheConstants.{MOST_HEAP_PAGES};
+ghost use Rattle.size_classes.specs.declared.config.TheConstants.{MOST_HEAP_PAGES};
 ghost use Rattle.size_classes.specs.declared.class.TheConstants.{PAGE_WORDS};
 ghost use Rattle.fragmentation.specs.declared.flow.TheConstants.{LEAST_PAGE_FILL};
 ghost use Rattle.fragmentation.specs.Flow.{sweep_units, sweep_quanta, flow_moving};
@@ -11,8 +11,7 @@ ghost use Rattle.paced.specs.Planning.{quanta_on};
 
 use crate::plan::Plan;
 use fragmentation::LEAST_PAGE_FILL;
-use settings::{Config, LEAST_BUDGET};
-use size_classes::{CLASSES, MOST_BLOCKS, PAGE_WORDS};
+use size_classes::{CLASSES, Config, LEAST_BUDGET, MOST_BLOCKS, PAGE_WORDS};
 
 /// The words of pages.
 fn arena_words(pages: u32) -> u128

@@ -1,7 +1,7 @@
 -- What the table itself keeps: a record for each page, bits and numbers.
 use Rattle.std.specs.Prelude.{◌≡◌, ℕ, ◌-◌, ◌<◌, ◌≤◌, Bool, true, false, ◌&&◌, not, ◌==◌, nat_lt, if◌then◌else◌, List, map, length, slice_index, slice_index_or, Option, Some, None, IsSomeAnd, count_by, sum_by}
 use Rattle.size_classes.specs.declared.class.TheConstants.{CLASSES}
-use Rattle.settings.specs.declared.config.TheConstants.{MOST_HEAP_PAGES}
+use Rattle.size_classes.specs.declared.config.TheConstants.{MOST_HEAP_PAGES}
 use Rattle.size_classes.specs.Sizes.{blocks_in}
 use Rattle.pages.specs.declared.bits.BitRow.{BitRow}
 use Rattle.pages.specs.declared.page.PageRow.{PageRow}

@@ -3,11 +3,11 @@ use Rattle.std.proofs.Common.{◌≡◌, ◌⊎◌, inl, inr, ℕ, Bool, true, f
 use Rattle.std.specs.Prelude.{Option, Some, if◌then◌else◌}
 use Rattle.std.specs.List.{flat_map, zip}
 use Rattle.std.proofs.lemmas.List.Elements.{filter-append}
-use Rattle.streams.specs.Streams.{GrowsByPart}
+use Rattle.trace.specs.Streams.{GrowsByPart}
 use Rattle.trace.proofs.Exact.{same_Some}
 use Rattle.quanta.specs.declared.interval.Interval.{Interval}
-use Rattle.player.specs.declared.start.PhaseName.{PhaseName}
-use Rattle.player.specs.declared.start.QuantumStart.{QuantumStart}
+use Rattle.trace.specs.declared.player.start.PhaseName.{PhaseName}
+use Rattle.trace.specs.declared.player.start.QuantumStart.{QuantumStart}
 use Rattle.pictures.specs.declared.cycle_spans.CycleSpans.{CycleSpans}
 use Rattle.pictures.specs.declared.events.TraceEvent.{TraceEvent}
 use Rattle.pictures.specs.CycleSpans.{Turn, cycles_on, end_of, stretch, is_name, found_in, spans_of, span_events, cycle_events}

@@ -2,11 +2,11 @@
 use Rattle.std.proofs.Common.{◌≡◌, ℕ, ◌+◌, ◌<◌, ◌≤◌, List, [], ◌∷◌, ◌++◌, length, drop, get_or, ap, ◌∙◌, sym, subst, refl}
 use Rattle.std.specs.List.{flat_map, zip}
 use Rattle.std.proofs.lemmas.List.{drop_more}
-use Rattle.streams.specs.Streams.{GrowsByPart}
+use Rattle.trace.specs.Streams.{GrowsByPart}
 use Rattle.quanta.specs.declared.interval.Interval.{Interval}
 use Rattle.quanta.specs.Intervals.{IsRisingFrom}
-use Rattle.player.specs.declared.start.QuantumStart.{QuantumStart}
-use Rattle.player.specs.Player.{PlayerState}
+use Rattle.trace.specs.declared.player.start.QuantumStart.{QuantumStart}
+use Rattle.trace.specs.Player.{PlayerState}
 use Rattle.pictures.specs.declared.events.TraceEvent.{TraceEvent}
 use Rattle.pictures.specs.CycleSpans.{cycles_on, cycle_events}
 use Rattle.pictures.specs.Events.{event_line, json_text, quantum_events, quanta_events, cycles_events, events_head, events_tail, events_of}

@@ -4,7 +4,7 @@ use Rattle.std.specs.Prelude.{slice_index}
 use Rattle.std.specs.List.{AllZip}
 use Rattle.std.proofs.lemmas.List.{take_more, take_more_set}
 use Rattle.std.proofs.Math.ListN.{set}
-use Rattle.settings.specs.declared.config.Config.{Config}
+use Rattle.size_classes.specs.declared.config.Config.{Config}
 use Rattle.quanta.specs.Timetable.{Timetable}
 use Rattle.pictures.specs.declared.share.Share.{Share}
 use Rattle.pictures.specs.declared.share.TheConstants.{WINDOWS}

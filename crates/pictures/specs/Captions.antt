@@ -2,7 +2,7 @@
 use Rattle.std.specs.Prelude.{ℕ, ◌/◌, ◌%◌, List, [], ◌++◌, ◌==◌, codes, decimal, if◌then◌else◌}
 use Rattle.size_classes.specs.Sizes.{size_of, blocks_in}
 use Rattle.pages.specs.declared.view.PageView.{PageView}
-use Rattle.player.specs.declared.start.PhaseName.TheVariants as names
+use Rattle.trace.specs.declared.player.start.PhaseName.TheVariants as names
 use Rattle.pictures.specs.declared.caption.Words.{Words}
 use Rattle.pictures.specs.declared.caption.Words.TheVariants as words
 use Rattle.pictures.specs.declared.caption.Caption.{Caption}

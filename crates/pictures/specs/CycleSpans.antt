@@ -2,9 +2,9 @@
 use Rattle.std.specs.Prelude.{ℕ, ◌-◌, Bool, true, false, if◌then◌else◌, List, [], ◌∷◌, ◌++◌, Option, Some, None, option_map}
 use Rattle.std.specs.List.{filter}
 use Rattle.quanta.specs.declared.interval.Interval.{Interval}
-use Rattle.player.specs.declared.start.PhaseName.{PhaseName}
-use Rattle.player.specs.declared.start.PhaseName.TheVariants as names
-use Rattle.player.specs.declared.start.QuantumStart.{QuantumStart}
+use Rattle.trace.specs.declared.player.start.PhaseName.{PhaseName}
+use Rattle.trace.specs.declared.player.start.PhaseName.TheVariants as names
+use Rattle.trace.specs.declared.player.start.QuantumStart.{QuantumStart}
 use Rattle.pictures.specs.declared.cycle_spans.CycleSpans.{CycleSpans}
 use Rattle.pictures.specs.declared.events.Span.{Span}
 use Rattle.pictures.specs.declared.events.Span.TheVariants as spans

@@ -4,7 +4,7 @@ use Rattle.std.specs.Prelude.{ℕ, ◌-◌, ◌*◌, ◌/◌, List, [], ◌∷�
 use Rattle.std.specs.List.{flat_map, zip}
 use Rattle.quanta.specs.declared.interval.Interval.{Interval}
 use Rattle.quanta.specs.Timetable.{Timetable, last_end}
-use Rattle.player.specs.Player.{PlayerState}
+use Rattle.trace.specs.Player.{PlayerState}
 use Rattle.pictures.specs.declared.events.Row.{Row}
 use Rattle.pictures.specs.declared.events.Row.TheVariants.{Collector, Mutators, Cycles, Phases}
 use Rattle.pictures.specs.declared.events.Span.{Span}

@@ -2,7 +2,7 @@
 use Rattle.std.specs.Prelude.{◌≡◌, ℕ, List, ◌++◌, Result, Ok, Err}
 use Rattle.trace.specs.declared.fault.PlayFault.{PlayFault}
 use Rattle.trace.specs.declared.fault.PlayFault.TheVariants.{Write, NoMemory}
-use Rattle.streams.specs.Streams.{Taken, GrowsByPart}
+use Rattle.trace.specs.Streams.{Taken, GrowsByPart}
 use Rattle.graph_heap.specs.Graph.{Graph}
 use Rattle.pictures.specs.declared.reachability.found.Found.{Found}
 use Rattle.pictures.specs.Distance.{FindsAll}

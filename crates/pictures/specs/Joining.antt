@@ -2,8 +2,8 @@
 use Rattle.std.specs.Prelude.{◌||◌, min, max}
 use Rattle.std.specs.Option.{option_or}
 use Rattle.heap_model.specs.declared.phase.Phase.{Phase}
-use Rattle.player.specs.declared.start.PhaseName.TheVariants as names
-use Rattle.player.specs.Starts.{name_of}
+use Rattle.trace.specs.declared.player.start.PhaseName.TheVariants as names
+use Rattle.trace.specs.Starts.{name_of}
 use Rattle.pictures.specs.declared.sample.Phases.{Phases}
 use Rattle.pictures.specs.declared.sample.Sample.{Sample}
 use Rattle.pictures.specs.CycleSpans.{is_name}

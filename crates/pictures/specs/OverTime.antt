@@ -4,7 +4,7 @@ use Rattle.std.specs.List.{list_any}
 use Rattle.heap_model.specs.Pages.{free_pages}
 use Rattle.heap_model.specs.State.{HeapState}
 use Rattle.nodes.specs.Copies.{copies_in}
-use Rattle.player.specs.declared.start.PhaseName.TheVariants as names
+use Rattle.trace.specs.declared.player.start.PhaseName.TheVariants as names
 use Rattle.pictures.specs.declared.axis.Axis.TheVariants.{Lines, Pages, Objects as Objects_axis}
 use Rattle.pictures.specs.declared.colour.Colour.{Colour}
 use Rattle.pictures.specs.declared.colour.Colour.TheVariants.{Sky, Blue, Green, Yellow, Orange, Purple}

@@ -21,7 +21,7 @@ use Rattle.pictures.specs.declared.layers.Layer.TheVariants.{Free as Free_layer,
 use Rattle.pictures.specs.declared.layers.TheConstants.{LAYERS}
 use Rattle.pictures.specs.declared.squares.Squares.{Squares}
 use Rattle.pictures.specs.declared.squares.Squares.TheVariants.{Small}
-use Rattle.player.specs.Starts.{name_of}
+use Rattle.trace.specs.Starts.{name_of}
 use Rattle.pictures.specs.Elements.{svg_text}
 use Rattle.pictures.specs.Frame.{chart_of, swatch, meaning, told_if}
 use Rattle.pictures.specs.Lines.{each_from, present}

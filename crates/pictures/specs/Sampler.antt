@@ -3,7 +3,7 @@ use Rattle.std.specs.Prelude.{◌≡◌, ℕ, ◌+◌, ◌*◌, ◌/◌, ◌^◌
 use Rattle.pictures.specs.declared.sample.Sample.{Sample}
 use Rattle.pictures.specs.declared.over_time.TheConstants.{MOST_SAMPLES}
 use Rattle.pictures.specs.declared.timeline.sampler.Sampler.{Sampler}
-use Rattle.player.specs.Observing.{Moment, moment, Run}
+use Rattle.trace.specs.Observing.{Moment, moment, Run}
 use Rattle.pictures.specs.Joining.{joined}
 use Rattle.pictures.specs.Samples.{IsSampleOf, AreSamples}
 

@@ -5,9 +5,9 @@ use Rattle.heap_model.specs.Phases.{is_idle}
 use Rattle.heap_model.specs.Event.{Event}
 use Rattle.trace.specs.declared.version.Version.{Version}
 use Rattle.trace.specs.LinesProcessed.{LinesDone}
-use Rattle.player.specs.declared.style.Style.TheVariants.{Nothing}
-use Rattle.player.specs.Playing.{Session, PlaysLine}
-use Rattle.player.specs.Observing.{Moment, moment, moments_in, brought}
+use Rattle.trace.specs.declared.player.style.Style.TheVariants.{Nothing}
+use Rattle.trace.specs.Playing.{Session, PlaysLine}
+use Rattle.trace.specs.Observing.{Moment, moment, moments_in, brought}
 use Rattle.pictures.specs.declared.sample.Sample.{Sample}
 use Rattle.pictures.specs.declared.over_time.TheConstants.{MOST_SAMPLES}
 use Rattle.pictures.specs.Joining.{joined}

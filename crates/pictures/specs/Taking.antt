@@ -1,9 +1,9 @@
 -- What it is to take samples of a run.
 use Rattle.std.specs.Prelude.{◌≡◌, length, Result}
-use Rattle.settings.specs.declared.config.Config.{Config}
+use Rattle.size_classes.specs.declared.config.Config.{Config}
 use Rattle.trace.specs.declared.fault.PlayFault.{PlayFault}
-use Rattle.streams.specs.Streams.{Given}
-use Rattle.player.specs.Surveying.{NewRun, Surveyed}
+use Rattle.trace.specs.Streams.{Given}
+use Rattle.trace.specs.Surveying.{NewRun, Surveyed}
 use Rattle.pictures.specs.declared.timeline.samples.Samples.{Samples}
 use Rattle.pictures.specs.Samples.{moments_along, AreSamples, IsStride}
 

@@ -1,7 +1,7 @@
 -- The picture of the mutators' least shares of windows of some lengths.
 use Rattle.std.specs.Prelude.{◌≡◌, ℕ, zero, suc, ◌+◌, ◌-◌, ◌*◌, ◌/◌, ◌%◌, ◌<◌, min, max, ◌==◌, nat_le, if◌then◌else◌, List, [], ◌∷◌, ◌++◌, length, take, slice_index}
 use Rattle.std.specs.List.{AllZip}
-use Rattle.settings.specs.declared.config.Config.{Config}
+use Rattle.size_classes.specs.declared.config.Config.{Config}
 use Rattle.quanta.specs.Timetable.{Timetable, last_end}
 use Rattle.mmu_report.specs.Utilisation.{IsLeast, bound_of}
 use Rattle.pictures.specs.declared.colour.Colour.TheVariants.{Light, Blue, Orange}

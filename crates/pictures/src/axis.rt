@@ -1,6 +1,6 @@
 //! Axes of pictures, with round numbers.
 ghost use Rattle.std.specs.Prelude.{◌≡◌, ◌<◌, ◌≤◌, ◌+◌, ◌*◌, ◌/◌, ◌++◌, OnOk, OnErr};
-ghost use Rattle.streams.specs.Streams.{GrowsByPart, failed};
+ghost use Rattle.trace.specs.Streams.{GrowsByPart, failed};
 ghost use Rattle.pictures.specs.Elements.{svg_text};
 ghost use Rattle.pictures.specs.Axes.{step_of, line_x, height_of, level_number, axis_number, axis_numbers};
 
@@ -9,7 +9,7 @@ use crate::colour::Colour;
 use crate::element::{Anchor, Element};
 use crate::share::WINDOWS;
 use crate::writing::write_lines;
-use streams::{Sink, WriteFailed};
+use trace::{Sink, WriteFailed};
 
 /// An axis of a picture: of the lines, the pages and the objects of a run, or of the words of plans.
 #[derive(Clone, Copy, Debug, PartialEq, Eq)]

@@ -3,8 +3,7 @@ ghost use Rattle.std.specs.Prelude.{◌≡◌, ◌≤◌, ◌+◌, ◌++◌, len
 ghost use Rattle.pictures.specs.Captions.{words_text, marks_text, page_text, free_text, caption_text};
 
 use pages::PageView;
-use player::PhaseName;
-use trace::{put, put_named};
+use trace::{PhaseName, put, put_named};
 
 /// Fixed words.
 #[derive(Clone, Copy, Debug, PartialEq, Eq)]

@@ -1,15 +1,14 @@
 //! How long cycles of the collector and their phases take, as events of a row.
 ghost use Rattle.std.specs.Prelude.{◌≡◌, ◌∷◌, [], ◌+◌, ◌++◌, List, OnOk, OnErr, Some};
 ghost use Rattle.std.specs.List.{flat_map, zip};
-ghost use Rattle.streams.specs.Streams.{GrowsByPart, failed};
+ghost use Rattle.trace.specs.Streams.{GrowsByPart, failed};
 ghost use Rattle.pictures.specs.CycleSpans.{Turn, is_name, found_in, stretch, spans_of, span_event, span_events, cycle_events, cycles_on};
 ghost use Rattle.pictures.specs.Events.{json_text};
 
 use crate::events::{Span, TraceEvent};
 use crate::writing::write_present;
-use player::{PhaseName, QuantumStart};
 use quanta::Interval;
-use streams::{Sink, WriteFailed};
+use trace::{PhaseName, QuantumStart, Sink, WriteFailed};
 
 /// From the beginning of the first quantum of a cycle to the end of the last so far: of all of them, and of those that
 /// found the collector in each of its phases.

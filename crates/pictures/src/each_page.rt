@@ -1,12 +1,12 @@
 //! What is drawn of each page of a heap.
 ghost use Rattle.std.specs.Prelude.{◌≡◌, ◌+◌, ◌++◌, ◌<◌, ℕ, List, Option, OnOk, OnErr};
 ghost use Rattle.heap_model.specs.Pages.{Page};
-ghost use Rattle.streams.specs.Streams.{GrowsByPart, failed};
+ghost use Rattle.trace.specs.Streams.{GrowsByPart, failed};
 ghost use Rattle.pictures.specs.Elements.{svg_text};
 ghost use Rattle.pictures.specs.Lines.{each_from};
 
 use machine::Heap;
-use streams::{Sink, WriteFailed};
+use trace::{Sink, WriteFailed};
 
 /// What is drawn of a page.
 pub(crate) trait PageDrawing: Copy {

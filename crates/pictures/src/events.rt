@@ -1,16 +1,14 @@
 //! The quanta of a run, and its cycles with their phases, as events that viewers of traces read.
 ghost use Rattle.std.specs.Prelude.{◌≡◌, ◌≤◌, ◌<◌, ◌+◌, ◌-◌, ◌*◌, ◌/◌, ◌++◌, length, take, OnOk, OnErr};
-ghost use Rattle.streams.specs.Streams.{GrowsByPart, failed};
+ghost use Rattle.trace.specs.Streams.{GrowsByPart, failed};
 ghost use Rattle.quanta.specs.Intervals.{IsRising};
 ghost use Rattle.quanta.specs.Timetable.{last_end};
 ghost use Rattle.pictures.specs.Events.{row_number, row_text, row_line, length_text, ticks_text, ticks_line, span_line, share_line, event_line, quantum_events, quanta_events, events_head, events_tail, json_text, events_picture};
 
 use crate::cycle_spans::write_cycles;
 use crate::writing::{DocumentLine, write_lines};
-use player::Player;
 use quanta::{Interval, Schedule};
-use streams::{Sink, WriteFailed};
-use trace::{put, put_named};
+use trace::{Player, Sink, WriteFailed, put, put_named};
 
 /// A row of events, with a name.
 #[derive(Clone, Copy, Debug, PartialEq, Eq)]

@@ -1,6 +1,6 @@
 //! What all pictures have: a title on white paper, a legend, and an end.
 ghost use Rattle.std.specs.Prelude.{◌≡◌, ◌<◌, ◌+◌, ◌++◌, List, ⊤, OnOk, OnErr};
-ghost use Rattle.streams.specs.Streams.{GrowsByPart, failed};
+ghost use Rattle.trace.specs.Streams.{GrowsByPart, failed};
 ghost use Rattle.pictures.specs.Elements.{svg_text};
 ghost use Rattle.pictures.specs.Frame as frames;
 
@@ -8,7 +8,7 @@ use crate::caption::{Caption, Words};
 use crate::colour::Colour;
 use crate::element::{Anchor, Element};
 use crate::writing::{write_line, write_lines};
-use streams::{Sink, WriteFailed};
+use trace::{Sink, WriteFailed};
 
 /// The beginning of a picture of this width and height, with a title.
 fn frame(width: u32, height: u32, title: Words) -> [Element; 4]

@@ -1,6 +1,6 @@
 //! How a map of small squares is drawn: in layers, one path for each colour.
 ghost use Rattle.std.specs.Prelude.{◌≡◌, ◌<◌, ◌≤◌, ◌+◌, ◌++◌, OnOk, OnErr, IfSome, option_to_list};
-ghost use Rattle.streams.specs.Streams.{GrowsByPart, failed};
+ghost use Rattle.trace.specs.Streams.{GrowsByPart, failed};
 ghost use Rattle.pictures.specs.Elements.{svg_text};
 ghost use Rattle.pictures.specs.PageMap as maps;
 ghost use Rattle.pictures.specs.PageMap.{has, has_free, middle_of, layer_path, stroke_of, stroke_at, layer_shown, row_number, layers_shown, squares_shown};
@@ -15,7 +15,7 @@ use crate::squares::Squares;
 use crate::writing::write_line;
 use machine::Heap;
 use pages::PageView;
-use streams::{Sink, WriteFailed};
+use trace::{Sink, WriteFailed};
 
 /// What is drawn in one colour.
 #[derive(Clone, Copy, Debug, PartialEq, Eq)]

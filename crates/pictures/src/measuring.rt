@@ -6,7 +6,7 @@ ghost use Rattle.pictures.specs.Utilisation.{span_of, IsShare};
 use crate::share::{Share, WINDOWS};
 use mmu_report::{bound, least_mutator, permille};
 use quanta::Schedule;
-use settings::Config;
+use size_classes::Config;
 
 /// The shares of a window, or None where it is longer than the time that has passed, or has no tick.
 fn share_of(config: &Config, schedule: &Schedule, window: u64) -> Option<Share>

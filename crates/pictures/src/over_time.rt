@@ -1,6 +1,6 @@
 //! The picture of a heap over a run.
 ghost use Rattle.std.specs.Prelude.{◌≡◌, ◌<◌, ◌≤◌, ◌+◌, ◌++◌, slice_get, is_some, OnOk, OnErr};
-ghost use Rattle.streams.specs.Streams.{GrowsByPart, failed};
+ghost use Rattle.trace.specs.Streams.{GrowsByPart, failed};
 ghost use Rattle.pictures.specs.Elements.{svg_text};
 ghost use Rattle.pictures.specs.Lines.{present};
 ghost use Rattle.std.specs.List.{list_any};
@@ -14,8 +14,7 @@ use crate::element::{Anchor, Element};
 use crate::frame::{Shown, meaning, swatch, told_if, write_chart};
 use crate::sample::{Phases, Sample};
 use crate::writing::write_present;
-use player::PhaseName;
-use streams::{Sink, WriteFailed};
+use trace::{PhaseName, Sink, WriteFailed};
 
 /// How many samples a picture has at most.
 pub const MOST_SAMPLES: usize = 1000;

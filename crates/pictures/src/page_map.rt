@@ -1,6 +1,6 @@
 //! The map of the pages of a heap.
 ghost use Rattle.std.specs.Prelude.{◌≡◌, ◌<◌, ◌≤◌, ◌+◌, ◌^◌, ◌++◌, None, OnOk, OnErr, IfSome};
-ghost use Rattle.streams.specs.Streams.{GrowsByPart, failed};
+ghost use Rattle.trace.specs.Streams.{GrowsByPart, failed};
 ghost use Rattle.pictures.specs.Elements.{svg_text};
 ghost use Rattle.pictures.specs.PageMap as maps;
 ghost use Rattle.pictures.specs.PageMap.{row_number, free_from, free_bar, density_of, mark_of, used_square, page_square, drawn_of, map_legend, map_squares, map_shown, map_told, pages_picture};
@@ -15,8 +15,7 @@ use crate::squares::{Squares, height};
 use crate::writing::{write_lines, write_present};
 use machine::Heap;
 use pages::PageView;
-use player::PhaseName;
-use streams::{Sink, WriteFailed};
+use trace::{PhaseName, Sink, WriteFailed};
 
 /// Writes the number of a page that is the first of a row.
 pub(crate) fn write_number<K: Sink>(

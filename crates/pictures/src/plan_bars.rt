@@ -1,6 +1,6 @@
 //! The picture of plans on some numbers of pages.
 ghost use Rattle.std.specs.Prelude.{◌≡◌, ◌≤◌, ◌+◌, ◌++◌, OnOk, OnErr};
-ghost use Rattle.streams.specs.Streams.{GrowsByPart, failed};
+ghost use Rattle.trace.specs.Streams.{GrowsByPart, failed};
 ghost use Rattle.pictures.specs.Elements.{svg_text};
 ghost use Rattle.pictures.specs.PlanBars as plan_bars;
 ghost use Rattle.pictures.specs.PlanBars.{words_in, pages_x, cost_caption, bars_drawn, plans_shown, plans_told, bars_picture};
@@ -11,7 +11,7 @@ use crate::colour::Colour;
 use crate::element::{Anchor, Element};
 use crate::frame::{Shown, meaning, swatch, write_chart};
 use crate::writing::write_lines;
-use streams::{Sink, WriteFailed};
+use trace::{Sink, WriteFailed};
 
 /// The figures of a plan.
 #[derive(Clone, Copy, Debug, PartialEq, Eq)]

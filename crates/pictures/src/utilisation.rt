@@ -1,6 +1,6 @@
 //! The picture of the mutators' least shares of windows of some lengths.
 ghost use Rattle.std.specs.Prelude.{◌≡◌, ◌<◌, ◌≤◌, ◌+◌, ◌++◌, ℕ, List, length, OnOk, OnErr};
-ghost use Rattle.streams.specs.Streams.{GrowsByPart, failed};
+ghost use Rattle.trace.specs.Streams.{GrowsByPart, failed};
 ghost use Rattle.pictures.specs.Elements.{svg_text};
 ghost use Rattle.pictures.specs.Lines.{each_from};
 ghost use Rattle.pictures.specs.Utilisation as utilisation;
@@ -14,8 +14,8 @@ use crate::measuring::put_shares;
 use crate::share::{Share, WINDOWS};
 use crate::writing::write_lines;
 use quanta::Schedule;
-use settings::Config;
-use streams::{Sink, WriteFailed};
+use size_classes::Config;
+use trace::{Sink, WriteFailed};
 
 /// How far a window's place is along a logarithmic axis.
 fn log(place: u32) -> u32

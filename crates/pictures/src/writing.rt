@@ -1,10 +1,9 @@
 //! Documents, written line by line.
 ghost use Rattle.std.specs.Prelude.{◌≡◌, ◌≤◌, ◌<◌, ◌+◌, ◌++◌, ◌∷◌, ℕ, List, [], length, take, OnOk, OnErr};
-ghost use Rattle.streams.specs.Streams.{GrowsByPart, failed};
+ghost use Rattle.trace.specs.Streams.{GrowsByPart, failed};
 ghost use Rattle.pictures.specs.Lines.{lines_text, present};
 
-use streams::{Sink, WriteFailed};
-use trace::end_line;
+use trace::{Sink, WriteFailed, end_line};
 
 /// What is a line of a document.
 pub(crate) trait DocumentLine: Copy {

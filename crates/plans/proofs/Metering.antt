@@ -12,8 +12,8 @@ use Rattle.graph_heap.specs.Graph.{Graph, object_of, opening, changed}
 use Rattle.graph_heap.specs.History.{IsEntryOf, after_entry}
 use Rattle.graph_heap.specs.Reach.{Reaches}
 use Rattle.graph_heap.specs.Reaching.{AreReached}
-use Rattle.settings.specs.declared.config.Config.{Config}
-use Rattle.settings.specs.Config.{limits_of}
+use Rattle.size_classes.specs.declared.config.Config.{Config}
+use Rattle.size_classes.specs.Config.{limits_of}
 use Rattle.heap_model.specs.Alike.{IsFounded}
 use Rattle.heap_model.specs.State.{HeapState}
 use Rattle.heap_model.specs.Opening.{IsOpening}
@@ -24,10 +24,10 @@ use Rattle.heap_model.proofs.Agreements.Implied.{consistent_agrees}
 use Rattle.heap_model.proofs.Event.Kept.{founded, present_row, enters_step, enters_present, enters_graph, begins_present, collects_present, does_course, runs_course, opening_course}
 use Rattle.machine.proofs.Courses.{runs_then}
 use Rattle.paced.specs.Pacing.{saturated, shape_words}
-use Rattle.player.specs.New.{IsNew}
-use Rattle.player.specs.Observing.{Run, run_from, after_steps}
-use Rattle.player.specs.Player.{PlayerState}
-use Rattle.player.specs.Steps.{Step, events_of, IsBegin, IsQuantum}
+use Rattle.trace.specs.New.{IsNew}
+use Rattle.trace.specs.Observing.{Run, run_from, after_steps}
+use Rattle.trace.specs.Player.{PlayerState}
+use Rattle.trace.specs.Steps.{Step, events_of, IsBegin, IsQuantum}
 use Rattle.sizing.specs.Meter.{AllFit}
 use Rattle.sizing.proofs.Meters.Making.{fit_after, fit_opening}
 use Rattle.plans.specs.declared.live.LiveMeter.{LiveMeter}

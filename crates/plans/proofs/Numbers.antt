@@ -2,7 +2,7 @@
 use Rattle.std.proofs.Common.{◌≡◌, ℕ, ◌<◌, ◌≤◌, ◌⊎◌, inl, inr, List, [], ◌∷◌, ◌++◌, Option, Some, None, min, subst, arith}
 use Rattle.std.specs.List.{Contains}
 use Rattle.std.proofs.lemmas.List.Elements.{All-push, All-weaker, Contains-append_left, Contains-push}
-use Rattle.settings.specs.declared.config.TheConstants.{MOST_HEAP_PAGES}
+use Rattle.size_classes.specs.declared.config.TheConstants.{MOST_HEAP_PAGES}
 use Rattle.plans.specs.Order.{IsNext}
 
 -- one more number that isn't above the bound, or that no heap may have

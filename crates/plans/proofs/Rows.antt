@@ -3,8 +3,8 @@ use Rattle.std.proofs.Common.{◌≡◌, ℕ, Bool, List, [], ◌∷◌, ◌++�
 use Rattle.std.specs.Prelude.{IfSome, ◌≤◌}
 use Rattle.std.specs.List.{AllZip, concat}
 use Rattle.std.proofs.lemmas.List.Folds.{concat-append}
-use Rattle.settings.specs.declared.config.Config.{Config}
-use Rattle.settings.specs.declared.config.TheConstants.{MOST_HEAP_PAGES}
+use Rattle.size_classes.specs.declared.config.Config.{Config}
+use Rattle.size_classes.specs.declared.config.TheConstants.{MOST_HEAP_PAGES}
 use Rattle.paced.specs.declared.plan.Plan.{Plan}
 use Rattle.paced.specs.Planning.{IsFastestFor, IsLeastPagesFor}
 use Rattle.plans.specs.Order.{IsNext, AreInOrder, OneForEach}

@@ -1,6 +1,6 @@
 -- The plans as bars of a picture.
 use Rattle.std.specs.Prelude.{◌≡◌, ℕ, ◌*◌, List, Bool, Option, Some, None}
-use Rattle.settings.specs.declared.config.Config.{Config}
+use Rattle.size_classes.specs.declared.config.Config.{Config}
 use Rattle.paced.specs.declared.plan.Plan.{Plan}
 use Rattle.paced.specs.Planning.{IsLeastPagesFor}
 use Rattle.paced.specs.Rooms.{made_of}

@@ -2,16 +2,16 @@
 use Rattle.std.specs.Prelude.{◌≡◌, ℕ, ◌-◌, ◌^◌, ◌<◌, ◌≤◌, ◌↔◌, nat_lt, List, ◌++◌, None, Result, slice_index}
 use Rattle.std.specs.List.{All}
 use Rattle.graph_heap.specs.Graph.{Graph}
-use Rattle.settings.specs.declared.config.Config.{Config}
+use Rattle.size_classes.specs.declared.config.Config.{Config}
 use Rattle.heap_model.specs.Event.{present_of}
 use Rattle.size_classes.specs.declared.class.TheConstants.{CLASSES}
 use Rattle.space.specs.Demand.{LiveWithin, blocks_of}
 use Rattle.fragmentation.specs.Flow.{words_of}
 use Rattle.trace.specs.declared.fault.PlayFault.{PlayFault}
-use Rattle.streams.specs.Streams.{Given}
-use Rattle.player.specs.Observing.{run_by}
-use Rattle.player.specs.Steps.{Step}
-use Rattle.player.specs.Surveying.{NewRun, Surveyed}
+use Rattle.trace.specs.Streams.{Given}
+use Rattle.trace.specs.Observing.{run_by}
+use Rattle.trace.specs.Steps.{Step}
+use Rattle.trace.specs.Surveying.{NewRun, Surveyed}
 use Rattle.sizing.specs.Counts.{AreBlocks}
 use Rattle.paced.specs.Rooms.{among}
 use Rattle.plans.specs.declared.live.MostLive.{MostLive}

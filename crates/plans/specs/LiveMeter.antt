@@ -9,8 +9,8 @@ use Rattle.heap_model.specs.Event.{Runs, present_of}
 use Rattle.heap_model.specs.Opening.{IsOpening}
 use Rattle.heap_model.specs.ReachedFrom.{opened}
 use Rattle.paced.specs.Pacing.{saturated, shape_words}
-use Rattle.player.specs.Observing.{Run}
-use Rattle.player.specs.Steps.{events_of}
+use Rattle.trace.specs.Observing.{Run}
+use Rattle.trace.specs.Steps.{events_of}
 use Rattle.plans.specs.declared.live.LiveMeter.{LiveMeter}
 use Rattle.sizing.specs.Meter.{AllFit}
 use Rattle.plans.specs.Live.{IsMostLive}

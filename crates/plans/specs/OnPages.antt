@@ -1,7 +1,7 @@
 -- A configuration on another number of pages.
 use Rattle.std.specs.Prelude.{◌≡◌, ℕ, ◌+◌}
-use Rattle.settings.specs.declared.config.Config.{Config}
-use Rattle.settings.specs.Config.{limits_of}
+use Rattle.size_classes.specs.declared.config.Config.{Config}
+use Rattle.size_classes.specs.Config.{limits_of}
 
 -- a configuration that differs from another in this alone: it has this many pages, and moving follows each sweep and
 -- may empty all of them

@@ -1,7 +1,7 @@
 -- Numbers of pages in rising order, each once.
 use Rattle.std.specs.Prelude.{ℕ, ◌<◌, ◌≤◌, ◌⊎◌, List, [], ◌∷◌, Option, Some, None}
 use Rattle.std.specs.List.{All, AllZip, Contains}
-use Rattle.settings.specs.declared.config.TheConstants.{MOST_HEAP_PAGES}
+use Rattle.size_classes.specs.declared.config.TheConstants.{MOST_HEAP_PAGES}
 
 -- the least of some numbers above a bound, of those that a heap may have as its pages; or there is none
 abbrev pub IsNext : List ℕ → ℕ → Option ℕ → Type 0

@@ -1,6 +1,6 @@
 //! The plans as bars of a picture.
 ghost use Rattle.std.specs.Prelude.{◌≡◌, ◌≤◌, IfOk, IfSome, option_map};
-ghost use Rattle.settings.specs.declared.config.TheConstants.{MOST_HEAP_PAGES};
+ghost use Rattle.size_classes.specs.declared.config.TheConstants.{MOST_HEAP_PAGES};
 ghost use Rattle.plans.specs.Bars.{figures_of, IsBar, AreBars, ArePlanBars};
 ghost use Rattle.paced.specs.Rooms.{made_of};
 
@@ -10,8 +10,7 @@ use crate::report::numbers_told;
 use crate::row::tenths;
 use paced::{Plan, least_pages, planned};
 use pictures::{PlanBar, PlanFigures};
-use settings::Config;
-use size_classes::Class;
+use size_classes::{Class, Config};
 use std::alloc::{AllocError, Global};
 
 /// The figures of a configuration's plan, if there is one.

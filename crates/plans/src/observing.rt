@@ -4,7 +4,7 @@ ghost use Rattle.plans.specs.LiveMeter.{HasMetered};
 use crate::live::LiveMeter;
 use graph_heap::{Entry, NoMemory};
 use machine::Recorded;
-use player::{Mark, Observer};
+use trace::{Mark, Observer};
 
 impl Observer for LiveMeter {
     ghost has_seen = { HasMetered };

@@ -1,9 +1,9 @@
 //! A configuration on another number of pages.
 ghost use Rattle.std.specs.Prelude.{◌≤◌};
-ghost use Rattle.settings.specs.declared.config.TheConstants.{MOST_HEAP_PAGES};
+ghost use Rattle.size_classes.specs.declared.config.TheConstants.{MOST_HEAP_PAGES};
 ghost use Rattle.plans.specs.OnPages.{IsOnPages};
 
-use settings::Config;
+use size_classes::Config;
 
 /// A configuration on this many pages, where moving follows each sweep and may empty all of them, as a plan wants it.
 /// All else is as it was.

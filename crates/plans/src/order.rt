@@ -2,7 +2,7 @@
 ghost use Rattle.std.specs.Prelude.{ℕ, List, [], ◌∷◌, ◌++◌};
 ghost use Rattle.plans.specs.Order.{IsNext};
 
-use settings::MOST_HEAP_PAGES;
+use size_classes::MOST_HEAP_PAGES;
 
 /// The least number above a bound, of those that a heap may have, once one more is looked at.
 fn nearest(next: Option<u32>, pages: u32, above: u32) -> Option<u32>

@@ -1,13 +1,12 @@
 //! What is told of the plans for a number of live words.
 ghost use Rattle.std.specs.Prelude.{◌≡◌, ◌≤◌, IfOk, IfSome, option_map, string_bytes, take};
-ghost use Rattle.settings.specs.declared.config.TheConstants.{MOST_HEAP_PAGES};
+ghost use Rattle.size_classes.specs.declared.config.TheConstants.{MOST_HEAP_PAGES};
 ghost use Rattle.paced.specs.Rooms.{made_of};
 ghost use Rattle.plans.specs.Report.{live_line, fewest_line, numbers_told, IsClassesLine, IsTable, IsPlansReport};
 
 use crate::table::table;
 use paced::{classes_in, least_pages};
-use settings::{Config, MOST_PAGES};
-use size_classes::Class;
+use size_classes::{Class, Config, MOST_PAGES};
 use std::alloc::{AllocError, Global};
 
 /// How many words are live, the units of a quantum, and for how many size classes the plans are, where some are said.

@@ -1,13 +1,12 @@
 //! The plan on a number of pages, as a line.
 ghost use Rattle.std.specs.Prelude.{◌≡◌, ◌≤◌, IfOk, IfSome, option_map, string_bytes};
-ghost use Rattle.settings.specs.declared.config.TheConstants.{MOST_HEAP_PAGES};
+ghost use Rattle.size_classes.specs.declared.config.TheConstants.{MOST_HEAP_PAGES};
 ghost use Rattle.paced.specs.Rooms.{made_of};
 ghost use Rattle.plans.specs.Report.{tenths_of, plan_line, IsRow};
 
 use crate::on_pages::on_pages;
 use paced::{Plan, cycle_quanta, planned};
-use settings::Config;
-use size_classes::Class;
+use size_classes::{Class, Config};
 use std::alloc::{AllocError, Global};
 
 /// Tenths of a unit for each word, where so many words are asked for at a quantum of so many units, rounded up.

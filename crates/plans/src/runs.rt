@@ -4,8 +4,7 @@ ghost use Rattle.plans.specs.Live.{AreClasses, IsRunPlans};
 
 use crate::live::MostLive;
 use crate::report::{classes_line, plans_report};
-use settings::Config;
-use size_classes::{CLASSES, Class};
+use size_classes::{CLASSES, Class, Config};
 use sizing::blocks::Blocks;
 use std::alloc::{AllocError, Global};
 

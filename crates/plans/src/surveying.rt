@@ -3,9 +3,9 @@ ghost use Rattle.plans.specs.Live.{TellsMostLive};
 
 use crate::live::{LiveMeter, MostLive};
 use graph_heap::NoMemory;
-use player::{Player, Survey};
-use settings::Config;
+use size_classes::Config;
 use std::alloc::Global;
+use trace::{Player, Survey};
 
 /// It finds the least number of words that live objects keep to over the run, whenever a cycle begins, and how many blocks
 /// of each size class were made: for so many words, and for these classes, there is to be a plan (`run_plans`). From

@@ -5,8 +5,7 @@ ghost use Rattle.plans.specs.Report.{IsTable};
 
 use crate::order::next_of;
 use crate::row::row;
-use settings::Config;
-use size_classes::Class;
+use size_classes::{Class, Config};
 use std::alloc::{AllocError, Global};
 
 /// A line for each of some numbers of pages that a heap may have, in rising order, each once.

@@ -2,8 +2,8 @@
 use Rattle.std.specs.Prelude.{◌≡◌, ℕ, ◌+◌, ◌≤◌, max, nat_lt, if◌then◌else◌, List, [], ◌∷◌, ◌++◌, Option, Some, None}
 use Rattle.std.specs.Option.{ForSome}
 use Rattle.std.specs.List.{last_or}
-use Rattle.settings.specs.declared.key.Key.TheVariants.{CollectorTicks, MutatorTicks}
-use Rattle.settings.specs.Keys.{IsWithin}
+use Rattle.size_classes.specs.declared.key.Key.TheVariants.{CollectorTicks, MutatorTicks}
+use Rattle.size_classes.specs.Keys.{IsWithin}
 use Rattle.quanta.specs.declared.schedule.TheConstants.{CLOCK_LIMIT}
 use Rattle.quanta.specs.declared.interval.Interval.{Interval}
 use Rattle.quanta.specs.Intervals.{IsSpaced}

@@ -1,13 +1,13 @@
 //! The schedule.
 ghost use Rattle.std.specs.Prelude.{◌≡◌, ◌↔◌, ◌+◌, ◌<◌, ◌≤◌, max, IfSome, IsErr, IsOk, IsSomeAnd, OnErr, OnOk};
-ghost use Rattle.settings.specs.declared.config.Config.{Config};
+ghost use Rattle.size_classes.specs.declared.config.Config.{Config};
 ghost use Rattle.quanta.specs.Intervals.{IsRising, IsSpaced};
 ghost use Rattle.quanta.specs.Timetable.{due_below, first_due, last_end, opening, with_reserved, IsPlacedAt, IsTimetable};
 
 use crate::clock_spent::ClockSpent;
 use crate::interval::{Interval, last_of};
 use graph_heap::NoMemory;
-use settings::Config;
+use size_classes::Config;
 use std::alloc::Global;
 use std::marker::Model;
 

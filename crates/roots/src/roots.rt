@@ -2,11 +2,11 @@
 ghost use Rattle.std.specs.Prelude.{◌≡◌, ◌<◌, ◌≤◌, ◌^◌, length, replicate, slice_index, slice_set, IfOk};
 ghost use Rattle.graph_heap.specs.Graph.{root_cells, live_first};
 ghost use Rattle.graph_heap.specs.Effect.{slot_at, static_at, admitted_to};
-ghost use Rattle.settings.specs.Config.{limits_of};
+ghost use Rattle.size_classes.specs.Config.{limits_of};
 ghost use Rattle.roots.specs.Used.{used_in};
 
 use graph_heap::{Limits, NoMemory, Refusal, admit, live_row, set_live};
-use settings::Config;
+use size_classes::Config;
 use std::alloc::Global;
 use std::marker::Model;
 

@@ -2,3 +2,4 @@ pub mod Closed
 pub mod Cutting
 mod Figures
 pub mod Table
+pub mod InRange

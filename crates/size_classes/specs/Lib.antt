@@ -1,3 +1,5 @@
 pub mod Sizes
 pub mod Parts
 pub mod Need
+pub mod Keys
+pub mod Config

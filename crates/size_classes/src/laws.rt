@@ -1,10 +1,13 @@
-//! The laws of how objects are cut, and the constants of sizes. Each function does nothing: its
-//! contract is the law.
-ghost use Rattle.std.specs.Prelude.{◌≡◌, ℕ, ◌+◌, ◌<◌, ◌≤◌, ◌⊎◌};
+//! The laws of how objects are cut, the constants of sizes and of a configuration, and the order of its keys. Each
+//! function does nothing: its contract is the law.
+ghost use Rattle.std.specs.Prelude.{◌≡◌, ℕ, ◌+◌, ◌<◌, ◌≤◌, ◌⊎◌, [], ◌∷◌};
 ghost use Rattle.graph_heap.specs.declared.command.TheConstants.{ARRAY_CELLS};
 ghost use Rattle.size_classes.specs.Parts.{parts_in, spines_of, run_of, part_in, column_in, spine_of, spine_cell_of};
 ghost use Rattle.size_classes.specs.declared.class.TheConstants.{CLASSES, MOST_BLOCKS, PAGE_WORDS};
 ghost use Rattle.size_classes.specs.declared.parts.TheConstants.{PART_CELLS};
+ghost use Rattle.size_classes.specs.declared.config.TheConstants.{LEAST_BUDGET, MOST_BUDGET, MOST_HEAP_PAGES, MOST_PAGES};
+ghost use Rattle.size_classes.specs.declared.key.Key.TheVariants.{Pages, Mutators, Slots, Statics, Identities, DefragBelow, DefragPages, CollectorTicks, MutatorTicks, Rate, Live};
+ghost use Rattle.size_classes.specs.declared.key.TheConstants.Key.{ALL};
 
 /// No part has more than 252 cells, and there are at most 15938 parts.
 pub fn parts_are_small()
@@ -40,4 +43,18 @@ pub fn sizes_are_fixed()
     ensures blocks { MOST_BLOCKS ≡ 512 }
     ensures classes { CLASSES ≡ 38 }
     ensures piece { PART_CELLS ≡ 252 }
+{}
+
+/// The most pages that a file may ask for, the most of any heap, and the least and the most units of a quantum.
+pub fn settings_are_bounded()
+    ensures pages { MOST_PAGES ≡ 4096 }
+    ensures heap { MOST_HEAP_PAGES ≡ 1048576 }
+    ensures least { LEAST_BUDGET ≡ 256 }
+    ensures most { MOST_BUDGET ≡ 1000000 }
+{}
+
+/// The order in which the keys of a configuration are checked.
+pub fn keys_are_in_order()
+    ensures { ALL ≡ Pages ∷ Mutators ∷ Slots ∷ Statics ∷ Identities ∷ DefragBelow ∷ DefragPages ∷ CollectorTicks
+        ∷ MutatorTicks ∷ Rate ∷ Live ∷ [] }
 {}

@@ -3,8 +3,8 @@ use Rattle.std.proofs.Common.{◌≡◌, ℕ, ◌+◌, ◌*◌, ◌<◌, ◌≤�
 use Rattle.std.proofs.lemmas.Bool.{cases_lt}
 use Rattle.std.specs.Prelude.{MatchOption}
 use Rattle.graph_heap.specs.declared.command.Limits.{Limits}
-use Rattle.settings.specs.declared.config.Config.{Config}
-use Rattle.settings.specs.declared.config.TheConstants.{LEAST_BUDGET}
+use Rattle.size_classes.specs.declared.config.Config.{Config}
+use Rattle.size_classes.specs.declared.config.TheConstants.{LEAST_BUDGET}
 use Rattle.heap_model.specs.State.{HeapState}
 use Rattle.heap_model.specs.Settings.{settings_of, settings_by}
 use Rattle.heap_model.specs.Opening.{IsOpening}

@@ -2,7 +2,7 @@
 use Rattle.std.specs.Prelude.{◌≡◌, ℕ, ◌*◌, ◌<◌, ◌≤◌, ◌^◌, ◌↔◌, min, slice_index, List, Option, Some, None, MatchOption}
 use Rattle.graph_heap.specs.declared.command.Limits.{Limits}
 use Rattle.size_classes.specs.declared.class.TheConstants.{CLASSES}
-use Rattle.settings.specs.declared.config.Config.{Config}
+use Rattle.size_classes.specs.declared.config.Config.{Config}
 use Rattle.heap_model.specs.Settings.{settings_by}
 use Rattle.heap_model.specs.Event.{Event, HaveBudgets}
 use Rattle.space.specs.Pace.{Pace, opening_beat, AllKeepPace}

@@ -1,14 +1,14 @@
 -- What it is to measure a trace.
 use Rattle.std.specs.Prelude.{◌<◌, Result, length}
-use Rattle.settings.specs.declared.config.Config.{Config}
+use Rattle.size_classes.specs.declared.config.Config.{Config}
 use Rattle.heap_model.specs.Opening.{IsOpening}
 use Rattle.heap_model.specs.ReachedFrom.{opened}
 use Rattle.heap_model.specs.Event.{Runs}
 use Rattle.trace.specs.declared.fault.PlayFault.{PlayFault}
-use Rattle.streams.specs.Streams.{Given}
-use Rattle.player.specs.Observing.{Run}
-use Rattle.player.specs.Steps.{events_of}
-use Rattle.player.specs.Surveying.{NewRun, Surveyed}
+use Rattle.trace.specs.Streams.{Given}
+use Rattle.trace.specs.Observing.{Run}
+use Rattle.trace.specs.Steps.{events_of}
+use Rattle.trace.specs.Surveying.{NewRun, Surveyed}
 use Rattle.sizing.specs.declared.measured.Measured.{Measured}
 use Rattle.sizing.specs.declared.meter.Meter.{Meter}
 use Rattle.sizing.specs.Measured.{IsMeasured}

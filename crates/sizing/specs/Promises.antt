@@ -1,7 +1,7 @@
 -- What it means that pages suffice.
 use Rattle.std.specs.Prelude.{◌≡◌, ◌≤◌, List, Some}
 use Rattle.graph_heap.specs.declared.command.Limits.{Limits}
-use Rattle.settings.specs.declared.config.Config.{Config}
+use Rattle.size_classes.specs.declared.config.Config.{Config}
 use Rattle.heap_model.specs.State.{HeapState}
 use Rattle.heap_model.specs.Settings.{settings_of, settings_by}
 use Rattle.heap_model.specs.Opening.{IsOpening}

@@ -1,10 +1,10 @@
 //! What was measured.
 ghost use Rattle.std.specs.Prelude.{◌≤◌, IfSome};
 ghost use Rattle.std.proofs.Props.{props};
-ghost use Rattle.settings.specs.declared.config.TheConstants.{LEAST_BUDGET};
+ghost use Rattle.size_classes.specs.declared.config.TheConstants.{LEAST_BUDGET};
 
 use crate::needed::Needed;
-use settings::Config;
+use size_classes::Config;
 use space::Pace;
 
 /// What a run needed: in blocks and pages, the least pace to which it keeps, and the least budget of a quantum.
@@ -21,7 +21,7 @@ pub struct Measured {
 
 impl Measured {
     ghost use Rattle.std.specs.Prelude.{◌≡◌};
-    ghost use Rattle.settings.specs.declared.config.TheConstants.{MOST_BUDGET};
+    ghost use Rattle.size_classes.specs.declared.config.TheConstants.{MOST_BUDGET};
     ghost use Rattle.sizing.specs.Measured.{least_units, HasUnits};
 
     /// The units that each quantum of the run, and each of a configuration's schedule, has at least.

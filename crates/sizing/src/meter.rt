@@ -4,7 +4,7 @@ ghost use Rattle.graph_heap.specs.declared.command.Limits.{Limits as Bounds};
 ghost use Rattle.graph_heap.specs.Graph.{root_cells};
 ghost use Rattle.graph_heap.specs.Shape.{fits};
 ghost use Rattle.size_classes.specs.Need.{needed};
-ghost use Rattle.settings.specs.declared.config.TheConstants.{LEAST_BUDGET};
+ghost use Rattle.size_classes.specs.declared.config.TheConstants.{LEAST_BUDGET};
 ghost use Rattle.graph_heap.specs.History.{IsEntryOf, after_entry};
 ghost use Rattle.graph_heap.specs.Reaching.{AreReached};
 ghost use Rattle.heap_model.specs.Event.{Course, Event, Command_done, Cycle_begun, Enters, Begins, IsCourse};

@@ -8,8 +8,7 @@ ghost use Rattle.sizing.specs.Measured.{together_in, page_demand_in};
 ghost use Rattle.sizing.specs.Reckoned.{still_pages, moved_pages, moves_all, fewest_pages, needed_pages};
 
 use crate::page_counts::gathered_of;
-use settings::Config;
-use size_classes::{CLASSES, Class};
+use size_classes::{CLASSES, Class, Config};
 use space::{below, pages_of_class, spare};
 
 /// What a run needed at most.

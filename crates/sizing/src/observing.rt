@@ -4,7 +4,7 @@ ghost use Rattle.sizing.specs.Measuring.{HasMeasured};
 use crate::meter::Meter;
 use graph_heap::{Entry, NoMemory};
 use machine::Recorded;
-use player::{Mark, Observer};
+use trace::{Mark, Observer};
 
 impl Observer for Meter {
     ghost has_seen = { HasMeasured };

@@ -4,9 +4,9 @@ ghost use Rattle.sizing.specs.Measuring.{RunMeasured};
 use crate::measured::Measured;
 use crate::meter::Meter;
 use graph_heap::NoMemory;
-use player::{Player, Survey};
-use settings::Config;
+use size_classes::Config;
 use std::alloc::Global;
+use trace::{Player, Survey};
 
 /// It finds what the run needs. The run keeps to what is answered, and to nothing that is less in some number. Where
 /// the configuration has the pages that it must have (`Needed::pages_in`), or the pace fits `Measured::slowest` of it,

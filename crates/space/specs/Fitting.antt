@@ -1,8 +1,8 @@
 -- Whether a configuration has enough pages.
 use Rattle.std.specs.Prelude.{◌≡◌, ℕ, ◌+◌, ◌-◌, ◌*◌, ◌/◌, ◌<◌, ◌≤◌, Bool, ◌==◌, nat_le, if◌then◌else◌, slice_index, Option, Some, None}
 use Rattle.size_classes.specs.declared.class.TheConstants.{CLASSES, PAGE_WORDS}
-use Rattle.settings.specs.declared.config.Config.{Config}
-use Rattle.settings.specs.declared.config.TheConstants.{LEAST_BUDGET, MOST_PAGES}
+use Rattle.size_classes.specs.declared.config.Config.{Config}
+use Rattle.size_classes.specs.declared.config.TheConstants.{LEAST_BUDGET, MOST_PAGES}
 use Rattle.size_classes.specs.Sizes.{blocks_in}
 use Rattle.space.specs.declared.fitting.Needs.{Needs}
 use Rattle.space.specs.declared.pace.Pace.{Pace as PaceTable}

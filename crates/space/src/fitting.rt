@@ -4,11 +4,10 @@ ghost use Rattle.space.specs.Fitting.{pace_in, spare_in, below_in, swept_at, mov
 ghost use Rattle.space.specs.Fitting.{IsNeeded, FitsIn, IsLeast};
 ghost use Rattle.space.specs.Pace.{demand_of};
 ghost use Rattle.space.specs.Space.{space_for};
-ghost use Rattle.settings.specs.declared.config.TheConstants.{MOST_HEAP_PAGES};
+ghost use Rattle.size_classes.specs.declared.config.TheConstants.{MOST_HEAP_PAGES};
 
 use crate::pace::{MOST_QUANTA, MOST_UNMOVED_QUANTA, Pace};
-use settings::{Config, LEAST_BUDGET, MOST_PAGES};
-use size_classes::{CLASSES, Class, PAGE_WORDS};
+use size_classes::{CLASSES, Class, Config, LEAST_BUDGET, MOST_PAGES, PAGE_WORDS};
 
 /// How many pages may be left sparse: as many as a cycle may empty, and none where blocks are never moved.
 pub fn spare(config: &Config) -> u32

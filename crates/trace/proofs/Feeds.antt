@@ -7,7 +7,7 @@ use Rattle.memchr.specs.Find.{IsFirstByte, is_byte}
 use Rattle.trace.specs.Lines.{NoLf, IsLine, Comes, FirstLf}
 use Rattle.trace.specs.LineReader.{Lines, IsOutcome, ReadsLine}
 use Rattle.trace.specs.declared.fault.PlayFault.{PlayFault}
-use Rattle.streams.proofs.Cuts.{whole, parted}
+use Rattle.trace.proofs.Cuts.{whole, parted}
 
 -- the first LF of the first n bytes, which are at most 257, is the first of all
 first_in : (n : ℕ) → n ≤ 257 → (bytes : List ℕ) (i : ℕ) → IsFirstByte (is_byte 10) (take n bytes) (Some i) → FirstLf bytes i

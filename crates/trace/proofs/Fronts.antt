@@ -11,7 +11,7 @@ use Rattle.std.proofs.lemmas.Str.Parse.{digit_at, digits_value-take-le, numerals
 use Rattle.trace.specs.Numbers.{DigitsSpell, NoDigitAt, Fronts}
 use Rattle.trace.specs.Reading.{number_in, field_in}
 use Rattle.trace.proofs.Numbers.{number_in-spelled, number_in-Some, number_in-None}
-use Rattle.streams.proofs.Cuts.{parted}
+use Rattle.trace.proofs.Cuts.{parted}
 use Rattle.trace.proofs.Exact.{same_Some, narrow, wide, field_in-Some, field_in-spelled}
 
 -- 18 digits and one more write a number below 10 ^ 19

@@ -7,7 +7,7 @@ use Rattle.trace.specs.declared.version.Version.{Version}
 use Rattle.trace.specs.declared.version.Version.TheVariants.{First}
 use Rattle.trace.specs.LinesProcessed.{LinesRead, LinesDone, No_lines, One_line_more, LinesProcessed, ProcessingEnds}
 use Rattle.trace.specs.Handling.{HandlesLine, HandlerStops, LinesHandled}
-use Rattle.streams.specs.Streams.{Given}
+use Rattle.trace.specs.Streams.{Given}
 use Rattle.trace.specs.TextLine.{Text, text_after, IsNextVersion}
 
 -- state: the state in which a handler is. Knows lines version events now done: what is known of it after these lines.

@@ -13,3 +13,13 @@ pub mod ReadEntries
 pub mod LinesProcessed
 pub mod Handling
 pub mod Reading
+pub mod Cuts
+pub mod Doing
+pub mod First
+pub mod Lines
+pub mod Ticking
+pub mod Promised
+pub mod Sent
+pub mod Held
+pub mod Seeing
+pub mod LinesSeen

@@ -5,7 +5,7 @@ use Rattle.trace.specs.declared.fault.PlayFault.{PlayFault}
 use Rattle.trace.specs.declared.version.Version.{Version}
 use Rattle.trace.specs.LinesProcessed.{LinesRead, Reached, NextThere, LinesDone, No_lines, One_line_more, LinesProcessed, NoLine, ProcessingEnds}
 use Rattle.trace.specs.LineReader.{Lines, no_lines, lines_by, ReadsLine}
-use Rattle.streams.specs.Streams.{Given, Stays}
+use Rattle.trace.specs.Streams.{Given, Stays}
 use Rattle.trace.specs.Lines.{IsLine, Comes, text_of}
 use Rattle.trace.specs.TextLine.{Text, text_after, IsVersionLine, IsNextVersion}
 use Rattle.trace.specs.declared.version.Version.TheVariants.{Second}

@@ -2,7 +2,7 @@
 use Rattle.std.proofs.Common.{◌≡◌, ℕ, ◌+◌, ◌≤◌, List, length, arith, refl}
 use Rattle.std.specs.Prelude.{Option}
 use Rattle.trace.specs.LineReader.{Lines, no_lines}
-use Rattle.streams.specs.Streams.{Stays}
+use Rattle.trace.specs.Streams.{Stays}
 use Rattle.trace.proofs.LinesProcessed.{stays_same, stays_on}
 
 -- the source has given at least what the reader handed out and keeps, no read has failed, and what is known of

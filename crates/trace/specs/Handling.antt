@@ -3,7 +3,7 @@ use Rattle.std.specs.Prelude.{◌≡◌, List, [], length, Result, Ok, Err, IfOk
 use Rattle.trace.specs.declared.fault.PlayFault.{PlayFault}
 use Rattle.trace.specs.declared.line_handler.InputEnd.{InputEnd}
 use Rattle.trace.specs.LinesProcessed.{LinesProcessed, ProcessingEnds}
-use Rattle.streams.specs.Streams.{Given}
+use Rattle.trace.specs.Streams.{Given}
 use Rattle.trace.specs.TextLine.{Text}
 
 -- Handles text old new result: the outcome of a line that a handler is handed.

@@ -11,7 +11,7 @@ use Rattle.trace.specs.declared.entry.EntryLine.TheVariants as lines
 use Rattle.trace.specs.declared.version.Version.{Version}
 use Rattle.trace.specs.LinesProcessed.{Reached, NextThere, LineEffect, LinesProcessed, ProcessingEnds}
 use Rattle.trace.specs.Spelling.{SpellsEntry}
-use Rattle.streams.specs.Streams.{Given}
+use Rattle.trace.specs.Streams.{Given}
 use Rattle.trace.specs.TextLine.{Text, IsVersionLine}
 use Rattle.trace.specs.declared.transcripts.histories.Checked.{Checked}
 use Rattle.trace.specs.declared.transcripts.histories.Checked.TheVariants.{Good, Wrong}

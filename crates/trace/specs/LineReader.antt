@@ -5,7 +5,7 @@ use Rattle.trace.specs.declared.fault.PlayFault.TheVariants.{Read, Write}
 use Rattle.trace.specs.declared.version.Version.{Version}
 use Rattle.trace.specs.declared.version.Version.TheVariants.{First}
 use Rattle.trace.specs.LinesProcessed.{NoLine}
-use Rattle.streams.specs.Streams.{Given}
+use Rattle.trace.specs.Streams.{Given}
 use Rattle.trace.specs.Lines.{IsLine, Comes}
 use Rattle.trace.specs.TextLine.{Text, IsNextVersion}
 

@@ -5,7 +5,7 @@ use Rattle.trace.specs.declared.fault.PlayFault.{PlayFault}
 use Rattle.trace.specs.declared.fault.PlayFault.TheVariants.{Line as At_line, Read, Write, NoMemory}
 use Rattle.trace.specs.declared.version.Version.{Version}
 use Rattle.trace.specs.declared.version.Version.TheVariants.{First}
-use Rattle.streams.specs.Streams.{Given}
+use Rattle.trace.specs.Streams.{Given}
 use Rattle.trace.specs.Lines.{IsLine, NoLf, Splits}
 use Rattle.trace.specs.TextLine.{Text, text_after, IsVersionLine, IsNextVersion}
 

@@ -13,7 +13,7 @@ use Rattle.graph_heap.specs.declared.command.Refusal.TheVariants as refusals
 use Rattle.graph_heap.specs.declared.command.Entry.{Entry}
 use Rattle.graph_heap.specs.Refusal.{refusal_number}
 use Rattle.quanta.specs.declared.schedule.TheConstants.{CLOCK_LIMIT}
-use Rattle.settings.specs.declared.config.TheConstants.{LEAST_BUDGET, MOST_BUDGET}
+use Rattle.size_classes.specs.declared.config.TheConstants.{LEAST_BUDGET, MOST_BUDGET}
 use Rattle.trace.specs.Spelling.{is_skipped, keyword_text}
 use Rattle.trace.specs.declared.entry.EntryLine.{EntryLine}
 use Rattle.trace.specs.declared.entry.EntryLine.TheVariants as entry_lines

@@ -12,7 +12,7 @@ use Rattle.trace.specs.declared.line.Line.TheVariants as lines
 use Rattle.trace.specs.declared.version.Version.{Version}
 use Rattle.trace.specs.LinesProcessed.{LineEffect, LinesProcessed, ProcessingEnds}
 use Rattle.trace.specs.Spelling.{Spells, is_skipped}
-use Rattle.streams.specs.Streams.{Given}
+use Rattle.trace.specs.Streams.{Given}
 use Rattle.trace.specs.TextLine.{Text, IsVersionLine}
 
 -- A line of scripts is skipped, or is a command of one of this many mutators.

@@ -2,8 +2,8 @@
 ghost use Rattle.std.specs.Prelude.{◌≡◌};
 ghost use Rattle.trace.specs.declared.fault.PlayFault.TheVariants as faults;
 
+use crate::WriteFailed;
 use graph_heap::NoMemory;
-use streams::WriteFailed;
 use thiserror::Error;
 
 /// What can be wrong with a line of a trace, of a history or of scripts.

@@ -182,7 +182,7 @@ fn place_of(byte: u8, bytes: &[u8]) -> Option<usize>
 }
 
 /// What stands before the first such byte, and after it.
-#[tactic(auto, using(streams::proofs::Cuts::rest_of), unfolding(crate::specs::Reading::cut_at))]
+#[tactic(auto, using(crate::proofs::Cuts::rest_of), unfolding(crate::specs::Reading::cut_at))]
 pub(crate) fn cut(byte: u8, bytes: &[u8]) -> Option<(&[u8], &[u8])>
     ensures { option_map (λ c. (c.0.now, c.1.now)) result ≡ cut_at byte bytes.now }
 {
@@ -284,7 +284,7 @@ impl Spelled for u64 {
 impl Leading for u64 {
     ghost lead_in = { field_in 64 };
 
-    #[tactic(auto, using(streams::proofs::Cuts::rest_of))]
+    #[tactic(auto, using(crate::proofs::Cuts::rest_of))]
     #[inline(never)]
     fn lead(bytes: &[u8]) -> Option<(u64, &[u8])> {
         let (w, count) = front_number(bytes)?;

@@ -1,4 +1,5 @@
-//! Traces and histories as text: what lines and replies say, read from a source and written to a sink.
+//! Traces and histories as text: what lines and replies say, read from a source and written to a sink; and the player,
+//! which does what a trace says.
 #![tactic(auto)]
 
 mod commands;
@@ -9,7 +10,9 @@ mod laws;
 pub mod line;
 pub mod line_handler;
 pub mod line_reader;
+mod player;
 mod replies;
+pub mod streams;
 mod text;
 mod text_line;
 pub mod transcripts;
@@ -22,6 +25,14 @@ pub use laws::{one_cutting, one_more_line};
 pub use line::{Line, is_skipped, read_line, read_numbered};
 pub use line_handler::{InputEnd, LineHandler, each_line};
 pub use line_reader::LineReader;
+pub use player::{
+    Mark, Observer, PhaseName, Player, QuantumStart, Style, Survey, TickFault, play, play_first,
+    play_up_to, plays_are_promised, survey_run,
+};
+pub use streams::{
+    BufferedSink, FailAt, MemorySink, MemorySource, ReadFailed, ReadSource, Sink, Source,
+    WriteFailed, WriteSink, write_all,
+};
 pub use text::{end_line, put, put_named};
 pub use text_line::TextLine;
 pub use version::{Version, tells_version, version_line};

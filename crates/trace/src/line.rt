@@ -13,7 +13,7 @@ use crate::text_line::TextLine;
 use crate::version::Version;
 use graph_heap::Command;
 use quanta::CLOCK_LIMIT;
-use settings::{LEAST_BUDGET, MOST_BUDGET};
+use size_classes::{LEAST_BUDGET, MOST_BUDGET};
 
 /// What a line of a trace says.
 #[derive(Clone, Copy, Debug, PartialEq, Eq)]

@@ -2,15 +2,15 @@
 ghost use Rattle.std.specs.Prelude.{◌≡◌, ℕ, ◌+◌, Result, OnOk};
 ghost use Rattle.trace.specs.declared.fault.PlayFault.{PlayFault};
 ghost use Rattle.trace.specs.LinesProcessed.{reads_failed};
-ghost use Rattle.streams.specs.Streams.{Stays, given_by};
+ghost use Rattle.trace.specs.Streams.{Stays, given_by};
 ghost use Rattle.trace.specs.TextLine.{Text, text_in};
 ghost use Rattle.trace.specs.Handling.{LinesHandled};
 
+use crate::Source;
 use crate::fault::PlayFault;
 use crate::line_reader::LineReader;
 use crate::text_line::TextLine;
 use crate::version::Version;
-use streams::Source;
 
 /// What is done with the lines of an input, one after the other.
 pub trait LineHandler {

@@ -1,16 +1,16 @@
 //! Cutting what a source gives into lines.
 ghost use Rattle.std.specs.Prelude.{true, false, ◌⊎◌, Ok, Err, ◌∷◌, ◌++◌, ◌≡◌, ◌==◌, ◌+◌, ◌-◌, ◌<◌, ◌≤◌, ◌^◌, length, take, slice_range, IfOk, IfSome, IsNone, OnOk, OnErr, IsTrue};
-ghost use Rattle.streams.specs.Streams.{failed, Stays, given_by};
+ghost use Rattle.trace.specs.Streams.{failed, Stays, given_by};
 ghost use Rattle.memchr.specs.Find.{IsFirstByte, is_byte};
 ghost use Rattle.trace.specs.Lines.{Comes, NoLf, IsLine, FirstLf};
 
 use crate::fault::{LineFault, PlayFault};
 use crate::text_line::TextLine;
 use crate::version::Version;
+use crate::{ReadFailed, Sink, Source};
 use memchr::memchr;
 use std::marker::Model;
 use std::simd::prelude::*;
-use streams::{ReadFailed, Sink, Source};
 
 /// How many bytes are read at once, at most.
 const CAPACITY: usize = 65536;

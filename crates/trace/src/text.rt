@@ -1,9 +1,9 @@
 //! Text in an array of bytes.
 ghost use Rattle.std.specs.Prelude.{◌≡◌, ◌≤◌, ◌<◌, ◌+◌, ◌++◌, ◌∷◌, [], length, take, decimal, OnOk, OnErr};
-ghost use Rattle.streams.specs.Streams.{GrowsByPart, failed};
+ghost use Rattle.trace.specs.Streams.{GrowsByPart, failed};
 
+use crate::{Sink, WriteFailed, write_all};
 use itoa::Buffer;
-use streams::{Sink, WriteFailed, write_all};
 
 /// Writes bytes at a place, after which there must be room for them, and answers the place after
 /// them. What stands before the place stays.

@@ -2,13 +2,12 @@
 //! program has its own, and a write of no bytes.
 use super::*;
 use graph_heap::NoMemory;
-use player::{Player, Style, TickFault, play, play_first};
 use std::alloc::AllocGlobal;
 use std::test::Fail;
-use streams::{
-    BufferedSink, FailAt, MemorySink, MemorySource, ReadFailed, Sink, WriteFailed, WriteSink,
+use trace::{
+    BufferedSink, FailAt, LineFault, MemorySink, MemorySource, PlayFault, Player, ReadFailed, Sink,
+    Style, TickFault, WriteFailed, WriteSink, play, play_first,
 };
-use trace::{LineFault, PlayFault};
 
 /// Quanta of 260 units.
 const SLOW: Settings = Settings {

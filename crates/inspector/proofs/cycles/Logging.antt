@@ -8,7 +8,7 @@ use Rattle.inspector.specs.declared.cycles.cycle.Cycle.{Cycle}
 use Rattle.inspector.specs.declared.cycles.open.Base.{Base}
 use Rattle.inspector.specs.declared.cycles.open.Open.{Open}
 use Rattle.inspector.specs.declared.cycles.log.Log.{Log}
-use Rattle.player.specs.Steps.{Step}
+use Rattle.trace.specs.Steps.{Step}
 use Rattle.inspector.specs.Steps.{is_quantum, begins, works, ends_sweep, ends_cycle}
 use Rattle.inspector.specs.Cycles.{counted, after_last, copies_at, units_by, end_of, SweptBy, IsCycle, AreCycles, No_cycle, One_cycle_more}
 use Rattle.inspector.specs.Log.{place_at, IsBase, AreCounted, IsEnd, IsStart, IsOpen, HasOpen, IsOpenIn, IsLog}

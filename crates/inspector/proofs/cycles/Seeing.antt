@@ -7,8 +7,8 @@ use Rattle.heap_model.specs.declared.phase.Phase.TheVariants as phases
 use Rattle.heap_model.specs.Event.{Course, Does}
 use Rattle.space.specs.Pace.{in_cycle}
 use Rattle.space.proofs.Paces.Pacing.{idle_phase}
-use Rattle.player.specs.Observing.{Run, after_steps}
-use Rattle.player.specs.Steps.{Step, IsCommand, IsBegin, IsQuantum}
+use Rattle.trace.specs.Observing.{Run, after_steps}
+use Rattle.trace.specs.Steps.{Step, IsCommand, IsBegin, IsQuantum}
 use Rattle.inspector.specs.declared.cycles.log.Log.{Log}
 use Rattle.inspector.specs.Steps.{is_beginning, is_quantum, begins}
 use Rattle.inspector.specs.Log.{IsLog, HasLogged}

@@ -7,7 +7,7 @@ use Rattle.heap_model.specs.Phases.{awaits_sweep_end}
 use Rattle.space.specs.Pace.{in_cycle}
 use Rattle.inspector.specs.declared.cycles.cycle.Sweep.{Sweep}
 use Rattle.inspector.specs.declared.cycles.open.End.{End}
-use Rattle.player.specs.Steps.{Step}
+use Rattle.trace.specs.Steps.{Step}
 use Rattle.inspector.specs.Steps.{is_beginning, is_quantum, begins, works, ends_sweep, ends_cycle}
 use Rattle.inspector.specs.Cycles.{counted, after_last, end_of, IsSweep, SweptBy}
 use Rattle.inspector.specs.Log.{IsEnd, end_at}

@@ -1,8 +1,8 @@
 //! The cycles of a run so far.
 ghost use Rattle.std.specs.Prelude.{◌≡◌, true, false, ◌++◌, ◌∷◌, [], List, IfOk, OnOk};
 ghost use Rattle.heap_model.specs.Event.{Course};
-ghost use Rattle.player.specs.Observing.{IsMark};
-ghost use Rattle.player.specs.Steps.{Step};
+ghost use Rattle.trace.specs.Observing.{IsMark};
+ghost use Rattle.trace.specs.Steps.{Step};
 ghost use Rattle.inspector.specs.Steps.{begins, is_quantum};
 ghost use Rattle.inspector.specs.Cycles.{AreCycles};
 ghost use Rattle.inspector.specs.Log.{IsQuantumEffect, AreCounted, IsOpenIn, IsLog};
@@ -13,8 +13,8 @@ use crate::cycles::turn::QuantumEffect;
 use graph_heap::NoMemory;
 use machine::{Heap, Recorded};
 use nodes::Copies;
-use player::Mark;
 use std::alloc::Global;
+use trace::Mark;
 
 /// The cycles of a run so far: those that another followed, and the last one.
 #[derive(Drop)]

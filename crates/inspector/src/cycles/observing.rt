@@ -4,8 +4,8 @@ ghost use Rattle.inspector.specs.Log.{HasLogged};
 use crate::cycles::log::Log;
 use graph_heap::{Entry, NoMemory};
 use machine::Recorded;
-use player::{Mark, Observer};
 use sizing::in_cycle;
+use trace::{Mark, Observer};
 
 impl Observer for Log {
     ghost has_seen = { HasLogged };

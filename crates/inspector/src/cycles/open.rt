@@ -3,7 +3,7 @@ ghost use Rattle.std.specs.Prelude.{◌≡◌, true, if◌then◌else◌, ◌++�
 ghost use Rattle.heap_model.specs.Event.{Course};
 ghost use Rattle.heap_model.specs.Pages as page_list;
 ghost use Rattle.nodes.specs.Copies.{copies_in};
-ghost use Rattle.player.specs.Steps.{Step};
+ghost use Rattle.trace.specs.Steps.{Step};
 ghost use Rattle.inspector.specs.Steps.{begins, ends_cycle};
 ghost use Rattle.inspector.specs.Cycles.{IsSweep, IsCycle, SweptBy, end_of};
 ghost use Rattle.inspector.specs.Log.{IsBase, IsBaseAt, IsOpen, IsEnd, IsQuantumEffect, AreCounted, end_at};

@@ -4,9 +4,9 @@ ghost use Rattle.inspector.specs.Taking.{TellsCycles};
 use crate::cycles::cycle::Cycles;
 use crate::cycles::log::Log;
 use graph_heap::NoMemory;
-use player::{Player, Survey};
-use settings::Config;
+use size_classes::Config;
 use std::alloc::Global;
+use trace::{Player, Survey};
 
 /// It finds the cycles of the run, with the figures of each.
 impl Survey for Log {

@@ -1,15 +1,15 @@
 //! What a quantum was to the cycle that it found.
 ghost use Rattle.std.specs.Prelude.{◌≡◌, true};
 ghost use Rattle.nodes.specs.Copies.{copies_in};
-ghost use Rattle.player.specs.Observing.{IsMark};
-ghost use Rattle.player.specs.Steps.{Step};
+ghost use Rattle.trace.specs.Observing.{IsMark};
+ghost use Rattle.trace.specs.Steps.{Step};
 ghost use Rattle.inspector.specs.Log.{IsQuantumEffect};
 ghost use Rattle.inspector.specs.Steps.{is_quantum};
 
 use machine::Heap;
 use nodes::Copies;
-use player::Mark;
 use sizing::in_cycle;
+use trace::Mark;
 
 /// What a quantum was to the cycle that it found.
 #[derive(Clone, Copy, Debug, PartialEq, Eq)]

@@ -2,7 +2,7 @@
 ghost use Rattle.space.specs.Fitting.{pace_in};
 ghost use Rattle.inspector.specs.NeededReport.{IsFrom};
 
-use settings::{Config, MOST_PAGES};
+use size_classes::{Config, MOST_PAGES};
 use space::{Pace, pace_needs};
 
 /// The least number of pages from which on a pace fits in each number that a configuration file may ask for, with all else as

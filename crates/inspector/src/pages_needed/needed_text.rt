@@ -5,8 +5,7 @@ ghost use Rattle.inspector.specs.NeededReport.{keys_line, fewest_keys, fewest_li
 
 use crate::class_lines::class_lines;
 use crate::pages_needed::lines::{Scope, pages_line, too_many};
-use settings::{Config, MOST_PAGES};
-use size_classes::Class;
+use size_classes::{Class, Config, MOST_PAGES};
 use sizing::Needed;
 use space::pages_of_class;
 use std::alloc::{AllocError, Global};

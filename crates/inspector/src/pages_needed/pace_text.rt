@@ -6,8 +6,7 @@ ghost use Rattle.inspector.specs.NeededReport.{pace_line, quanta_line, from_line
 use crate::class_lines::class_lines;
 use crate::pages_needed::from::fits_from;
 use crate::pages_needed::lines::{Scope, pages_line, too_many};
-use settings::Config;
-use size_classes::Class;
+use size_classes::{Class, Config};
 use space::{Pace, least_pages, pace_needs};
 use std::alloc::{AllocError, Global};
 

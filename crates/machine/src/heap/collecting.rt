@@ -18,7 +18,7 @@ use heap_model::phase::Phase;
 use marker::{scan_parts, scan_roots};
 use nodes::HeapFields;
 use satb_barrier::flush_all;
-use settings::{LEAST_BUDGET, MOST_BUDGET};
+use size_classes::{LEAST_BUDGET, MOST_BUDGET};
 use sweeper::sweep_next;
 
 /// Does the next actions of the collector, one or more of the same kind, and answers true, if their units fit in

@@ -1,6 +1,6 @@
 //! A picture of the objects that can be reached.
 ghost use Rattle.std.specs.Prelude.{◌≡◌, ◌+◌};
-ghost use Rattle.streams.specs.Streams.{taken_by};
+ghost use Rattle.trace.specs.Streams.{taken_by};
 ghost use Rattle.metronome.specs.Faults.{failed_reads, failed_writes};
 ghost use Rattle.metronome.specs.Telling.{GraphTold};
 
@@ -8,7 +8,7 @@ use crate::fault::{Ending, RunFault};
 use graph_heap::Reference;
 use pictures::graph::draw_graph;
 use std::alloc::Global;
-use streams::Sink;
+use trace::Sink;
 
 /// Draws the objects of a graph heap that can be reached, at most `most`, nearest to the roots first.
 pub(crate) fn tell_graph<K: Sink>(

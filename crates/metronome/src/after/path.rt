@@ -1,6 +1,6 @@
 //! Why an object is alive.
 ghost use Rattle.std.specs.Prelude.{◌≡◌, ◌+◌, IfOk, string_bytes};
-ghost use Rattle.streams.specs.Streams.{taken_by};
+ghost use Rattle.trace.specs.Streams.{taken_by};
 ghost use Rattle.metronome.specs.Faults.{failed_reads, failed_writes};
 ghost use Rattle.metronome.specs.Telling.{TellsWhy};
 ghost use Rattle.metronome.specs.Told.{ReportTold};
@@ -11,7 +11,7 @@ use graph_heap::{NoMemory, Reference};
 use machine::Heap;
 use pictures::path_text;
 use std::alloc::Global;
-use streams::Sink;
+use trace::Sink;
 
 /// What tells why an object is alive in a graph heap, or that it isn't, and whether a heap holds a block of it.
 fn path_report(alloc: Global, heap: &Heap, graph: &Reference, id: u64) -> Result<String, NoMemory>

@@ -1,15 +1,14 @@
 //! A picture of the player.
 ghost use Rattle.std.specs.Prelude.{◌≡◌, List, ℕ, ◌+◌, ◌++◌, OnOk, OnErr};
-ghost use Rattle.streams.specs.Streams.{failed, GrowsByPart, taken_by};
+ghost use Rattle.trace.specs.Streams.{failed, GrowsByPart, taken_by};
 ghost use Rattle.metronome.specs.Telling.{IsPicture, PictureDrawn};
 ghost use Rattle.metronome.specs.Faults.{failed_reads, failed_writes};
 
 use crate::fault::{Ending, RunFault};
 use command_line::Picture;
 use pictures::{draw_events, draw_pages, draw_utilisation};
-use player::Player;
-use settings::Config;
-use streams::{Sink, WriteFailed};
+use size_classes::Config;
+use trace::{Player, Sink, WriteFailed};
 
 /// Writes a picture of a player.
 fn draw<K: Sink>(

@@ -1,6 +1,6 @@
 //! A report of the heap.
 ghost use Rattle.std.specs.Prelude.{◌≡◌, ◌+◌, IfOk, string_bytes};
-ghost use Rattle.streams.specs.Streams.{taken_by};
+ghost use Rattle.trace.specs.Streams.{taken_by};
 ghost use Rattle.inspector.specs.Shapes.{ShapesTold};
 ghost use Rattle.metronome.specs.Faults.{failed_reads, failed_writes};
 ghost use Rattle.metronome.specs.Telling.{HeapReported};
@@ -12,9 +12,8 @@ use command_line::Report;
 use graph_heap::NoMemory;
 use inspector::{report, report_sizes, shapes_text};
 use machine::Heap;
-use player::Player;
 use std::alloc::Global;
-use streams::Sink;
+use trace::{Player, Sink};
 
 /// The text of a report by shape.
 fn shapes_report(alloc: Global, heap: &Heap) -> Result<String, NoMemory>

@@ -1,6 +1,6 @@
 //! A line for each window.
 ghost use Rattle.std.specs.Prelude.{◌≡◌, ◌+◌, IfOk, IfErr, OnOk, string_bytes};
-ghost use Rattle.streams.specs.Streams.{taken_by};
+ghost use Rattle.trace.specs.Streams.{taken_by};
 ghost use Rattle.metronome.specs.Faults.{failed_reads, failed_writes};
 ghost use Rattle.metronome.specs.Telling.{WindowsTold};
 ghost use Rattle.metronome.specs.Windows.{IsWindowLine, AllTold, FirstTold};
@@ -8,11 +8,10 @@ ghost use Rattle.metronome.specs.Windows.{IsWindowLine, AllTold, FirstTold};
 use crate::fault::{Ending, RunFault};
 use graph_heap::NoMemory;
 use mmu_report::{bound, least_mutator, permille};
-use player::Player;
 use quanta::Schedule;
-use settings::Config;
+use size_classes::Config;
 use std::alloc::Global;
-use streams::{Sink, write_all};
+use trace::{Player, Sink, write_all};
 
 /// Writes a line for each window of the schedule of a player.
 pub(crate) fn tell_windows<K: Sink>(

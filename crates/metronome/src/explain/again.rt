@@ -2,8 +2,7 @@
 use crate::explain::silence::Silence;
 use crate::files::Opener;
 use std::alloc::Global;
-use streams::Source;
-use trace::{Version, version_line};
+use trace::{Source, Version, version_line};
 
 /// How many bytes are read at once, at most.
 const PIECE: usize = 4096;

@@ -2,7 +2,7 @@
 use crate::explain::document::{Listed, Refused, Told};
 use crate::explain::quoted::Quoted;
 use crate::explain::silence::Silence;
-use settings::{ConfigFault, Key, LEAST_BUDGET, MOST_BUDGET, Ranges};
+use size_classes::{ConfigFault, Key, LEAST_BUDGET, MOST_BUDGET, Ranges};
 use std::io::Write;
 use toml::Table;
 

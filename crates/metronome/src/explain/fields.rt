@@ -5,7 +5,7 @@ use crate::explain::part::Part;
 use crate::explain::quoted::Quoted;
 use crate::explain::silence::Silence;
 use quanta::CLOCK_LIMIT;
-use settings::{LEAST_BUDGET, MOST_BUDGET};
+use size_classes::{LEAST_BUDGET, MOST_BUDGET};
 use std::alloc::Global;
 use std::io::Write;
 use trace::Version;

@@ -10,7 +10,7 @@ use crate::seats::seat::MetronomeSeat;
 use crate::status::Status;
 use crate::text::VERSION;
 use heap_shared::{Member, SharedConfig};
-use settings::{Config, Settings};
+use size_classes::{Config, Settings};
 
 /// Makes a heap of these settings and the first seat at it, where the handle is closed and the program was built for
 /// this version. Of a program for another one nothing is read but that version.

@@ -17,7 +17,7 @@ use crate::status::Status;
 use crate::text::VERSION;
 use graph_heap::{Command, Entry};
 use heap_shared::NoEntry;
-use settings::Settings;
+use size_classes::Settings;
 
 /// A command: which one it is, by its place among the variants of `graph_heap::Command`, and its numbers and words in
 /// their order there, and 0 where it has no more. Of a shape the numbers are its kind, and how many cells of each kind it

@@ -2,7 +2,7 @@
 use Rattle.std.proofs.Common.{◌≡◌, ℕ, ◌-◌, min, None, List, [], ◌∷◌, ◌++◌, length, take, ap, sym, append-nil, refl}
 use Rattle.graph_heap.specs.Graph.{Graph}
 use Rattle.pictures.specs.declared.reachability.found.Found.{Found}
-use Rattle.streams.specs.Streams.{GrowsByPart}
+use Rattle.trace.specs.Streams.{GrowsByPart}
 use Rattle.pictures.specs.declared.graph.statement.Statement.{Statement}
 use Rattle.pictures.specs.declared.graph.statement.Statement.TheVariants.{Close}
 use Rattle.pictures.specs.Statements.{dot_text}

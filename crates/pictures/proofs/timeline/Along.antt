@@ -8,7 +8,7 @@ use Rattle.std.proofs.lemmas.List.{take-append-le, drop-append-le, drop-drop}
 use Rattle.std.proofs.lemmas.List.Sums.{fold-append}
 use Rattle.pictures.specs.declared.over_time.TheConstants.{MOST_SAMPLES}
 use Rattle.pictures.specs.declared.sample.Sample.{Sample}
-use Rattle.player.specs.Observing.{Moment}
+use Rattle.trace.specs.Observing.{Moment}
 use Rattle.heap_model.specs.State.{HeapState}
 use Rattle.pictures.specs.Joining.{joined}
 use Rattle.pictures.specs.OverTime.{sample_of}

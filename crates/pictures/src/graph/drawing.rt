@@ -2,7 +2,7 @@
 ghost use Rattle.std.specs.Prelude.{◌≡◌, ◌+◌, ◌++◌, OnOk, OnErr, nat_eq};
 ghost use Rattle.std.specs.Set.{is_member};
 ghost use Rattle.trace.specs.LinesProcessed.{writes_failed};
-ghost use Rattle.streams.specs.Streams.{GrowsByPart, failed, taken_by};
+ghost use Rattle.trace.specs.Streams.{GrowsByPart, failed, taken_by};
 ghost use Rattle.pictures.specs.Statements.{dot_text};
 ghost use Rattle.pictures.specs.GraphDrawing as drawings;
 ghost use Rattle.pictures.specs.GraphDrawing.{holder_drawn, cells_drawn, object_drawn, objects_drawn, graph_picture};
@@ -13,8 +13,7 @@ use crate::reachability::{Found, Holder, Search, holder, search};
 use crate::writing::{write_line, write_lines};
 use graph_heap::{Limits, Reference};
 use std::alloc::Global;
-use streams::{Sink, WriteFailed};
-use trace::PlayFault;
+use trace::{PlayFault, Sink, WriteFailed};
 
 /// The root at a place of the row of roots.
 fn root_at(limits: &Limits, place: usize) -> Root

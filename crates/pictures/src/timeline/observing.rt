@@ -4,7 +4,7 @@ ghost use Rattle.pictures.specs.Sampler.{HasSampled};
 use crate::timeline::sampler::Sampler;
 use graph_heap::{Entry, NoMemory};
 use machine::Recorded;
-use player::{Mark, Observer};
+use trace::{Mark, Observer};
 
 impl Observer for Sampler {
     ghost has_seen = { HasSampled };

@@ -1,6 +1,6 @@
 //! Taking samples at even distances.
 ghost use Rattle.std.specs.Prelude.{◌≡◌, ◌<◌, ◌^◌, ◌++◌, ◌∷◌, [], List, length, IfOk, OnOk};
-ghost use Rattle.player.specs.Observing.{Moment, moment};
+ghost use Rattle.trace.specs.Observing.{Moment, moment};
 ghost use Rattle.pictures.specs.Joining.{joined};
 ghost use Rattle.pictures.specs.Samples.{sampled};
 ghost use Rattle.pictures.specs.Sampler.{IsAlong};

@@ -4,9 +4,9 @@ ghost use Rattle.pictures.specs.Taking.{AreSamplesOf};
 use crate::timeline::sampler::Sampler;
 use crate::timeline::samples::Samples;
 use graph_heap::NoMemory;
-use player::{Player, Survey};
-use settings::Config;
+use size_classes::Config;
 use std::alloc::Global;
+use trace::{Player, Survey};
 
 /// It takes samples of the heap, of the new one and of those after each event, as many moments for each sample as the
 /// stride says. Commands, beginnings, quanta and ticks are events; lines that are skipped, and that of the version,

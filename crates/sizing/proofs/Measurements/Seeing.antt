@@ -6,8 +6,8 @@ use Rattle.graph_heap.specs.declared.command.Limits.{Limits}
 use Rattle.graph_heap.specs.declared.command.Entry.{Entry}
 use Rattle.heap_model.specs.declared.phase.Phase.{Phase}
 use Rattle.heap_model.specs.declared.phase.Phase.TheVariants as phases
-use Rattle.settings.specs.declared.config.Config.{Config}
-use Rattle.settings.specs.Config.{limits_of}
+use Rattle.size_classes.specs.declared.config.Config.{Config}
+use Rattle.size_classes.specs.Config.{limits_of}
 use Rattle.heap_model.specs.State.{HeapState}
 use Rattle.heap_model.specs.Opening.{IsOpening}
 use Rattle.heap_model.specs.Settings.{HeapSettings}
@@ -17,10 +17,10 @@ use Rattle.heap_model.proofs.Event.Kept.{runs_course, opening_course}
 use Rattle.machine.proofs.Courses.{runs_then}
 use Rattle.space.specs.Pace.{in_cycle}
 use Rattle.space.proofs.Paces.Pacing.{idle_phase}
-use Rattle.player.specs.New.{IsNew}
-use Rattle.player.specs.Observing.{Run, run_from, after_steps}
-use Rattle.player.specs.Player.{PlayerState}
-use Rattle.player.specs.Steps.{Step, events_of, IsCommand, IsBegin, IsQuantum}
+use Rattle.trace.specs.New.{IsNew}
+use Rattle.trace.specs.Observing.{Run, run_from, after_steps}
+use Rattle.trace.specs.Player.{PlayerState}
+use Rattle.trace.specs.Steps.{Step, events_of, IsCommand, IsBegin, IsQuantum}
 use Rattle.sizing.specs.declared.meter.Meter.{Meter}
 use Rattle.sizing.specs.Meter.{Measures, Works}
 use Rattle.sizing.specs.Measuring.{HasMeasured}

@@ -1,7 +1,7 @@
 -- Which of two ways takes the fewer pages.
 use Rattle.std.proofs.Common.{◌≡◌, ℕ, ◌+◌, ◌<◌, ◌≤◌, ◌∙◌, true, false, if◌then◌else◌, ap, sym, arith}
 use Rattle.std.specs.Prelude.{nat_le}
-use Rattle.settings.specs.declared.config.Config.{Config}
+use Rattle.size_classes.specs.declared.config.Config.{Config}
 use Rattle.space.specs.declared.fitting.Needs.{Needs}
 use Rattle.space.specs.Pace.{Pace, demand_of}
 use Rattle.space.specs.Space.{space_for}

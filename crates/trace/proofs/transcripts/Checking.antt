@@ -7,7 +7,7 @@ use Rattle.graph_heap.proofs.Histories.{after-push, IsLegal-push}
 use Rattle.trace.specs.declared.fault.PlayFault.{PlayFault}
 use Rattle.trace.specs.declared.version.Version.{Version}
 use Rattle.trace.specs.LinesProcessed.{LineEffect, LinesDone, No_lines, One_line_more, LinesProcessed}
-use Rattle.streams.specs.Streams.{Given}
+use Rattle.trace.specs.Streams.{Given}
 use Rattle.std.specs.Prelude.{Result}
 use Rattle.trace.specs.declared.transcripts.histories.Checked.{Checked}
 use Rattle.trace.specs.Histories.{DoesNothing, DoesEntry, HistoryEnds, EntriesChecked}

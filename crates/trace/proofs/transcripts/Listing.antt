@@ -15,7 +15,7 @@ use Rattle.trace.specs.declared.line_handler.InputEnd.{InputEnd}
 use Rattle.trace.specs.declared.transcripts.scripts.Scripts.{Scripts}
 use Rattle.trace.specs.LinesProcessed.{LineEffect, LinesDone}
 use Rattle.trace.specs.Handling.{LinesHandled}
-use Rattle.streams.specs.Streams.{Given}
+use Rattle.trace.specs.Streams.{Given}
 use Rattle.trace.proofs.Handling.{Follows, all_moved, over_all, over_stopped}
 use Rattle.trace.specs.TextLine.{Text, text_after}
 use Rattle.trace.specs.Spelling.{Spells, is_skipped}

@@ -1,13 +1,12 @@
 //! Histories, checked against a graph heap.
 ghost use Rattle.std.specs.Prelude.{◌≡◌, ◌+◌};
 ghost use Rattle.trace.specs.LinesProcessed.{reads_failed};
-ghost use Rattle.streams.specs.Streams.{Stays, given_by};
+ghost use Rattle.trace.specs.Streams.{Stays, given_by};
 ghost use Rattle.trace.specs.TextLine.{text_in};
 ghost use Rattle.trace.specs.Histories.{LineChecked, EntriesChecked};
 
-use crate::{EntryLine, LineFault, LineReader, PlayFault, TextLine, read_entry};
+use crate::{EntryLine, LineFault, LineReader, PlayFault, Source, TextLine, read_entry};
 use graph_heap::Reference;
-use streams::Source;
 
 /// The outcome of checking a history.
 #[derive(Clone, Copy, Debug, PartialEq, Eq)]

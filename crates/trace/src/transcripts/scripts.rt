@@ -1,14 +1,15 @@
 //! Scripts: the commands of each mutator.
 ghost use Rattle.std.specs.Prelude.{◌≡◌, ◌+◌, ◌<◌, vec_len, replicate, [], IfOk, IfErr, OnOk};
 ghost use Rattle.trace.specs.LinesProcessed.{reads_failed};
-ghost use Rattle.streams.specs.Streams.{Stays, given_by};
+ghost use Rattle.trace.specs.Streams.{Stays, given_by};
 ghost use Rattle.trace.specs.Spelling.{Spells};
 ghost use Rattle.trace.specs.Scripts.{line_of, lists_in, one_more, IsOfScripts, ScriptLineIs, LineAdded, ScriptsRead};
 
-use crate::{Line, LineFault, LineHandler, PlayFault, TextLine, Version, each_line, read_line};
+use crate::{
+    Line, LineFault, LineHandler, PlayFault, Source, TextLine, Version, each_line, read_line,
+};
 use graph_heap::{Command, Limits, NoMemory};
 use std::alloc::Global;
-use streams::Source;
 
 /// What a line of scripts says: nothing, or a command and whose it is.
 fn script_line(

@@ -1,6 +1,6 @@
 use Rattle.std.proofs.Common.{◌∙◌, ap, sym}
 use Rattle.std.proofs.lemmas.Result.{err_from_is_err_and}
-use Rattle.settings.specs.Config.{budget_fault, fault_by}
+use Rattle.size_classes.specs.Config.{budget_fault, fault_by}
 use Rattle.toml.specs.View.{table_view}
 use Rattle.documents.proofs.Faults.{document_fault-key, document_fault-budget}
 use Rattle.documents.proofs.config_file.config_in.Goals as goal

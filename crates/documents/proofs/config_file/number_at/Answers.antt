@@ -1,7 +1,7 @@
 use Rattle.std.proofs.Common.{rules, ◌≡◌, ◌∙◌, refl, sym, true, false, SFits, w64, to_z, of_z}
 use Rattle.std.proofs.lemmas.Int.{to_z-of_z}
-use Rattle.settings.specs.declared.ranges.Ranges.TheVariants.{File}
-use Rattle.settings.specs.Keys.{row_of, is_allowed}
+use Rattle.size_classes.specs.declared.ranges.Ranges.TheVariants.{File}
+use Rattle.size_classes.specs.Keys.{row_of, is_allowed}
 use Rattle.toml.proofs.Views.{table_get}
 use Rattle.toml.specs.View.{table_view}
 use Rattle.documents.specs.ConfigFile.{mutators_of}

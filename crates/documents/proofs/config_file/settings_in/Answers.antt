@@ -1,10 +1,10 @@
 use Rattle.std.proofs.Common.{◌≡◌, ◌∙◌, None, refl, true, SFits, w64, rules, arith}
 use Rattle.std.proofs.lemmas.Int.{ints, to_z-of_z}
-use Rattle.settings.specs.declared.key.Key.TheVariants.{Pages, Mutators, Slots, Statics, Identities, DefragBelow, DefragPages, CollectorTicks, MutatorTicks, Rate, Live}
-use Rattle.settings.specs.declared.settings.Settings.{Settings}
-use Rattle.settings.specs.declared.ranges.Ranges.TheVariants.{File}
-use Rattle.settings.specs.Keys.{is_allowed}
-use Rattle.settings.specs.Config.{first_outside}
+use Rattle.size_classes.specs.declared.key.Key.TheVariants.{Pages, Mutators, Slots, Statics, Identities, DefragBelow, DefragPages, CollectorTicks, MutatorTicks, Rate, Live}
+use Rattle.size_classes.specs.declared.settings.Settings.{Settings}
+use Rattle.size_classes.specs.declared.ranges.Ranges.TheVariants.{File}
+use Rattle.size_classes.specs.Keys.{is_allowed}
+use Rattle.size_classes.specs.Config.{first_outside}
 use Rattle.toml.specs.Data.{Members}
 use Rattle.toml.specs.View.{table_view}
 use Rattle.documents.specs.ConfigFile.{mutators_of, number_for, HasRange}

@@ -1,5 +1,5 @@
 use Rattle.std.proofs.Common.{◌∷◌, [], ◌++◌, ap, sym, subst, ◌∙◌, append-nil}
-use Rattle.streams.specs.Streams.{GrowsByPart}
+use Rattle.trace.specs.Streams.{GrowsByPart}
 use Rattle.inspector.proofs.Parts.{ok_so, err_so}
 use Rattle.inspector.proofs.ClassByClass.{no_line, one_line}
 use Rattle.inspector.proofs.by_size.write_class.Goals as goal

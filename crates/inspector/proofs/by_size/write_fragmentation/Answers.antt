@@ -1,6 +1,6 @@
 use Rattle.std.proofs.Common.{◌≡◌, [], ◌∷◌, ◌++◌, subst, arith}
 use Rattle.std.specs.Prelude.{OnOk, OnErr}
-use Rattle.streams.specs.Streams.{GrowsByPart}
+use Rattle.trace.specs.Streams.{GrowsByPart}
 use Rattle.inspector.proofs.Fillings.{fragmentation_told}
 use Rattle.inspector.proofs.by_size.write_fragmentation.Goals as goal
 

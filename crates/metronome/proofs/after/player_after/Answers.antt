@@ -1,7 +1,7 @@
 use Rattle.std.proofs.Common.{Ok, Err, inl, inr, refl, arith}
-use Rattle.player.specs.declared.style.Style.TheVariants.{Nothing}
-use Rattle.player.specs.Playing.{session, PlayedUpTo}
-use Rattle.streams.specs.Streams.{given_by, taken_by}
+use Rattle.trace.specs.declared.player.style.Style.TheVariants.{Nothing}
+use Rattle.trace.specs.Playing.{session, PlayedUpTo}
+use Rattle.trace.specs.Streams.{given_by, taken_by}
 use Rattle.trace.specs.declared.fault.PlayFault.TheVariants as texts
 use Rattle.metronome.specs.declared.fault.RunFault.TheVariants as faults
 use Rattle.metronome.proofs.Alive.{played_settings, not_held}

@@ -1,5 +1,5 @@
 use Rattle.std.proofs.Common.{Err, arith}
-use Rattle.streams.specs.Streams.{given_by}
+use Rattle.trace.specs.Streams.{given_by}
 use Rattle.metronome.proofs.Failing.{text_unwritten, answer_unwritten}
 use Rattle.metronome.proofs.answer_job.answer_job.Goals as goal
 

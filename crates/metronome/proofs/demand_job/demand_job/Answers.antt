@@ -1,5 +1,5 @@
 use Rattle.std.proofs.Common.{List, ℕ, inl, inr, refl, subst, true, arith}
-use Rattle.streams.specs.Streams.{given_by, taken_by}
+use Rattle.trace.specs.Streams.{given_by, taken_by}
 use Rattle.metronome.specs.Demand.{NeededTold}
 use Rattle.metronome.proofs.Finishing.{failed_so}
 use Rattle.metronome.proofs.Failing.{reads_on, unreadable_unwritten}

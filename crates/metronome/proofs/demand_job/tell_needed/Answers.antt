@@ -1,5 +1,5 @@
 use Rattle.std.proofs.Common.{ℕ, List, ◌≡◌, ◌++◌, Ok, arith}
-use Rattle.streams.specs.Streams.{taken_by}
+use Rattle.trace.specs.Streams.{taken_by}
 use Rattle.inspector.specs.NeededReport.{needed_told, room_line}
 use Rattle.metronome.proofs.Failing.{text_unread, text_unwritten}
 use Rattle.metronome.proofs.MadeText.{report_told}

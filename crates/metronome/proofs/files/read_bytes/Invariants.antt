@@ -1,6 +1,6 @@
 use Rattle.std.proofs.Common.{◌≡◌, ◌-◌, ◌^◌, ◌≤◌, ◌++◌, length}
 use Rattle.std.specs.Prelude.{IfSome}
-use Rattle.streams.specs.Streams.{Stays}
+use Rattle.trace.specs.Streams.{Stays}
 use Rattle.metronome.proofs.files.read_bytes.Given as goal
 
 -- the bytes are what the source gave, and no more than are the most; what is known of its input stays, and no read has failed

@@ -1,4 +1,4 @@
-use Rattle.streams.specs.Streams.{given_by}
+use Rattle.trace.specs.Streams.{given_by}
 use Rattle.metronome.proofs.Obeying.{document_ok}
 use Rattle.metronome.proofs.files.read_document.Goals as goal
 

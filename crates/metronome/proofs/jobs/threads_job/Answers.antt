@@ -1,10 +1,10 @@
 use Rattle.std.proofs.Common.{◌++◌, ℕ, List, Ok, Err, inl, inr, ap, ◌∙◌, subst, arith}
 use Rattle.graph_heap.specs.declared.command.Limits.{Limits}
 use Rattle.graph_heap.specs.declared.command.Entry.{Entry}
-use Rattle.streams.specs.Streams.{GrowsByPart, given_by}
+use Rattle.trace.specs.Streams.{GrowsByPart, given_by}
 use Rattle.trace.specs.Scripts.{ScriptsRead}
-use Rattle.player.specs.declared.style.Style.TheVariants.{Entries}
-use Rattle.player.specs.Playing.{text_written}
+use Rattle.trace.specs.declared.player.style.Style.TheVariants.{Entries}
+use Rattle.trace.specs.Playing.{text_written}
 use Rattle.metronome.specs.Faults.{failed_reads, failed_writes}
 use Rattle.metronome.proofs.Finishing.{failed_so}
 use Rattle.metronome.proofs.Failing.{reads_text, text_unwritten, scripts_unwritten, memory_unread, memory_unwritten, none_read, one_written, finished_unread, finished_unwritten}

@@ -1,7 +1,7 @@
 use Rattle.std.proofs.Common.{List, ℕ, [], ◌∷◌, ◌++◌, ap, ◌∙◌, subst, arith}
-use Rattle.streams.specs.Streams.{GrowsByPart}
-use Rattle.player.specs.declared.style.Style.TheVariants.{Entries}
-use Rattle.player.specs.Playing.{written_line}
+use Rattle.trace.specs.Streams.{GrowsByPart}
+use Rattle.trace.specs.declared.player.style.Style.TheVariants.{Entries}
+use Rattle.trace.specs.Playing.{written_line}
 use Rattle.metronome.proofs.Writing.{with_next, with_part, at_end}
 use Rattle.inspector.proofs.Parts.{at_err}
 use Rattle.metronome.proofs.jobs.write_entries.Goals as goal

@@ -1,6 +1,6 @@
 use Rattle.std.proofs.Common.{◌≡◌, ◌++◌, take}
-use Rattle.player.specs.declared.style.Style.TheVariants.{Entries}
-use Rattle.player.specs.Playing.{written_of}
+use Rattle.trace.specs.declared.player.style.Style.TheVariants.{Entries}
+use Rattle.trace.specs.Playing.{written_of}
 use Rattle.metronome.proofs.jobs.write_entries.Given as goal
 
 -- the lines of the entries so far, and no write has failed

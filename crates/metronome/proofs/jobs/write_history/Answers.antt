@@ -1,6 +1,6 @@
 use Rattle.std.proofs.Common.{◌++◌, append_assoc, ap, ◌∙◌}
-use Rattle.player.specs.declared.style.Style.TheVariants.{Entries}
-use Rattle.player.specs.Playing.{written_of, written_version}
+use Rattle.trace.specs.declared.player.style.Style.TheVariants.{Entries}
+use Rattle.trace.specs.Playing.{written_of, written_version}
 use Rattle.inspector.proofs.Parts.{part_first, part_after, at_err, err_so}
 use Rattle.metronome.proofs.Finishing.{ok_so}
 use Rattle.metronome.proofs.jobs.write_history.Goals as goal

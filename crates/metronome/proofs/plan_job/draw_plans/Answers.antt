@@ -1,6 +1,6 @@
 use Rattle.std.proofs.Common.{List, inr, refl, sym, subst, arith}
 use Rattle.std.specs.Prelude.{option_map}
-use Rattle.streams.specs.Streams.{taken_by}
+use Rattle.trace.specs.Streams.{taken_by}
 use Rattle.trace.specs.declared.fault.PlayFault.TheVariants as texts
 use Rattle.pictures.specs.PlanBars.{bars_picture}
 use Rattle.pictures.specs.declared.plan_bars.PlanBar.{PlanBar}

@@ -1,5 +1,5 @@
 use Rattle.std.proofs.Common.{Err, Ok, Some, inl, inr, ap, take, refl, subst, sym, rules, arith}
-use Rattle.streams.specs.Streams.{taken_by}
+use Rattle.trace.specs.Streams.{taken_by}
 use Rattle.metronome.specs.Faults.{IsUnreadable}
 use Rattle.metronome.specs.Files.{no_file}
 use Rattle.metronome.specs.Run.{other_file}

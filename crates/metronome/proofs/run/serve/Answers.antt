@@ -1,4 +1,4 @@
-use Rattle.streams.specs.Streams.{taken_by}
+use Rattle.trace.specs.Streams.{taken_by}
 use Rattle.metronome.proofs.Below.{done_below, counts_below}
 use Rattle.metronome.proofs.Obeying.{begins_on, stays_from}
 use Rattle.metronome.proofs.run.serve.Goals as goal

@@ -1,6 +1,6 @@
 use Rattle.std.proofs.Common.{sym, subst}
-use Rattle.streams.specs.Streams.{given_by, taken_by}
-use Rattle.player.specs.declared.style.Style.{Style}
+use Rattle.trace.specs.Streams.{given_by, taken_by}
+use Rattle.trace.specs.declared.player.style.Style.{Style}
 use Rattle.command_line.specs.declared.job.Job.{Job}
 use Rattle.metronome.specs.Done.{JobDone}
 use Rattle.metronome.specs.Jobs.{TracePlayed}

@@ -1,6 +1,6 @@
 use Rattle.std.proofs.Common.{◌≡◌, ◌++◌, List, Ok, Err, refl, sym, subst, arith}
 use Rattle.std.specs.Prelude.{Result}
-use Rattle.streams.specs.Streams.{GrowsByPart, given_by}
+use Rattle.trace.specs.Streams.{GrowsByPart, given_by}
 use Rattle.pictures.specs.declared.sample.Sample.{Sample}
 use Rattle.pictures.specs.declared.over_time.Scale.{Scale}
 use Rattle.pictures.specs.OverTime.{time_picture}

@@ -1,5 +1,5 @@
 use Rattle.std.proofs.Common.{subst}
-use Rattle.streams.specs.Streams.{taken_by}
+use Rattle.trace.specs.Streams.{taken_by}
 use Rattle.metronome.specs.declared.fault.Ending.TheVariants.{Done}
 use Rattle.metronome.specs.Told.{TextWritten}
 use Rattle.metronome.proofs.MadeText.{ended_told}

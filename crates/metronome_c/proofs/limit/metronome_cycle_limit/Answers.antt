@@ -1,8 +1,8 @@
 use Rattle.std.proofs.Common.{rules, ◌≡◌, ◌∙◌, sym, ap}
 use Rattle.std.specs.Prelude.{Some, None}
 use Rattle.std.specs.Result.{result_err}
-use Rattle.settings.specs.declared.ranges.Ranges.TheVariants.{Library}
-use Rattle.settings.specs.Config.{fault_of}
+use Rattle.size_classes.specs.declared.ranges.Ranges.TheVariants.{Library}
+use Rattle.size_classes.specs.Config.{fault_of}
 use Rattle.metronome_c.proofs.Limits.{limit_told, limit_refused}
 use Rattle.metronome_c.proofs.limit.metronome_cycle_limit.Goals as goal
 

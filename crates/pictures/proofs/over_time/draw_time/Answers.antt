@@ -1,6 +1,6 @@
 use Rattle.std.proofs.Common.{ℕ, ◌≡◌, ◌++◌, take, subst}
 use Rattle.std.specs.Prelude.{OnOk, OnErr}
-use Rattle.streams.specs.Streams.{GrowsByPart}
+use Rattle.trace.specs.Streams.{GrowsByPart}
 use Rattle.pictures.specs.Elements.{svg_text}
 use Rattle.pictures.specs.OverTime.{time_chart}
 use Rattle.pictures.proofs.over_time.draw_time.Goals as goal

@@ -1,5 +1,5 @@
 use Rattle.std.proofs.Common.{◌≡◌, ◌++◌, OnOk, OnErr, ap, ◌∙◌, subst}
-use Rattle.streams.specs.Streams.{GrowsByPart}
+use Rattle.trace.specs.Streams.{GrowsByPart}
 use Rattle.pictures.specs.Elements.{svg_text}
 use Rattle.pictures.specs.Squares.{squares_for}
 use Rattle.pictures.proofs.SquareLemmas.{each_is}

@@ -1,6 +1,6 @@
 use Rattle.std.proofs.Common.{◌≡◌, ◌++◌, List, None, Some, arith, subst}
 use Rattle.std.specs.Prelude.{OnErr, OnOk}
-use Rattle.streams.specs.Streams.{GrowsByPart}
+use Rattle.trace.specs.Streams.{GrowsByPart}
 use Rattle.pictures.specs.declared.element.Element.{Element}
 use Rattle.pictures.specs.Elements.{svg_text}
 use Rattle.pictures.proofs.SquareLemmas.{used_is}

@@ -1,6 +1,6 @@
 use Rattle.std.proofs.Common.{◌-◌}
 use Rattle.std.specs.Prelude.{option_map}
-use Rattle.settings.specs.declared.config.TheConstants.{MOST_HEAP_PAGES}
+use Rattle.size_classes.specs.declared.config.TheConstants.{MOST_HEAP_PAGES}
 use Rattle.plans.specs.Bars.{IsBar}
 use Rattle.paced.specs.Rooms.{made_of}
 use Rattle.plans.proofs.Rows.{HasItems}

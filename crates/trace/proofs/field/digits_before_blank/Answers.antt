@@ -1,5 +1,5 @@
 use Rattle.std.proofs.Common.{◌+◌, drop}
-use Rattle.streams.proofs.Cuts.{rest_of}
+use Rattle.trace.proofs.Cuts.{rest_of}
 use Rattle.trace.proofs.Fronts.{field_is, narrow_is}
 use Rattle.trace.proofs.field.digits_before_blank.Goals as goal
 

@@ -1,6 +1,6 @@
 use Rattle.std.proofs.Common.{◌+◌, ◌-◌, ◌^◌}
 use Rattle.trace.specs.Handling.{HandlesLine}
-use Rattle.streams.specs.Streams.{given_by}
+use Rattle.trace.specs.Streams.{given_by}
 use Rattle.trace.proofs.LinesProcessed.{SoFar}
 use Rattle.trace.proofs.Reading.{IsReading}
 use Rattle.trace.proofs.line_handler.each_line.Given as goal

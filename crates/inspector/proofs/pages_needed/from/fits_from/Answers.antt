@@ -1,6 +1,6 @@
 use Rattle.std.proofs.Common.{◌≡◌, ℕ, ◌+◌, ◌≤◌, Option, Some, None, arith, sym, subst}
 use Rattle.std.specs.Option.{option_or}
-use Rattle.settings.specs.declared.config.TheConstants.{MOST_PAGES}
+use Rattle.size_classes.specs.declared.config.TheConstants.{MOST_PAGES}
 use Rattle.space.specs.Fitting.{pace_in, pages_needed, FitsIn}
 use Rattle.inspector.specs.NeededReport.{IsFrom}
 use Rattle.inspector.proofs.pages_needed.Onward.{HoldsFrom, with_next, without_next}

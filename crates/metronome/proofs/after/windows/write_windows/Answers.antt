@@ -1,6 +1,6 @@
 use Rattle.std.proofs.Common.{◌≡◌, List, ℕ, ◌+◌, [], ◌∷◌, ◌++◌, get_or, take, drop, ap, ◌∙◌, sym, subst, append-nil, refl, arith}
 use Rattle.std.proofs.lemmas.List.{take-append-drop, take_more, take_all}
-use Rattle.streams.specs.Streams.{GrowsByPart}
+use Rattle.trace.specs.Streams.{GrowsByPart}
 use Rattle.metronome.specs.Windows.{AllTold}
 use Rattle.metronome.proofs.Telling.{err_so, told_until, told_more, told_part}
 use Rattle.metronome.proofs.Failing.{memory_unread, memory_unwritten, none_read, one_written}

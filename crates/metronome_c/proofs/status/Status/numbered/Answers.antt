@@ -4,7 +4,7 @@ use Rattle.std.specs.Option.{option_map}
 use Rattle.std.proofs.lemmas.Iterator.{YieldsList-from_slice, YieldsList-from_map}
 use Rattle.std.proofs.lemmas.Iterator.Consumers.{YieldsList-at, YieldsList-from_chain, YieldsList-from_copied}
 use Rattle.std.proofs.lemmas.Iterator.Search.{find_from_yields_List}
-use Rattle.settings.specs.declared.key.TheConstants.Key.{ALL}
+use Rattle.size_classes.specs.declared.key.TheConstants.Key.{ALL}
 use Rattle.metronome_c.specs.declared.status.Status.TheVariants.{SettingOutOfRange}
 use Rattle.metronome_c.specs.declared.status.TheConstants.Status.{BEFORE_SETTINGS, BEHIND_SETTINGS}
 use Rattle.metronome_c.specs.Status.{status_number}

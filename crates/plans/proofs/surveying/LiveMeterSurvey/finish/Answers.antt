@@ -2,7 +2,7 @@ use Rattle.std.proofs.Common.{subst, sym}
 use Rattle.graph_heap.specs.Graph.{Graph}
 use Rattle.space.specs.Demand.{blocks_of}
 use Rattle.sizing.specs.Counts.{AreBlocks}
-use Rattle.player.specs.Observing.{run_by}
+use Rattle.trace.specs.Observing.{run_by}
 use Rattle.plans.specs.Live.{IsMostLive}
 use Rattle.plans.proofs.surveying.LiveMeterSurvey.finish.Goals as goal
 

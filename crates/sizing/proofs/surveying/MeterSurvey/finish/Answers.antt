@@ -1,8 +1,8 @@
 use Rattle.std.proofs.Common.{subst}
 use Rattle.heap_model.specs.Event.{Runs}
 use Rattle.heap_model.specs.ReachedFrom.{opened}
-use Rattle.settings.specs.declared.config.TheConstants.{LEAST_BUDGET}
-use Rattle.player.proofs.LinesSeen.{events_brought}
+use Rattle.size_classes.specs.declared.config.TheConstants.{LEAST_BUDGET}
+use Rattle.trace.proofs.LinesSeen.{events_brought}
 use Rattle.sizing.specs.Measured.{IsMeasured}
 use Rattle.sizing.proofs.Promises.{run_budgets, promised}
 use Rattle.sizing.proofs.surveying.MeterSurvey.finish.Goals as goal

@@ -1,5 +1,5 @@
 use Rattle.std.proofs.Common.{None, ◌+◌, arith}
-use Rattle.streams.proofs.Cuts.{rest_of}
+use Rattle.trace.proofs.Cuts.{rest_of}
 use Rattle.trace.proofs.Fronts.{Pair, no_pair, pair_count, field_is, field_none, blank_moved}
 use Rattle.trace.proofs.field.U64Leading.lead.Goals.{else-count-bytes-via-then-count-bytes+else-bytes-count-eq32, else-count-bytes-via-else-count-bytes}
 use Rattle.trace.proofs.field.U64Leading.lead.Goals as goal

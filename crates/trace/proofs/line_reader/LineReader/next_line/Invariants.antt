@@ -1,5 +1,5 @@
 use Rattle.std.proofs.Common.{◌≡◌, ◌+◌, ◌-◌, ◌≤◌, length}
-use Rattle.streams.specs.Streams.{Stays}
+use Rattle.trace.specs.Streams.{Stays}
 use Rattle.trace.specs.Lines.{Comes}
 use Rattle.trace.proofs.line_reader.LineReader.next_line.Given as goal
 

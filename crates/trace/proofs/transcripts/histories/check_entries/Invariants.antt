@@ -1,5 +1,5 @@
 use Rattle.std.proofs.Common.{◌≡◌, ◌-◌, ◌≤◌, ◌^◌, length}
-use Rattle.streams.specs.Streams.{given_by}
+use Rattle.trace.specs.Streams.{given_by}
 use Rattle.trace.proofs.LinesProcessed.{SoFar}
 use Rattle.trace.specs.LinesProcessed.{LineEffect}
 use Rattle.trace.specs.Histories.{DoesNothing, DoesEntry}

@@ -1,5 +1,5 @@
 use Rattle.std.proofs.lemmas.Result.{err_from_is_err_and}
-use Rattle.streams.specs.Streams.{given_by}
+use Rattle.trace.specs.Streams.{given_by}
 use Rattle.trace.proofs.transcripts.Listing.{scripts_read, scripts_stopped}
 use Rattle.trace.proofs.transcripts.scripts.read_scripts.Goals as goal
 

@@ -1,6 +1,6 @@
 use Rattle.std.proofs.Common.{◌≡◌, List, ◌++◌, ap, ◌∙◌, sym, subst}
 use Rattle.std.specs.Prelude.{OnOk, OnErr}
-use Rattle.streams.specs.Streams.{GrowsByPart}
+use Rattle.trace.specs.Streams.{GrowsByPart}
 use Rattle.graph_heap.specs.declared.command.Limits.{Limits}
 use Rattle.pictures.specs.declared.graph.statement.Statement.{Statement}
 use Rattle.pictures.specs.GraphDrawing.{root_at, holder_drawn}

@@ -1,7 +1,7 @@
 use Rattle.std.proofs.Common.{◌∷◌, [], ◌++◌, ◌∙◌, ap, subst, sym, arith}
 use Rattle.std.proofs.lemmas.Result.{on_ok_weaker}
 use Rattle.heap_model.specs.Event.{Course}
-use Rattle.player.specs.Observing.{moment}
+use Rattle.trace.specs.Observing.{moment}
 use Rattle.pictures.specs.Sampler.{IsAlong}
 use Rattle.pictures.proofs.timeline.Seeing.{on_err}
 use Rattle.pictures.proofs.timeline.observing.SamplerObserver.line_done.Goals as goal

@@ -1,4 +1,4 @@
-use Rattle.player.specs.Observing.{moment}
+use Rattle.trace.specs.Observing.{moment}
 use Rattle.pictures.proofs.timeline.Along.{first_taken}
 use Rattle.pictures.proofs.timeline.sampler.Sampler.new.Goals as goal
 

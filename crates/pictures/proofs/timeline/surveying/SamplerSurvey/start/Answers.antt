@@ -1,7 +1,7 @@
 use Rattle.std.proofs.Common.{◌∷◌, [], ◌∙◌, ap, subst}
 use Rattle.std.specs.Prelude.{IfOk}
 use Rattle.heap_model.specs.Event.{Course}
-use Rattle.player.specs.Observing.{moment}
+use Rattle.trace.specs.Observing.{moment}
 use Rattle.pictures.specs.Sampler.{IsAlong}
 use Rattle.pictures.proofs.timeline.surveying.SamplerSurvey.start.Goals as goal
 

@@ -1,9 +1,0 @@
-pub mod Doing
-pub mod First
-pub mod Lines
-pub mod Ticking
-pub mod Promised
-pub mod Sent
-pub mod Held
-pub mod Seeing
-pub mod LinesSeen

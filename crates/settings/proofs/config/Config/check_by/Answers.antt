@@ -1,6 +1,0 @@
-use Rattle.std.proofs.Common.{◌∙◌, sym}
-use Rattle.settings.proofs.InRange.{any_within}
-use Rattle.settings.proofs.config.Config.check_by.Goals as goal
-
-pub from_checked-requires : goal.from_checked-requires
-from_checked-requires c = any_within c.args.ranges c.args.settings.now (sym c.first_outside.ensures ∙ c.in-None.is)

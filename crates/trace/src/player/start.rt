@@ -1,0 +1,39 @@
+//! How quanta started.
+ghost use Rattle.std.specs.Prelude.{◌≡◌};
+ghost use Rattle.trace.specs.Starts.{name_of};
+
+use heap_model::phase::Phase;
+
+/// Which phase a collector is in, and not how far it has come.
+#[derive(Clone, Copy, Debug, PartialEq, Eq)]
+pub enum PhaseName {
+    Idle,
+    Roots,
+    Marking,
+    Sweeping,
+    Moving,
+}
+
+impl PhaseName {
+    /// Which phase this is.
+    pub fn of(phase: Phase) -> PhaseName
+        ensures { result ≡ name_of phase }
+    {
+        match phase {
+            Phase::Idle => PhaseName::Idle,
+            Phase::Roots { .. } => PhaseName::Roots,
+            Phase::Marking { .. } => PhaseName::Marking,
+            Phase::Sweeping { .. } => PhaseName::Sweeping,
+            Phase::Moving(_) => PhaseName::Moving,
+        }
+    }
+}
+
+/// How a quantum started that took ticks.
+#[derive(Clone, Copy, Debug, PartialEq, Eq)]
+pub struct QuantumStart {
+    /// The phase that the collector was in.
+    pub phase: PhaseName,
+    /// Whether it is the first one that took ticks since a cycle began.
+    pub opens_cycle: bool,
+}

@@ -1,0 +1,93 @@
+//! A sink that gathers what it takes.
+ghost use Rattle.std.specs.Prelude.{◌≡◌, ◌+◌, ◌<◌, ◌≤◌, ◌++◌, [], length, OnOk, OnErr};
+ghost use Rattle.std.proofs.Common.{rules, length-append};
+ghost use Rattle.trace.specs.Streams.{failed};
+
+use crate::streams::fault::WriteFailed;
+use crate::streams::sink::Sink;
+
+/// How many bytes wait, at most.
+const CAPACITY: usize = 65536;
+
+/// A sink that gathers what it takes, and writes it to the sink below in one piece: where it has no room for more, and where
+/// it is flushed. At most 65536 bytes wait in it. What waits when it is dropped is lost.
+#[derive(Drop)]
+pub struct BufferedSink<K: Drop> {
+    below: K,
+    bytes: [u8; CAPACITY],
+    end: usize,
+    ghost within: { end ≤ 65536 },
+}
+
+impl<K: Drop> BufferedSink<K> {
+    ghost use Rattle.trace.specs.BufferedSink.{sink_below, bytes_waiting};
+
+    /// A sink that has taken nothing yet.
+    pub fn new(below: K) -> BufferedSink<K>
+        ensures below { sink_below result ≡ below }
+        ensures waiting { bytes_waiting result ≡ [] }
+    {
+        BufferedSink {
+            below,
+            bytes: [0; CAPACITY],
+            end: 0,
+        }
+    }
+
+    /// The sink below.
+    pub fn get_ref(&self) -> &K
+        ensures { result.now ≡ sink_below self.now }
+    {
+        &self.below
+    }
+}
+
+impl<K: Sink + Drop> BufferedSink<K> {
+    ghost use Rattle.trace.specs.BufferedSink.{sink_below, bytes_waiting};
+
+    /// Writes some of what waits to the sink below.
+    fn send_some(&mut self) -> Result<(), WriteFailed>
+        requires { 0 < self.old.end }
+        ensures taken { K.taken (sink_below self.new) ++ bytes_waiting self.new
+            ≡ K.taken (sink_below self.old) ++ bytes_waiting self.old }
+        ensures ok { OnOk result (self.new.end < self.old.end) }
+        ensures err { OnErr result (0 < length (bytes_waiting self.new)) }
+        ensures sent { length (K.taken (sink_below self.old)) ≤ length (K.taken (sink_below self.new)) }
+        ensures cause { K.failures (sink_below self.new) ≡ K.failures (sink_below self.old) + failed result }
+    {
+        let count = self.below.write(&self.bytes[..self.end])?;
+        self.bytes.copy_within(count..self.end, 0);
+        self.end -= count;
+        Ok(())
+    }
+}
+
+impl<K: Sink + Drop> Sink for BufferedSink<K> {
+    ghost use Rattle.trace.specs.BufferedSink.{sink_below, bytes_waiting};
+
+    ghost taken = { λ s. K.taken (sink_below s) ++ bytes_waiting s };
+
+    ghost sent = { λ s. length (K.taken (sink_below s)) };
+
+    ghost failures = { λ s. K.failures (sink_below s) };
+
+    ghost within = { λ s. Prim.search (rules, length-append (K.taken (sink_below s)) (bytes_waiting s)) };
+
+    #[inline(always)]
+    fn write(&mut self, bytes: &[u8]) -> Result<usize, WriteFailed> {
+        if bytes.len() > CAPACITY - self.end {
+            self.flush()?;
+        }
+        let count = bytes.len().min(CAPACITY - self.end);
+        self.bytes[self.end..self.end + count].copy_from_slice(&bytes[..count]);
+        self.end += count;
+        Ok(count)
+    }
+
+    fn flush(&mut self) -> Result<(), WriteFailed> {
+        while self.end > 0 {
+            self.send_some()?;
+        }
+        Ok(())
+    }
+}

@@ -13,6 +13,7 @@ mod pacing;
 mod players;
 mod refusing;
 mod servers;
+mod slow_heap;
 
 /// A page.
 const ONE_PAGE: Settings = Settings {
@@ -36,6 +37,24 @@ const MANY_SLOTS: Settings = Settings {
     statics: 0,
     ..FOUR_PAGES
 };
+
+/// Few identities, so that an object may be refused for want of one.
+const TWO_IDENTITIES: Settings = Settings {
+    identities: 2,
+    ..FOUR_PAGES
+};
+
+/// Commands with many refusals among their replies.
+const COMMANDS: &str =
+    "2 clear 0\n0 clear 4\n0 load 0 1 0\n0 new 0 refs 2\n0 get 0 0\n0 load 1 0 2\n\
+    0 loadstatic 1 1\n0 new 1 plain 200 53\n0 new 1 words 1\n0 put 1 0 18446744073709551615\n0 casput 1 0 5 6\n\
+    0 casput 1 0 18446744073709551615 6\n0 get 1 0\n0 new 2 words 1\n0 store 1 0 0\n0 cas 0 1 0 0\n0 cas 0 1 2 0\n\
+    0 load 2 0 1\n";
+
+/// Their replies.
+const REPLIES: &str =
+    "refused 1\nrefused 1\nrefused 2\nmade 1\nrefused 4\nrefused 3\nrefused 8\nrefused 5\n\
+    made 2\ndone\nkeptword 18446744073709551615\nstored\nword 6\nrefused 6\nrefused 4\nkept 0\nstored\nref 1\n";
 
 /// The configuration of settings.
 fn config_of(rt: &impl Abort, settings: &Settings) -> Config {

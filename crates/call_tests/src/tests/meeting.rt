@@ -1,10 +1,10 @@
-//! A gate that holds two workers and the collector until all three have come: before each command and budget, and
-//! after the last.
+//! A gate that holds two workers and the collector until all three have come: before the command and the budget, and
+//! after it.
 ghost use Rattle.std.specs.Prelude.{◌<◌};
 
 use super::*;
 use graph_heap::NoMemory;
-use heap_server::{Gate, play_threads};
+use heap_server::{Gate, OpenGate, play_threads};
 use std::sync::atomic::{AtomicU64, Ordering};
 use std::thread;
 
@@ -14,7 +14,7 @@ const TURNS: u32 = 1000000;
 /// A flag for each worker and each count, and how many workers have given up.
 #[derive(Drop)]
 struct Meeting {
-    flags: [AtomicU64; 9],
+    flags: [AtomicU64; 6],
     late: AtomicU64,
 }
 
@@ -28,9 +28,6 @@ impl Meeting {
                 AtomicU64::new(0),
                 AtomicU64::new(0),
                 AtomicU64::new(0),
-                AtomicU64::new(0),
-                AtomicU64::new(0),
-                AtomicU64::new(0),
             ],
             late: AtomicU64::new(0),
         }
@@ -38,7 +35,7 @@ impl Meeting {
 
     /// Whether all three have come, having done as much.
     fn is_met(&self, made: usize) -> bool
-        requires { made < 3 }
+        requires { made < 2 }
     {
         let row = made * 3;
         self.flags[row].load(Ordering::SeqCst) == 1
@@ -48,7 +45,7 @@ impl Meeting {
 
     /// Waits for the others.
     fn wait(&self, made: usize)
-        requires { made < 3 }
+        requires { made < 2 }
     {
         for _ in 0..TURNS {
             if self.is_met(made) {
@@ -62,30 +59,43 @@ impl Meeting {
 
 impl Gate for Meeting {
     fn pass(&self, worker: u32, made: u64) {
-        if worker < 3 && made < 3 {
+        if worker < 3 && made < 2 {
             self.flags[made as usize * 3 + worker as usize].store(1, Ordering::SeqCst);
             self.wait(made as usize);
         }
     }
 }
 
-/// Of 512 roots each budget scans 256.
+/// Two scripts of one command each, and one budget.
 #[test]
 fn all_three_meet(rt: HostRuntime) -> Result<(), NoMemory> {
     let alloc = rt.alloc();
     let meeting = Meeting::new();
     let scripts = vec![in alloc;
-        vec![in alloc; Command::Clear { dst: 0 }, Command::Clear { dst: 2 }]?,
-        vec![in alloc; Command::Clear { dst: 1 }, Command::Clear { dst: 3 }]?,
+        vec![in alloc; Command::Clear { dst: 0 }]?,
+        vec![in alloc; Command::Clear { dst: 1 }]?,
     ]?;
-    let budgets = vec![in alloc; 256; 2]?;
-    let config = config_of(&rt, &MANY_SLOTS);
+    let budgets = vec![in alloc; 256]?;
+    let config = config_of(&rt, &FOUR_PAGES);
     assert!(&rt; config.mutators == 2);
     let outcome = play_threads(&rt, alloc, &config, scripts, budgets, &meeting)?;
-    assert!(&rt; outcome.all && outcome.recorded.heap().units() == 512);
+    assert!(&rt; outcome.all && outcome.recorded.heap().units() == 16);
     for flag in &meeting.flags {
         assert!(&rt; flag.load(Ordering::SeqCst) == 1);
     }
     assert!(&rt; meeting.late.load(Ordering::SeqCst) == 0);
+    Ok(())
+}
+
+/// The collector spends its budget where no mutator asks anything: 9 roots, 4 pages, and a unit for each of the three changes of
+/// phase.
+#[test]
+fn the_collector_works_alone(rt: HostRuntime) -> Result<(), NoMemory> {
+    let alloc = rt.alloc();
+    let budgets = vec![in alloc; 256]?;
+    let config = config_of(&rt, &FOUR_PAGES);
+    let outcome = play_threads(&rt, alloc, &config, Vec::new(alloc), budgets, &OpenGate)?;
+    assert!(&rt; outcome.all && outcome.recorded.heap().units() == 16);
+    assert!(&rt; outcome.recorded.history().is_empty());
     Ok(())
 }

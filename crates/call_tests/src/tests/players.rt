@@ -47,24 +47,6 @@ fn ticks_end_where_memory_is_refused(rt: HostRuntime) -> Result<(), Fail> {
     Ok(())
 }
 
-/// Few identities, so that an object may be refused for want of one.
-const TWO_IDENTITIES: Settings = Settings {
-    identities: 2,
-    ..FOUR_PAGES
-};
-
-/// Commands with many refusals among their replies.
-const COMMANDS: &str =
-    "2 clear 0\n0 clear 4\n0 load 0 1 0\n0 new 0 refs 2\n0 get 0 0\n0 load 1 0 2\n\
-    0 loadstatic 1 1\n0 new 1 plain 200 53\n0 new 1 words 1\n0 put 1 0 18446744073709551615\n0 casput 1 0 5 6\n\
-    0 casput 1 0 18446744073709551615 6\n0 get 1 0\n0 new 2 words 1\n0 store 1 0 0\n0 cas 0 1 0 0\n0 cas 0 1 2 0\n\
-    0 load 2 0 1\n";
-
-/// Their replies.
-const REPLIES: &str =
-    "refused 1\nrefused 1\nrefused 2\nmade 1\nrefused 4\nrefused 3\nrefused 8\nrefused 5\n\
-    made 2\ndone\nkeptword 18446744073709551615\nstored\nword 6\nrefused 6\nrefused 4\nkept 0\nstored\nref 1\n";
-
 /// How many lines there are of commands, and of replies.
 const LINES: usize = 18;
 
@@ -87,6 +69,26 @@ fn a_failed_write_ends_a_play_with_its_command(rt: HostRuntime) -> Result<(), Fa
         assert_eq!(rt; player.recorded().history().len(), call.min(LINES));
         assert_eq!(rt; line_ends(written), call.saturating_sub(1));
         assert!(rt; REPLIES.as_bytes().starts_with(written));
+    }
+    Ok(())
+}
+
+/// Each read fails in turn, and the last time none: the lines that were read before it are done, and their replies written.
+#[test]
+fn a_failed_read_ends_a_play_after_its_lines(rt: HostRuntime) -> Result<(), Fail> {
+    // The first read gives all lines, and the second none.
+    for (call, ended, lines) in [
+        (1u64, Err(PlayFault::Read), 0),
+        (2, Err(PlayFault::Read), LINES),
+        (3, Ok(()), LINES),
+    ] {
+        let mut player = Player::new(rt.alloc(), &config_of(&rt, &TWO_IDENTITIES))?;
+        let mut source = FailAt::new(MemorySource::new(COMMANDS.as_bytes()), call);
+        let mut sink = MemorySink::new(rt.alloc());
+        let found = play(&mut source, &mut sink, &mut player, Style::Replies);
+        assert_eq!(rt; found, ended);
+        assert_eq!(rt; player.recorded().history().len(), lines);
+        assert_eq!(rt; line_ends(sink.bytes()), lines);
     }
     Ok(())
 }

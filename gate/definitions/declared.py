@@ -130,20 +130,25 @@ def read_code(crate):
     return [CodeFile(crate, path, text) for path, text in files if "tests" not in path.split("/")]
 
 
+def public_files(texts):
+    """The files of a crate's code whose modules can be named from outside: the root, and what one of these declares as public."""
+    found, more = set(), {"src/lib"}
+    while more:
+        found |= more
+        declared = ((path, name) for path in more for name in re.findall(r"^pub mod (\w+);", texts.get(path, ""), re.M))
+        more = {f"{path.removesuffix('/lib')}/{name}" for path, name in declared} & texts.keys() - found
+    return found
+
+
 def public_names(files):
     """The types, traits, constants and free functions of a crate that can be named from outside. Of a program or a library for
     C all that it declares public counts."""
     texts = {it.path: it.text for it in files}
-    root = texts.get("src/lib", "")
-    public_files, names = {"src/lib"}, set()
-    for path in sorted(texts):
-        if path in public_files:
-            above = path.removesuffix("/lib")
-            public_files |= {f"{above}/{it}" for it in re.findall(r"^pub mod (\w+);", texts[path], re.M)}
-    for path in public_files & texts.keys():
+    inside, names = public_files(texts), set()
+    for path in inside & texts.keys():
         for words in re.findall(r"^pub use [\w:]+::\{?([\w\s,]+)\}?;", texts[path], re.M):
             names |= {it.strip() for it in words.split(",")}
-    if len(public_files) == 1 and not names and not re.search("^pub fn", root, re.M):
-        public_files = set(texts)
-    inside = [it for it in files if it.path in public_files]
-    return names.union(*(it.public for it in inside), *({call.name for call in it.calls if not call.owner} for it in inside))
+    if len(inside) == 1 and not names and not re.search("^pub fn", texts.get("src/lib", ""), re.M):
+        inside = set(texts)
+    declaring = [it for it in files if it.path in inside]
+    return names.union(*(it.public for it in declaring), *({call.name for call in it.calls if not call.owner} for it in declaring))

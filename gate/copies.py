@@ -80,28 +80,31 @@ def restated(edit):
 
 def apart(edits):
     """Edits, each with the paths of the functions that it turns: of those that turn one function all but the first turn copies of it,
-    and so does what turns its contract too, by which others stand; none where an edit turns something else."""
-    turned, found = {}, []
-    for edit in edits:
-        bodies = functions.turned_by(edit)
-        paths = bodies or restated(edit)
+    and so do those that turn one which another turns with others, and what turns its contract too, by which others stand; none
+    where an edit turns something else."""
+    bodies = [functions.turned_by(it) for it in edits]
+    # (the first copy is one that no edit turns)
+    turned, found = {path: 2 for paths in bodies if len(paths) > 1 for path in paths}, []
+    for edit, paths in zip(edits, bodies):
+        number = 0 if paths else 2
+        paths = paths or restated(edit)
         if len(paths) == 1 and can_be(edit.crate.folder, paths[0]):
-            # (the first copy is one that no edit turns)
-            number = turned.get(paths[0], 0 if bodies else 2)
+            number = turned.get(paths[0], number)
             turned[paths[0]] = max(number, 1) + 1
             paths = (name_of(paths[0], number),)
         found.append((edit, paths))
     return found
 
 
-def alone(edits, others):
-    """Those of these edits that turn none of the functions that others turn, and aren't refused by a function that refuses them."""
+def alone(edits, others, called):
+    """Those of these edits that turn a function which others can call, whose paths these are, and that none of the others turns or
+    is refused by."""
 
     def reached(them):
-        return {of(it)[0] for edit, paths in apart(them) if not edit.fault for it in paths or edit.refused_by}
+        return {of(it)[0] for edit, paths in apart(them) if not edit.fault for it in paths or edit.refused_by} & called
 
     known = reached(others)
-    return [it for it in edits if not reached([it]) & known]
+    return [it for it in edits if reached([it]) - known]
 
 
 def control(crate):

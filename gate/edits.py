@@ -79,3 +79,9 @@ def edits_of(crate, folder):
 def wrong_bodies(crate, is_quick=False):
     """The wrong bodies of a crate; without the slow ones where the run is to be quick."""
     return edits_of(crate, FOLDER) + ([] if is_quick else edits_of(crate, SLOW))
+
+
+def twice(them):
+    """Those of these edits whose name one before them has."""
+    known = set()
+    return [it for it in them if it.name in known or known.add(it.name)]

@@ -284,8 +284,22 @@ def leaves_slow_ones(crate):
     return [
         sorted(every) == sorted(f"told/{name}" for name, *_ in CASES),
         sorted(set(every) - set(quick)) == sorted(f"told/{name}" for name in SLOW),
-        [it.name for it in copies.alone(slow, others)] == ["told/asks_for_none"],
+        [it.name for it in copies.alone(slow, others, {"few", "total"})] == ["told/asks_for_none"],
+        copies.alone(slow, others, {"total"}) == [],
+        [it.name for it in edits.twice([*others[:2], others[0]])] == [others[0].name],
     ]
+
+
+def goes_together(crate):
+    """Whether an edit that turns two functions, and one that turns the first of them, are tried at once, and both are refused."""
+    file = f"{crate.folder}/{edits.FOLDER}/turns_two.edit"
+    with open(file, "w", encoding="utf-8") as opened:
+        opened.write("file: src/lib.rt\nold: x as u32 + 1\nnew: x as u32 + 4\nold: 4 + 3\nnew: 4 + 4\n")
+    both = [edits.read(crate, f"{crate.folder}/{edits.FOLDER}/adds_two.edit"), edits.read(crate, file)]
+    os.remove(file)
+    planned = trials.planned(crate, both)
+    found = [it.kind for trial in planned for it in trials.tried(trial)[0]]
+    return [[it.paths for it in planned] == [[("more_turned2",), ("more", "seven")]], found == [REFUSED, REFUSED]]
 
 
 def asks_besides(crate):
@@ -306,7 +320,7 @@ def passed(jobs):
         made = run.made([crate], jobs, anew=False)
         found = made.found
         good = [*judged(made), *stops(crate), *keeps(crate), guards(crate), is_judged_beside_callers(crate)]
-        good += asks_besides(crate) + leaves_slow_ones(crate)
+        good += asks_besides(crate) + leaves_slow_ones(crate) + goes_together(crate)
         with tempfile.TemporaryDirectory(prefix="wrong-bodies-") as other:
             good.append(leads(crate_in(other), jobs))
         left = {it.name for it in run.Run([crate], anew=False).left(crate)}

@@ -3,7 +3,9 @@ import os
 import subprocess
 
 TOP = os.path.dirname(os.path.dirname(os.path.dirname(os.path.abspath(__file__))))
-PROGRAM = f"{TOP}/bin/metronome"
+
+# the program that is run
+program = f"{TOP}/crates/metronome/out/metronome"
 
 CELLS = [0, 0, 0, 0, 1, 1, 2, 3, 251, 252, 503, 504, 900, 63503, 63504, 3999999, 4294967295]
 LENGTHS = [0, 1, 2, 3, 5, 251, 252, 253, 504, 505, 1500, 63504, 63505, 63757, 4000000, 4000001, 4294967295]
@@ -127,7 +129,19 @@ def is_command(line):
     return line[:1].isdigit()
 
 
-def run(words, text):
+def text(lines):
+    """Lines as one text."""
+    return "".join(f"{it}\n" for it in lines)
+
+
+def written(path, contents):
+    """Writes a file; its path."""
+    with open(path, "w", encoding="utf-8") as it:
+        it.write(contents)
+    return path
+
+
+def run(words, given):
     """Runs the program on an input: its status, output and errors."""
-    ran = subprocess.run([PROGRAM, *words], input=text.encode(), capture_output=True, timeout=300)
+    ran = subprocess.run([program, *words], input=given.encode(), capture_output=True, timeout=300)
     return ran.returncode, ran.stdout.decode(), ran.stderr.decode()

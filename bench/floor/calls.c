@@ -1,6 +1,6 @@
 /*
- * calls KIND PAGES COUNT MOST: prepares a heap of so many pages and does COUNT calls of a kind, those of bench/calls. Built with
- * -DFLOOR the heap is the one of floor.c, and else the library. It writes what bench/calls does: the kind, how many calls, how
+ * calls KIND PAGES COUNT MOST: prepares a heap of so many pages and does COUNT calls of a kind, those of `bench_calls`. Built with
+ * -DFLOOR the heap is the one of floor.c, and else the library. It writes what `bench_calls` does: the kind, how many calls, how
  * many of them answered other than they should, the sum of what they told, nanoseconds, and 0. What is prepared doesn't depend
  * on COUNT, so two runs differ by the calls alone.
  */

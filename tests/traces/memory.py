@@ -230,8 +230,7 @@ def program_of_tests(crate, takes_built):
 
 def refused(_, folder, words):
     """What is wrong with each run in which a request for memory is refused."""
-    source = f"{os.path.dirname(os.path.abspath(__file__))}/refuse.c"
-    subprocess.run(["cc", "-shared", "-fPIC", "-O1", "-o", f"{folder}/refuse.so", source], check=True)
+    subprocess.run(["cc", "-shared", "-fPIC", "-O1", "-o", f"{folder}/refuse.so", f"{drawn.TOP}/tests/refuse.c"], check=True)
     write_files(folder)
     for wanted, run in RUNS:
         yield from faults_of(wanted, run, folder)

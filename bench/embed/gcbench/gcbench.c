@@ -11,7 +11,7 @@
 enum { LEAST_DEPTH = 4, ARRAY_LENGTH = 500000 };
 
 static uint64_t nodes;
-static struct longest stops;
+static int64_t longest_stop;
 static int are_timed;
 
 /* A call that may stop the program. */
@@ -19,7 +19,8 @@ static int are_timed;
     do { \
         int64_t began = are_timed ? nanoseconds(CLOCK_THREAD_CPUTIME_ID) : 0; \
         call; \
-        if (are_timed) add_call(&stops, nanoseconds(CLOCK_THREAD_CPUTIME_ID) - began); \
+        int64_t took = are_timed ? nanoseconds(CLOCK_THREAD_CPUTIME_ID) - began : 0; \
+        if (took > longest_stop) longest_stop = took; \
     } while (0)
 
 static void new_node(tree *to) {
@@ -101,7 +102,7 @@ int main(int count, char **words) {
     int64_t began = nanoseconds(CLOCK_THREAD_CPUTIME_ID);
     benchmark(atoi(words[1]));
     double took = (double)(nanoseconds(CLOCK_THREAD_CPUTIME_ID) - began) / 1e9;
-    printf("%llu %.3f %.1f %ld\n", (unsigned long long)nodes, took, (double)stops.calls[0] / 1e3, resident());
+    printf("%llu %.3f %.1f %ld\n", (unsigned long long)nodes, took, (double)longest_stop / 1e3, resident());
     close_memory();
     return 0;
 }

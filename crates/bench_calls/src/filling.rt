@@ -4,7 +4,12 @@ use machine::Heap;
 use size_classes::{Config, Settings};
 
 /// A heap that empties so many pages after each sweep at most.
-pub fn new_heap(rt: &HostRuntime, pages: u32, mutators: i64, defrag_pages: i64) -> Option<Heap> {
+pub(crate) fn new_heap(
+    rt: &HostRuntime,
+    pages: u32,
+    mutators: i64,
+    defrag_pages: i64,
+) -> Option<Heap> {
     let settings = Settings {
         pages: i64::from(pages),
         mutators,
@@ -20,20 +25,20 @@ pub fn new_heap(rt: &HostRuntime, pages: u32, mutators: i64, defrag_pages: i64) 
 }
 
 /// Does a command of mutator 0 that must not be refused.
-pub fn must(heap: &mut Heap, command: Command) -> Option<()> {
+pub(crate) fn must(heap: &mut Heap, command: Command) -> Option<()> {
     match heap.step(0, command) {
         Reply::Refused(_) => None,
         _ => Some(()),
     }
 }
 
-pub fn plain(dst: u32, refs: u32, words: u32) -> Command {
+pub(crate) fn plain(dst: u32, refs: u32, words: u32) -> Command {
     let shape = Shape::Plain { refs, words };
     Command::New { dst, shape }
 }
 
 /// Arrays of one shape over half of the pages: each takes nearly 32, and a static names it.
-pub fn fill_half(heap: &mut Heap, pages: u32, shape: Shape) -> Option<()> {
+pub(crate) fn fill_half(heap: &mut Heap, pages: u32, shape: Shape) -> Option<()> {
     for k in 0..pages / 64 {
         must(heap, Command::New { dst: 255, shape })?;
         must(heap, Command::StoreStatic { k, src: 255 })?;
@@ -42,7 +47,7 @@ pub fn fill_half(heap: &mut Heap, pages: u32, shape: Shape) -> Option<()> {
 }
 
 /// 130 objects of 4 references and 4 words in the slots from 0, the references all to object 128.
-pub fn make_objects(heap: &mut Heap) -> Option<()> {
+pub(crate) fn make_objects(heap: &mut Heap) -> Option<()> {
     for dst in 0..130 {
         must(heap, plain(dst, 4, 4))?;
     }
@@ -54,7 +59,7 @@ pub fn make_objects(heap: &mut Heap) -> Option<()> {
 }
 
 /// Arrays of 1000 and of 4000000 words in slots 0 and 1, and of references in slots 2 and 3. They take some 3990 pages.
-pub fn make_arrays(heap: &mut Heap) -> Option<()> {
+pub(crate) fn make_arrays(heap: &mut Heap) -> Option<()> {
     let shapes = [
         Shape::WordArray(1000),
         Shape::WordArray(4000000),
@@ -94,7 +99,13 @@ fn fill_array(heap: &mut Heap, obj: u32, length: u32, words: u32, garbage: u32) 
 }
 
 /// Such arrays, so many, in the slots from 0.
-pub fn fill(heap: &mut Heap, arrays: u32, length: u32, words: u32, garbage: u32) -> Option<()> {
+pub(crate) fn fill(
+    heap: &mut Heap,
+    arrays: u32,
+    length: u32,
+    words: u32,
+    garbage: u32,
+) -> Option<()> {
     for obj in 0..arrays {
         fill_array(heap, obj, length, words, garbage)?;
     }
@@ -111,14 +122,14 @@ fn fill_slots(heap: &mut Heap, mutator: u32) {
 }
 
 /// The same of each of 64 mutators.
-pub fn fill_all_slots(heap: &mut Heap) {
+pub(crate) fn fill_all_slots(heap: &mut Heap) {
     for mutator in 0..64 {
         fill_slots(heap, mutator);
     }
 }
 
 /// An array of 252 references for each of 64 mutators, in its slot 0, each cell with an object of its own.
-pub fn fill_for_each(heap: &mut Heap) -> Option<()> {
+pub(crate) fn fill_for_each(heap: &mut Heap) -> Option<()> {
     fill(heap, 64, 252, 0, 0)?;
     for mutator in 0..64 {
         let (k, src) = (mutator, mutator);

@@ -1,4 +1,4 @@
-//! The collector: units of one stage, whole cycles, and the quanta of a trace.
+//! The collector: units of one stage, whole cycles, and the quanta of a trace; and the clock alone.
 use crate::measured::Measured;
 use graph_heap::{Command, Reply};
 use heap_model::phase::{Moving, Phase};
@@ -18,7 +18,7 @@ pub enum Stage {
     Emptying,
 }
 
-pub fn stage_of(heap: &Heap) -> Stage {
+pub(crate) fn stage_of(heap: &Heap) -> Stage {
     match heap.phase() {
         Phase::Idle => Stage::Idle,
         Phase::Roots { .. } => Stage::Roots,
@@ -30,7 +30,12 @@ pub fn stage_of(heap: &Heap) -> Stage {
 }
 
 /// Spends so many units in one stage, by quanta of at most 200000.
-pub fn spend(clock: &impl Clock, heap: &mut Heap, stage: Stage, count: u32) -> Option<Measured> {
+pub(crate) fn spend(
+    clock: &impl Clock,
+    heap: &mut Heap,
+    stage: Stage,
+    count: u32,
+) -> Option<Measured> {
     let mut left = count;
     let start = Instant::now(clock).ok()?;
     for _ in 0..10000 {
@@ -45,7 +50,7 @@ pub fn spend(clock: &impl Clock, heap: &mut Heap, stage: Stage, count: u32) -> O
 }
 
 /// A cycle begins and goes on to a stage.
-pub fn advance(heap: &mut Heap, stage: Stage) -> Option<()> {
+pub(crate) fn advance(heap: &mut Heap, stage: Stage) -> Option<()> {
     heap.begin().ok()?;
     for _ in 0..10000000 {
         if stage_of(heap) == stage {
@@ -68,12 +73,17 @@ pub struct Stages {
 
 /// A quantum. It is a function of its own, so that instructions can be counted in it.
 #[inline(never)]
-pub fn collect(heap: &mut Heap, budget: u32) -> Option<u32> {
+pub(crate) fn collect(heap: &mut Heap, budget: u32) -> Option<u32> {
     Some(heap.quantum(budget).ok()?.units)
 }
 
 /// A quantum, timed.
-pub fn quantum(clock: &impl Clock, heap: &mut Heap, budget: u32, sums: &mut Stages) -> Option<()> {
+pub(crate) fn quantum(
+    clock: &impl Clock,
+    heap: &mut Heap,
+    budget: u32,
+    sums: &mut Stages,
+) -> Option<()> {
     let stage = stage_of(heap);
     let start = Instant::now(clock).ok()?;
     let units = collect(heap, budget)?;
@@ -102,7 +112,7 @@ fn cycle(clock: &impl Clock, heap: &mut Heap, sums: &mut Stages) -> Option<()> {
 }
 
 /// So many cycles.
-pub fn cycles(clock: &impl Clock, heap: &mut Heap, count: u32) -> Option<Stages> {
+pub(crate) fn cycles(clock: &impl Clock, heap: &mut Heap, count: u32) -> Option<Stages> {
     let mut sums = Stages::default();
     for _ in 0..count {
         cycle(clock, heap, &mut sums)?;
@@ -137,7 +147,7 @@ fn flush(clock: &impl Clock, heap: &mut Heap, first: u32, sum: &mut Measured) ->
 }
 
 /// Four such quanta.
-pub fn full_buffers(clock: &impl Clock, heap: &mut Heap) -> Option<Measured> {
+pub(crate) fn full_buffers(clock: &impl Clock, heap: &mut Heap) -> Option<Measured> {
     let mut sum = Measured::default();
     heap.begin().ok()?;
     for first in [0, 63, 126, 189] {
@@ -147,7 +157,7 @@ pub fn full_buffers(clock: &impl Clock, heap: &mut Heap) -> Option<Measured> {
 }
 
 /// The lines of a trace: its commands are called, and its quanta measured.
-pub fn play(clock: &impl Clock, heap: &mut Heap, text: &[u8]) -> Option<Stages> {
+pub(crate) fn play(clock: &impl Clock, heap: &mut Heap, text: &[u8]) -> Option<Stages> {
     let mut sums = Stages::default();
     for line in text.split(|byte| *byte == b'\n') {
         match read_line(Version::First, line)? {
@@ -162,4 +172,14 @@ pub fn play(clock: &impl Clock, heap: &mut Heap, text: &[u8]) -> Option<Stages> 
         }
     }
     Some(sums)
+}
+
+/// The clock read twice, so many times.
+pub(crate) fn nothing(clock: &impl Clock, count: u32) -> Option<Measured> {
+    let mut sum = Measured::default();
+    for _ in 0..count {
+        let start = Instant::now(clock).ok()?;
+        sum.add(0, start.elapsed(clock).ok()?.as_nanos());
+    }
+    Some(sum)
 }

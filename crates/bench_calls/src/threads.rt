@@ -1,15 +1,10 @@
-//! Measures a heap that threads share. `shared SCRIPTS COMMANDS QUANTA` plays so many scripts of so many commands, each in a
-//! thread of its own, beside so many quanta of 256 units, and writes how many commands were done, the nanoseconds from before
-//! the heap was made until all threads had ended, and whether all was done.
-#![tactic(auto)]
-
+//! A heap that threads share: scripts of drawn commands, each in a thread of its own, beside quanta of 256 units.
+use crate::measured::Measured;
 use graph_heap::{Command, Shape};
 use heap_server::{OpenGate, play_threads};
 use size_classes::{Config, Settings};
 use std::alloc::{AllocGlobal, Global};
-use std::env;
-use std::process::ExitCode;
-use std::rt::{Clock, Env};
+use std::rt::Clock;
 use std::sync::Wait;
 use std::thread::Threads;
 use std::time::Instant;
@@ -55,21 +50,15 @@ fn scripts(alloc: Global, count: u32, commands: u32) -> Option<Vec<Vec<Command>>
     Some(scripts)
 }
 
-/// So many budgets of a quantum.
-fn budgets(alloc: Global, quanta: u32) -> Option<Vec<u32>> {
-    let mut budgets = Vec::new(alloc);
-    for _ in 0..quanta {
-        budgets.push(256).ok()?;
-    }
-    Some(budgets)
-}
-
-/// Plays what the words ask for, and writes what was measured.
-fn run<R: AllocGlobal + Clock + Env + Print + Threads + Wait + Sync>(rt: &R) -> Option<()> {
+/// The commands of scripts of so many each, beside so many quanta: how many were done, and the nanoseconds from before the heap is
+/// made until all threads have ended. One is wrong where not all was done.
+pub(crate) fn play<R: AllocGlobal + Clock + Threads + Wait + Sync>(
+    rt: &R,
+    count: u32,
+    commands: u32,
+    quanta: u32,
+) -> Option<Measured> {
     let alloc = rt.alloc();
-    let words: Vec<String> = env::args(rt).ok()?.collect(alloc).ok()?;
-    let number = |place: usize| words.get(place)?.as_str().parse::<u32>().ok();
-    let count = number(1)?;
     let settings = Settings {
         pages: 256,
         mutators: i64::from(count),
@@ -78,22 +67,19 @@ fn run<R: AllocGlobal + Clock + Env + Print + Threads + Wait + Sync>(rt: &R) -> 
         ..Settings::DEFAULTS
     };
     let config = Config::check_for_library(&settings).ok()?;
-    let scripts = scripts(alloc, count, number(2)?)?;
-    let budgets = budgets(alloc, number(3)?)?;
+    let scripts = scripts(alloc, count, commands)?;
+    let budgets = vec![in alloc; 256u32; quanta as usize].ok()?;
     if scripts.len() > config.mutators as usize {
         return None;
     }
     let start = Instant::now(rt).ok()?;
     let outcome = play_threads(rt, alloc, &config, scripts, budgets, &OpenGate).ok()?;
     let nanos = start.elapsed(rt).ok()?.as_nanos();
-    let done = outcome.recorded.history().len();
-    let all = outcome.all;
-    println!(rt; "{done} {nanos} {all}").ok()
-}
-
-fn main(rt: HostRuntime) -> ExitCode {
-    match run(&rt) {
-        Some(()) => ExitCode::from(0),
-        None => ExitCode::from(1),
-    }
+    let done = outcome.recorded.history().len() as u64;
+    Some(Measured {
+        count: done,
+        wrong: u64::from(!outcome.all),
+        nanos,
+        ..Measured::default()
+    })
 }

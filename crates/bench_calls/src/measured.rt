@@ -1,5 +1,4 @@
 //! What was measured.
-use std::fmt;
 
 /// How many calls or quanta were measured, how many of them answered other than they should, their units, their
 /// nanoseconds, and those of the longest quantum.
@@ -14,7 +13,7 @@ pub struct Measured {
 
 impl Measured {
     /// So many calls at one time.
-    pub fn calls(count: u32, wrong: u64, nanos: u128) -> Measured {
+    pub(crate) fn calls(count: u32, wrong: u64, nanos: u128) -> Measured {
         Measured {
             count: u64::from(count),
             wrong,
@@ -24,7 +23,7 @@ impl Measured {
     }
 
     /// The same, with the sum of what they told.
-    pub fn told(count: u32, wrong: u64, nanos: u128, units: u64) -> Measured {
+    pub(crate) fn told(count: u32, wrong: u64, nanos: u128, units: u64) -> Measured {
         Measured {
             units,
             ..Measured::calls(count, wrong, nanos)
@@ -32,7 +31,7 @@ impl Measured {
     }
 
     /// One more quantum.
-    pub fn add(&mut self, units: u32, nanos: u128) {
+    pub(crate) fn add(&mut self, units: u32, nanos: u128) {
         self.count = self.count.wrapping_add(1);
         self.units = self.units.wrapping_add(u64::from(units));
         self.nanos = self.nanos.wrapping_add(nanos);
@@ -40,12 +39,11 @@ impl Measured {
     }
 }
 
-impl fmt::Display for Measured {
-    fn fmt<W: fmt::Write>(&self, f: &mut fmt::Formatter<W>) -> fmt::Result {
-        write!(
-            f,
-            "{} {} {} {} {}",
-            self.count, self.wrong, self.units, self.nanos, self.longest
-        )
-    }
+/// Writes what was measured under a name.
+pub(crate) fn tell(rt: &impl Print, name: &str, it: &Measured) -> Option<()> {
+    println!(rt;
+        "{name} {} {} {} {} {}",
+        it.count, it.wrong, it.units, it.nanos, it.longest
+    )
+    .ok()
 }

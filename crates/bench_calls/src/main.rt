@@ -1,30 +1,37 @@
-//! Measures a heap by calls: no history is kept, and but for `play` no line read. `calls KIND PAGES COUNT MOST`
+//! Measures a heap by calls: no history is kept, and but for `play` no line read. `bench_calls KIND PAGES COUNT MOST`
 //! prepares a heap of so many pages, and does COUNT calls, or spends COUNT units of the collector, or does COUNT cycles
-//! of it. Each call is the command's method, and with a word more `Heap::step`. It writes five numbers: how many calls or quanta were measured, how many of them answered other than they should,
-//! units, nanoseconds, and those of the longest quantum; of cycles, and of a trace, for each stage. What is prepared
-//! depends on MOST, at least COUNT, and not on COUNT: so two runs differ by what is counted alone.
+//! of it. Each call is the command's method, and with a word more `Heap::step`. It writes five numbers: how many calls or
+//! quanta were measured, how many of them answered other than they should, units, nanoseconds, and those of the longest
+//! quantum; of cycles, and of a trace, for each stage. What is prepared depends on MOST, at least COUNT, and not on COUNT:
+//! so two runs differ by what is counted alone. `bench_calls threads SCRIPTS COMMANDS QUANTA` measures a heap that
+//! threads share.
 #![tactic(auto)]
 
 mod collecting;
-mod copying;
 mod filling;
 mod kinds;
 mod measured;
+mod threads;
 
-use collecting::{Stage, Stages, advance, cycles, full_buffers, play, spend};
-use copying::{copy, nothing};
-use filling::{fill, fill_all_slots, fill_for_each, fill_half, make_arrays, make_objects, must, new_heap};
+use collecting::{Stage, Stages, advance, cycles, full_buffers, nothing, play, spend};
+use filling::{
+    fill, fill_all_slots, fill_for_each, fill_half, make_arrays, make_objects, must, new_heap,
+};
 use graph_heap::Command;
 use graph_heap::Shape::{RefArray, WordArray};
 use kinds::{
-    Call, Cas, Clear, Get, GetFar, GetNear, Load, LoadFar, LoadNear, New, NewArray, Put, PutFar,
-    PutNear, Same, Store, repeat, repeat_steps,
+    Cas, Clear, Get, GetFar, GetNear, Load, LoadFar, LoadNear, New, NewArray, Put, Same, Store,
+    calls, either,
 };
 use machine::Heap;
-use measured::Measured;
+use measured::{Measured, tell};
+use std::alloc::{AllocGlobal, Global};
 use std::env;
-use std::io::{Read, Write};
+use std::io::Read;
 use std::process::ExitCode;
+use std::rt::Clock;
+use std::sync::Wait;
+use std::thread::Threads;
 
 /// What is measured, on what.
 #[derive(Clone, Copy)]
@@ -37,15 +44,6 @@ struct Job<'a> {
 }
 
 impl Job<'_> {
-    /// The calls of a kind on a heap that is prepared.
-    fn repeat<C: Call>(&self, heap: &mut Heap) -> Option<Measured> {
-        if self.by_step {
-            repeat_steps::<C>(self.rt, heap, self.count)
-        } else {
-            repeat::<C>(self.rt, heap, self.count)
-        }
-    }
-
     /// A heap of so many mutators, half full.
     fn half_full(&self, mutators: i64) -> Option<Heap> {
         let mut heap = new_heap(self.rt, self.pages, mutators, 0)?;
@@ -53,43 +51,35 @@ impl Job<'_> {
         Some(heap)
     }
 
-    /// Calls on a heap with objects to be read and written.
-    fn calls<C: Call>(&self) -> Option<Measured> {
+    /// A heap with objects to be read and written.
+    fn objects(&self) -> Option<Heap> {
         let mut heap = self.half_full(1)?;
         make_objects(&mut heap)?;
-        self.repeat::<C>(&mut heap)
+        Some(heap)
     }
 
-    /// Calls on arrays.
-    fn in_arrays<C: Call>(&self) -> Option<Measured> {
+    /// A heap with long arrays.
+    fn arrays(&self) -> Option<Heap> {
         let mut heap = new_heap(self.rt, self.pages, 1, 0)?;
         make_arrays(&mut heap)?;
-        self.repeat::<C>(&mut heap)
+        Some(heap)
     }
 
-    fn new_arrays(&self) -> Option<Measured> {
-        let mut heap = new_heap(self.rt, self.pages, 1, 0)?;
-        self.repeat::<NewArray>(&mut heap)
-    }
-
-    fn new_objects(&self) -> Option<Measured> {
-        self.repeat::<New>(&mut self.half_full(1)?)
-    }
-
-    /// Stores of null over objects, each referred to by one cell alone.
-    fn stores(&self, recorded: bool) -> Option<Measured> {
+    /// A heap with objects, each referred to by one cell alone.
+    fn references(&self, in_a_cycle: bool) -> Option<Heap> {
         let mut heap = self.half_full(1)?;
         fill(&mut heap, 40, 252, 0, 0)?;
-        if recorded {
+        if in_a_cycle {
             heap.begin().ok()?;
         }
-        self.repeat::<Store>(&mut heap)
+        Some(heap)
     }
 
-    fn clears(&self) -> Option<Measured> {
+    /// A heap of 64 mutators whose slots all hold an object.
+    fn slots(&self) -> Option<Heap> {
         let mut heap = self.half_full(64)?;
         fill_all_slots(&mut heap);
-        self.repeat::<Clear>(&mut heap)
+        Some(heap)
     }
 
     /// Marking of cells that are null.
@@ -124,28 +114,25 @@ impl Job<'_> {
     /// What is measured of a kind as one figure.
     fn one(&self, kind: &str) -> Option<Measured> {
         match kind {
-            "new" => self.new_objects(),
-            "get" => self.calls::<Get>(),
-            "put" => self.calls::<Put>(),
-            "load" => self.calls::<Load>(),
-            "cas" => self.calls::<Cas>(),
-            "same" => self.calls::<Same>(),
-            "store" => self.stores(false),
-            "recorded" => self.stores(true),
-            "clear" => self.clears(),
-            "getnear" => self.in_arrays::<GetNear>(),
-            "getfar" => self.in_arrays::<GetFar>(),
-            "putnear" => self.in_arrays::<PutNear>(),
-            "putfar" => self.in_arrays::<PutFar>(),
-            "loadnear" => self.in_arrays::<LoadNear>(),
-            "loadfar" => self.in_arrays::<LoadFar>(),
-            "newarray" => self.new_arrays(),
+            "new" => either::<New>(self, self.half_full(1)),
+            "get" => either::<Get>(self, self.objects()),
+            "put" => either::<Put>(self, self.objects()),
+            "load" => either::<Load>(self, self.objects()),
+            "cas" => either::<Cas>(self, self.objects()),
+            "same" => either::<Same>(self, self.objects()),
+            "store" => either::<Store>(self, self.references(false)),
+            "recorded" => either::<Store>(self, self.references(true)),
+            "clear" => either::<Clear>(self, self.slots()),
+            "getnear" => calls::<GetNear>(self, self.arrays()),
+            "getfar" => calls::<GetFar>(self, self.arrays()),
+            "loadnear" => calls::<LoadNear>(self, self.arrays()),
+            "loadfar" => calls::<LoadFar>(self, self.arrays()),
+            "newarray" => calls::<NewArray>(self, new_heap(self.rt, self.pages, 1, 0)),
             "marknull" => self.marks_null(),
             "mark" => self.units(Stage::Marking, true),
             "sweepkept" => self.units(Stage::Sweeping, true),
             "sweepfreed" => self.units(Stage::Sweeping, false),
             "records" => self.records(),
-            "copy" => copy(self.rt, self.pages),
             "nothing" => nothing(self.rt, self.count),
             _ => None,
         }
@@ -154,18 +141,13 @@ impl Job<'_> {
     /// What is measured of a kind by stages: cycles with small blocks or large ones, of which a half or more is
     /// freed, or the trace on standard input.
     fn stages(&self, kind: &str) -> Option<Stages> {
-        let mut heap = new_heap(
-            self.rt,
-            self.pages,
-            i64::from(self.most),
-            if kind == "play" { 0 } else { 16 },
-        )?;
+        let emptied = if kind == "play" { 0 } else { 16 };
+        let mut heap = new_heap(self.rt, self.pages, i64::from(self.most), emptied)?;
         match kind {
             "small" => fill(&mut heap, 16, self.pages.saturating_mul(4), 3, 3)?,
             "large" => fill(&mut heap, 4, self.pages / 2, 252, 1)?,
             _ => {
-                let mut text = Vec::new(self.rt.alloc());
-                self.rt.reader().read_to_end(&mut text).ok()?;
+                let text = all_of(&mut self.rt.reader(), self.rt.alloc())?;
                 return play(self.rt, &mut heap, text.as_slice());
             }
         }
@@ -174,7 +156,6 @@ impl Job<'_> {
 
     /// Measures, and writes what was measured.
     fn run(&self, kind: &str) -> Option<()> {
-        let mut output = self.rt.stdout();
         if matches!(kind, "small" | "large" | "play") {
             let found = self.stages(kind)?;
             for (name, sum) in [
@@ -184,16 +165,23 @@ impl Job<'_> {
                 ("looking", found.looking),
                 ("emptying", found.emptying),
             ] {
-                writeln!(output, "{name} {sum}").ok()?;
+                tell(self.rt, name, &sum)?;
             }
             return Some(());
         }
-        writeln!(output, "{kind} {}", self.one(kind)?).ok()
+        tell(self.rt, kind, &self.one(kind)?)
     }
 }
 
-/// Measures what the words ask for.
-fn run(rt: &HostRuntime) -> Option<()> {
+/// All that can be read.
+fn all_of(reader: &mut impl Read, alloc: Global) -> Option<Vec<u8>> {
+    let mut text = Vec::new(alloc);
+    reader.read_to_end(&mut text).ok()?;
+    Some(text)
+}
+
+/// What the words ask for: a kind, and a job.
+fn asked(rt: &HostRuntime) -> Option<(String, Job)> {
     let words: Vec<String> = env::args(rt).ok()?.collect(rt.alloc()).ok()?;
     let number = |place: usize| words.get(place)?.as_str().parse::<u32>().ok();
     let job = Job {
@@ -203,12 +191,31 @@ fn run(rt: &HostRuntime) -> Option<()> {
         most: number(4)?,
         by_step: words.len() > 5,
     };
-    job.run(words.get(1)?.as_str())
+    let kind = format!(in rt.alloc(); "{}", words.get(1)?).ok()?;
+    Some((kind, job))
+}
+
+/// Measures a heap that threads share, and writes what was measured.
+fn share<R: AllocGlobal + Clock + Print + Threads + Wait + Sync>(
+    rt: &R,
+    scripts: u32,
+    commands: u32,
+    quanta: u32,
+) -> Option<()> {
+    tell(
+        rt,
+        "threads",
+        &threads::play(rt, scripts, commands, quanta)?,
+    )
 }
 
 fn main(rt: HostRuntime) -> ExitCode {
-    match run(&rt) {
-        Some(()) => ExitCode::from(0),
-        None => ExitCode::from(1),
-    }
+    let done = match asked(&rt) {
+        Some((kind, job)) if kind.as_str() == "threads" => share(
+            &rt, job.pages, job.count, job.most,
+        ),
+        Some((kind, job)) => job.run(kind.as_str()),
+        None => None,
+    };
+    ExitCode::from(if done.is_some() { 0 } else { 1 })
 }

@@ -1,0 +1,302 @@
+//! Kinds of calls.
+use crate::Job;
+use crate::measured::Measured;
+use graph_heap::{Command, Reply, Shape};
+use machine::Heap;
+use std::time::Instant;
+
+/// What was told in so many calls: how many of them answered other than they should, and the sum of the others.
+#[derive(Clone, Copy, Default)]
+struct Told {
+    wrong: u64,
+    sum: u64,
+}
+
+impl Told {
+    fn add(&mut self, reply: Reply) {
+        match reply {
+            Reply::Refused(_) | Reply::Kept(_) => self.wrong = self.wrong.wrapping_add(1),
+            Reply::Made(told) | Reply::Ref(told) | Reply::Word(told) => {
+                self.sum = self.sum.wrapping_add(told);
+            }
+            Reply::Is(is) => self.sum = self.sum.wrapping_add(u64::from(is)),
+            _ => {}
+        }
+    }
+}
+
+/// A kind of call, by its turn.
+pub(crate) trait Call {
+    fn call(heap: &mut Heap, turn: u32) -> Reply;
+}
+
+/// The command of it, by its turn, with the mutator that does it.
+pub(crate) trait Step {
+    fn command(turn: u32) -> (u32, Command);
+}
+
+/// The calls of a kind. Each kind has a loop of its own, whose registers no other has a part in.
+#[inline(never)]
+fn repeat<C: Call>(job: &Job, heap: &mut Heap) -> Option<Measured> {
+    let start = Instant::now(job.rt).ok()?;
+    let mut told = Told::default();
+    for turn in 0..job.count {
+        told.add(C::call(heap, turn));
+    }
+    let nanos = start.elapsed(job.rt).ok()?.as_nanos();
+    Some(Measured::told(job.count, told.wrong, nanos, told.sum))
+}
+
+/// The same by `step`.
+#[inline(never)]
+fn repeat_steps<C: Step>(job: &Job, heap: &mut Heap) -> Option<Measured> {
+    let start = Instant::now(job.rt).ok()?;
+    let mut told = Told::default();
+    for turn in 0..job.count {
+        let (mutator, command) = C::command(turn);
+        told.add(heap.step(mutator, command));
+    }
+    let nanos = start.elapsed(job.rt).ok()?.as_nanos();
+    Some(Measured::told(job.count, told.wrong, nanos, told.sum))
+}
+
+/// The calls of a kind on a heap.
+pub(crate) fn calls<C: Call>(job: &Job, heap: Option<Heap>) -> Option<Measured> {
+    repeat::<C>(job, &mut heap?)
+}
+
+/// The same, or its steps where the job says so.
+pub(crate) fn either<C: Call + Step>(job: &Job, heap: Option<Heap>) -> Option<Measured> {
+    if job.by_step {
+        repeat_steps::<C>(job, &mut heap?)
+    } else {
+        repeat::<C>(job, &mut heap?)
+    }
+}
+
+fn three_cells(turn: u32) -> Shape {
+    let refs = turn % 4;
+    Shape::Plain {
+        refs,
+        words: 3 - refs,
+    }
+}
+
+/// An object of three cells, of a shape that the compiler doesn't know.
+pub(crate) struct New;
+
+impl Call for New {
+    fn call(heap: &mut Heap, turn: u32) -> Reply {
+        heap.make(0, turn % 200, three_cells(turn))
+    }
+}
+
+impl Step for New {
+    fn command(turn: u32) -> (u32, Command) {
+        (
+            0,
+            Command::New {
+                dst: turn % 200,
+                shape: three_cells(turn),
+            },
+        )
+    }
+}
+
+pub(crate) struct Get;
+
+impl Call for Get {
+    fn call(heap: &mut Heap, turn: u32) -> Reply {
+        heap.get(0, turn % 128, turn % 4)
+    }
+}
+
+impl Step for Get {
+    fn command(turn: u32) -> (u32, Command) {
+        (
+            0,
+            Command::Get {
+                obj: turn % 128,
+                i: turn % 4,
+            },
+        )
+    }
+}
+
+pub(crate) struct Put;
+
+impl Call for Put {
+    fn call(heap: &mut Heap, turn: u32) -> Reply {
+        heap.put(0, turn % 128, turn % 4, u64::from(turn))
+    }
+}
+
+impl Step for Put {
+    fn command(turn: u32) -> (u32, Command) {
+        (
+            0,
+            Command::Put {
+                obj: turn % 128,
+                i: turn % 4,
+                word: u64::from(turn),
+            },
+        )
+    }
+}
+
+pub(crate) struct Load;
+
+impl Call for Load {
+    fn call(heap: &mut Heap, turn: u32) -> Reply {
+        heap.load(0, 130 + turn % 64, turn % 128, turn % 4)
+    }
+}
+
+impl Step for Load {
+    fn command(turn: u32) -> (u32, Command) {
+        (
+            0,
+            Command::Load {
+                dst: 130 + turn % 64,
+                obj: turn % 128,
+                i: turn % 4,
+            },
+        )
+    }
+}
+
+/// Each cell of the arrays gets null in place of its object.
+pub(crate) struct Store;
+
+impl Call for Store {
+    fn call(heap: &mut Heap, turn: u32) -> Reply {
+        heap.store(0, turn / 252, turn % 252, 255)
+    }
+}
+
+impl Step for Store {
+    fn command(turn: u32) -> (u32, Command) {
+        (
+            0,
+            Command::Store {
+                obj: turn / 252,
+                i: turn % 252,
+                src: 255,
+            },
+        )
+    }
+}
+
+/// All references go from object 128 to 129, and then back.
+pub(crate) struct Cas;
+
+impl Call for Cas {
+    fn call(heap: &mut Heap, turn: u32) -> Reply {
+        heap.compare_store(
+            0,
+            turn % 128,
+            turn / 128 % 4,
+            128 + turn / 512 % 2,
+            129 - turn / 512 % 2,
+        )
+    }
+}
+
+impl Step for Cas {
+    fn command(turn: u32) -> (u32, Command) {
+        (
+            0,
+            Command::CompareStore {
+                obj: turn % 128,
+                i: turn / 128 % 4,
+                expect: 128 + turn / 512 % 2,
+                new: 129 - turn / 512 % 2,
+            },
+        )
+    }
+}
+
+/// Each slot of all mutators gets null in place of an object.
+pub(crate) struct Clear;
+
+impl Call for Clear {
+    fn call(heap: &mut Heap, turn: u32) -> Reply {
+        heap.clear(turn / 256 % 64, turn % 256)
+    }
+}
+
+impl Step for Clear {
+    fn command(turn: u32) -> (u32, Command) {
+        (turn / 256 % 64, Command::Clear { dst: turn % 256 })
+    }
+}
+
+pub(crate) struct Same;
+
+impl Call for Same {
+    fn call(heap: &mut Heap, turn: u32) -> Reply {
+        heap.same(0, turn % 128, turn / 2 % 128)
+    }
+}
+
+impl Step for Same {
+    fn command(turn: u32) -> (u32, Command) {
+        (
+            0,
+            Command::Same {
+                a: turn % 128,
+                b: turn / 2 % 128,
+            },
+        )
+    }
+}
+
+/// A cell of an array of so many, by the turn: cells far from one another.
+fn cell(turn: u32, cells: u32) -> u32 {
+    turn.wrapping_mul(7919) % cells.max(1)
+}
+
+/// A word of an array of 1000, in slot 0.
+pub(crate) struct GetNear;
+
+impl Call for GetNear {
+    fn call(heap: &mut Heap, turn: u32) -> Reply {
+        heap.get(0, 0, cell(turn, 1000))
+    }
+}
+
+/// A word of an array of 4000000, in slot 1.
+pub(crate) struct GetFar;
+
+impl Call for GetFar {
+    fn call(heap: &mut Heap, turn: u32) -> Reply {
+        heap.get(0, 1, cell(turn, 4000000))
+    }
+}
+
+/// A reference of an array of 1000, in slot 2.
+pub(crate) struct LoadNear;
+
+impl Call for LoadNear {
+    fn call(heap: &mut Heap, turn: u32) -> Reply {
+        heap.load(0, 130 + turn % 64, 2, cell(turn, 1000))
+    }
+}
+
+/// A reference of an array of 4000000, in slot 3.
+pub(crate) struct LoadFar;
+
+impl Call for LoadFar {
+    fn call(heap: &mut Heap, turn: u32) -> Reply {
+        heap.load(0, 130 + turn % 64, 3, cell(turn, 4000000))
+    }
+}
+
+/// An array of 4000000 words.
+pub(crate) struct NewArray;
+
+impl Call for NewArray {
+    fn call(heap: &mut Heap, turn: u32) -> Reply {
+        heap.make(0, turn % 2, Shape::WordArray(4000000))
+    }
+}

@@ -3,21 +3,14 @@ use graph_heap::{Command, Reply, Shape};
 use machine::Heap;
 use size_classes::{Config, Settings};
 
-/// A heap that empties so many pages after each sweep at most.
-pub(crate) fn new_heap(
-    rt: &HostRuntime,
-    pages: u32,
-    mutators: i64,
-    defrag_pages: i64,
-) -> Option<Heap> {
+/// A heap of so many mutators with 256 slots each.
+pub(crate) fn new_heap(rt: &HostRuntime, pages: u32, mutators: i64) -> Option<Heap> {
     let settings = Settings {
         pages: i64::from(pages),
         mutators,
         live: mutators,
         slots: 256,
         statics: 64,
-        defrag_below: 4097,
-        defrag_pages,
         ..Settings::DEFAULTS
     };
     let config = Config::check_for_library(&settings).ok()?;
@@ -25,20 +18,21 @@ pub(crate) fn new_heap(
 }
 
 /// Does a command of mutator 0 that must not be refused.
-pub(crate) fn must(heap: &mut Heap, command: Command) -> Option<()> {
+fn must(heap: &mut Heap, command: Command) -> Option<()> {
     match heap.step(0, command) {
         Reply::Refused(_) => None,
         _ => Some(()),
     }
 }
 
-pub(crate) fn plain(dst: u32, refs: u32, words: u32) -> Command {
+fn plain(dst: u32, refs: u32, words: u32) -> Command {
     let shape = Shape::Plain { refs, words };
     Command::New { dst, shape }
 }
 
-/// Arrays of one shape over half of the pages: each takes nearly 32, and a static names it.
-pub(crate) fn fill_half(heap: &mut Heap, pages: u32, shape: Shape) -> Option<()> {
+/// Arrays of words over half of the pages: each takes nearly 32, and a static names it.
+pub(crate) fn fill_half(heap: &mut Heap, pages: u32) -> Option<()> {
+    let shape = Shape::WordArray(63504);
     for k in 0..pages / 64 {
         must(heap, Command::New { dst: 255, shape })?;
         must(heap, Command::StoreStatic { k, src: 255 })?;
@@ -72,42 +66,21 @@ pub(crate) fn make_arrays(heap: &mut Heap) -> Option<()> {
     Some(())
 }
 
-/// An object of some words in slot 255.
-fn make(heap: &mut Heap, words: u32) -> Option<()> {
-    must(heap, plain(255, 0, words))
-}
-
-/// So many of them, each in the place of the one before.
-fn waste(heap: &mut Heap, words: u32, count: u32) -> Option<()> {
-    for _ in 0..count {
-        make(heap, words)?;
-    }
-    Some(())
-}
-
-/// An array of references, and for each of its cells an object of its own of some words, with objects of the same
-/// shape beside it that nothing names.
-fn fill_array(heap: &mut Heap, obj: u32, length: u32, words: u32, garbage: u32) -> Option<()> {
-    let shape = Shape::RefArray(length);
+/// An array of 252 references, each to an object of its own.
+fn fill_array(heap: &mut Heap, obj: u32) -> Option<()> {
+    let shape = Shape::RefArray(252);
     must(heap, Command::New { dst: obj, shape })?;
-    for i in 0..length {
-        make(heap, words)?;
+    for i in 0..252 {
+        must(heap, plain(255, 0, 0))?;
         must(heap, Command::Store { obj, i, src: 255 })?;
-        waste(heap, words, garbage)?;
     }
     Some(())
 }
 
-/// Such arrays, so many, in the slots from 0.
-pub(crate) fn fill(
-    heap: &mut Heap,
-    arrays: u32,
-    length: u32,
-    words: u32,
-    garbage: u32,
-) -> Option<()> {
-    for obj in 0..arrays {
-        fill_array(heap, obj, length, words, garbage)?;
+/// 40 such arrays, in the slots from 0.
+pub(crate) fn make_references(heap: &mut Heap) -> Option<()> {
+    for obj in 0..40 {
+        fill_array(heap, obj)?;
     }
     must(heap, Command::Clear { dst: 255 })
 }
@@ -126,15 +99,4 @@ pub(crate) fn fill_all_slots(heap: &mut Heap) {
     for mutator in 0..64 {
         fill_slots(heap, mutator);
     }
-}
-
-/// An array of 252 references for each of 64 mutators, in its slot 0, each cell with an object of its own.
-pub(crate) fn fill_for_each(heap: &mut Heap) -> Option<()> {
-    fill(heap, 64, 252, 0, 0)?;
-    for mutator in 0..64 {
-        let (k, src) = (mutator, mutator);
-        must(heap, Command::StoreStatic { k, src })?;
-        let _loaded = heap.step(mutator, Command::LoadStatic { dst: 0, k });
-    }
-    Some(())
 }

@@ -5,7 +5,7 @@ use graph_heap::{Command, Reply, Shape};
 use machine::Heap;
 use std::time::Instant;
 
-/// What was told in so many calls: how many of them answered other than they should, and the sum of the others.
+/// How many calls answered other than they should, and the sum of what the others told.
 #[derive(Clone, Copy, Default)]
 struct Told {
     wrong: u64,
@@ -21,6 +21,16 @@ impl Told {
             }
             Reply::Is(is) => self.sum = self.sum.wrapping_add(u64::from(is)),
             _ => {}
+        }
+    }
+
+    /// All of so many calls that took so long.
+    fn measured(self, count: u32, nanos: u128) -> Measured {
+        Measured {
+            count: u64::from(count),
+            wrong: self.wrong,
+            sum: self.sum,
+            nanos,
         }
     }
 }
@@ -44,7 +54,7 @@ fn repeat<C: Call>(job: &Job, heap: &mut Heap) -> Option<Measured> {
         told.add(C::call(heap, turn));
     }
     let nanos = start.elapsed(job.rt).ok()?.as_nanos();
-    Some(Measured::told(job.count, told.wrong, nanos, told.sum))
+    Some(told.measured(job.count, nanos))
 }
 
 /// The same by `step`.
@@ -57,7 +67,7 @@ fn repeat_steps<C: Step>(job: &Job, heap: &mut Heap) -> Option<Measured> {
         told.add(heap.step(mutator, command));
     }
     let nanos = start.elapsed(job.rt).ok()?.as_nanos();
-    Some(Measured::told(job.count, told.wrong, nanos, told.sum))
+    Some(told.measured(job.count, nanos))
 }
 
 /// The calls of a kind on a heap.

@@ -75,11 +75,10 @@ pub(crate) fn play<R: AllocGlobal + Clock + Threads + Wait + Sync>(
     let start = Instant::now(rt).ok()?;
     let outcome = play_threads(rt, alloc, &config, scripts, budgets, &OpenGate).ok()?;
     let nanos = start.elapsed(rt).ok()?.as_nanos();
-    let done = outcome.recorded.history().len() as u64;
     Some(Measured {
-        count: done,
+        count: outcome.recorded.history().len() as u64,
         wrong: u64::from(!outcome.all),
+        sum: 0,
         nanos,
-        ..Measured::default()
     })
 }

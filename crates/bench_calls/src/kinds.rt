@@ -103,13 +103,8 @@ impl Call for New {
 
 impl Step for New {
     fn command(turn: u32) -> (u32, Command) {
-        (
-            0,
-            Command::New {
-                dst: turn % 200,
-                shape: three_cells(turn),
-            },
-        )
+        let (dst, shape) = (turn % 200, three_cells(turn));
+        (0, Command::New { dst, shape })
     }
 }
 
@@ -123,13 +118,8 @@ impl Call for Get {
 
 impl Step for Get {
     fn command(turn: u32) -> (u32, Command) {
-        (
-            0,
-            Command::Get {
-                obj: turn % 128,
-                i: turn % 4,
-            },
-        )
+        let (obj, i) = (turn % 128, turn % 4);
+        (0, Command::Get { obj, i })
     }
 }
 
@@ -143,14 +133,8 @@ impl Call for Put {
 
 impl Step for Put {
     fn command(turn: u32) -> (u32, Command) {
-        (
-            0,
-            Command::Put {
-                obj: turn % 128,
-                i: turn % 4,
-                word: u64::from(turn),
-            },
-        )
+        let (obj, i, word) = (turn % 128, turn % 4, u64::from(turn));
+        (0, Command::Put { obj, i, word })
     }
 }
 
@@ -164,14 +148,8 @@ impl Call for Load {
 
 impl Step for Load {
     fn command(turn: u32) -> (u32, Command) {
-        (
-            0,
-            Command::Load {
-                dst: 130 + turn % 64,
-                obj: turn % 128,
-                i: turn % 4,
-            },
-        )
+        let (dst, obj, i) = (130 + turn % 64, turn % 128, turn % 4);
+        (0, Command::Load { dst, obj, i })
     }
 }
 
@@ -186,14 +164,8 @@ impl Call for Store {
 
 impl Step for Store {
     fn command(turn: u32) -> (u32, Command) {
-        (
-            0,
-            Command::Store {
-                obj: turn / 252,
-                i: turn % 252,
-                src: 255,
-            },
-        )
+        let (obj, i) = (turn / 252, turn % 252);
+        (0, Command::Store { obj, i, src: 255 })
     }
 }
 
@@ -214,13 +186,19 @@ impl Call for Cas {
 
 impl Step for Cas {
     fn command(turn: u32) -> (u32, Command) {
+        let (obj, i, expect, new) = (
+            turn % 128,
+            turn / 128 % 4,
+            128 + turn / 512 % 2,
+            129 - turn / 512 % 2,
+        );
         (
             0,
             Command::CompareStore {
-                obj: turn % 128,
-                i: turn / 128 % 4,
-                expect: 128 + turn / 512 % 2,
-                new: 129 - turn / 512 % 2,
+                obj,
+                i,
+                expect,
+                new,
             },
         )
     }
@@ -251,13 +229,8 @@ impl Call for Same {
 
 impl Step for Same {
     fn command(turn: u32) -> (u32, Command) {
-        (
-            0,
-            Command::Same {
-                a: turn % 128,
-                b: turn / 2 % 128,
-            },
-        )
+        let (a, b) = (turn % 128, turn / 2 % 128);
+        (0, Command::Same { a, b })
     }
 }
 

@@ -118,6 +118,7 @@ pub fn put_named(out: &mut [u8], at: usize, word: &[u8], n: u64) -> usize
 
 /// Ends the line at the front of an array with LF, and writes it to a sink, all of it. There must be
 /// room for the LF. After an error the sink has taken a beginning of the line.
+#[inline(always)]
 pub fn end_line<K: Sink>(sink: &mut K, out: &mut [u8; 256], end: usize) -> Result<(), WriteFailed>
     requires { end < 256 }
     ensures ok { OnOk result (K.taken sink.new ≡ K.taken sink.old ++ (take end out.old ++ 10 ∷ [])) }

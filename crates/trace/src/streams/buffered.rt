@@ -75,15 +75,17 @@ impl<K: Sink + Drop> Sink for BufferedSink<K> {
 
     #[inline(always)]
     fn write(&mut self, bytes: &[u8]) -> Result<usize, WriteFailed> {
-        if bytes.len() > CAPACITY - self.end {
+        let mut count = bytes.len();
+        if count > CAPACITY - self.end {
             self.flush()?;
+            count = count.min(CAPACITY - self.end);
         }
-        let count = bytes.len().min(CAPACITY - self.end);
         self.bytes[self.end..self.end + count].copy_from_slice(&bytes[..count]);
         self.end += count;
         Ok(count)
     }
 
+    #[inline(never)]
     fn flush(&mut self) -> Result<(), WriteFailed> {
         while self.end > 0 {
             self.send_some()?;

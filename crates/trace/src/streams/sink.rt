@@ -40,6 +40,7 @@ pub trait Sink {
 }
 
 /// Writes bytes, all of them. After an error the sink has taken a beginning of them.
+#[inline(always)]
 pub fn write_all<K: Sink>(sink: &mut K, bytes: &[u8]) -> Result<(), WriteFailed>
     ensures ok { OnOk result (K.taken sink.new ≡ K.taken sink.old ++ bytes.now) }
     ensures err { OnErr result (GrowsByPart (K.taken sink.old) (K.taken sink.new) bytes.now) }

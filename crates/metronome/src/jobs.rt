@@ -84,7 +84,7 @@ pub fn threads_job<S: Source, K: Sink, T: Threads + Wait + Sync>(
     ensures input { failed_reads result ≡ 0 → Stays (S.input source.old) (S.input source.new) }
     ensures writes { K.failures sink.new ≡ K.failures sink.old + failed_writes result }
 {
-    let (version, scripts) = read_scripts(alloc, source, &config.limits())?;
+    let (version, scripts) = read_scripts(alloc, source, config)?;
     let outcome = run_scripts(rt, alloc, config, scripts, turns, budget)?;
     write_history(sink, version, outcome.recorded.history())?;
     finished(outcome.all)

@@ -38,22 +38,6 @@ pub record SentSoFar (style : Style) (old : Session) (lines : List (List ℕ)) (
   pub sent_on : (mid.taken ≡ old.taken) ⊎ (length mid.taken ≤ sent)
   pub few : length (text_of behind) + length rest ≤ 65536
 
--- before the first line
-pub sent_first : (style : Style) (old : Session) (sent : ℕ) → SentSoFar style old [] [] [] sent
-sent_first style old sent = record {
-  before = [];
-  behind = [];
-  version = First;
-  first = [];
-  more = [];
-  mid = old;
-  lines_are = refl;
-  events_are = refl;
-  done = No_lines;
-  sent_on = inl refl;
-  few = omega arith;
-}
-
 later : (old taken : List ℕ) (sent sent' : ℕ) → sent ≤ sent' → (taken ≡ old) ⊎ (length taken ≤ sent) → (taken ≡ old) ⊎ (length taken ≤ sent')
 later old taken sent sent' l (inl e) = inl e
 later old taken sent sent' l (inr w) = inr (omega (arith, w, l))
@@ -116,21 +100,13 @@ module _ (style : Style) (old : Session) (lines : List (List ℕ)) (events : Lis
 
     -- a call for the next line: what it found waited, or nothing is written of lines, or all was sent on before
     pub asked_on : (kept rest : List ℕ) (sent sent' : ℕ) → SentSoFar style old lines events kept sent → sent ≤ sent' → length rest ≤ 65536 → (kept ≡ rest) ⊎ ((style ≡ Nothing) ⊎ (sent' ≡ length mid.taken)) → SentSoFar style old lines events rest sent'
-    asked_on kept rest sent sent' w l small (inl same) = record {
-      before = w.before;
-      behind = w.behind;
-      version = w.version;
-      first = w.first;
-      more = w.more;
-      mid = w.mid;
-      lines_are = w.lines_are;
-      events_are = w.events_are;
-      done = w.done;
-      sent_on = later old.taken w.mid.taken sent sent' l w.sent_on;
-      few = omega (arith, w.few, ap length same);
-    }
+    asked_on kept rest sent sent' w l small (inl same) = subst (λ (bytes : List ℕ). SentSoFar style old lines events bytes sent') same (still_sent kept sent sent' l w)
     asked_on kept rest sent sent' w l small (inr (inl silent)) = all_sent rest sent' small (inl (nothing_taken silent))
     asked_on kept rest sent sent' w l small (inr (inr all)) = all_sent rest sent' small (inr (omega (arith, all)))
+
+-- before the first line
+pub sent_first : (style : Style) (old : Session) (sent : ℕ) → SentSoFar style old [] [] [] sent
+sent_first style old sent = all_sent style old [] [] First old No_lines [] sent (omega arith) (inl refl)
 
 empty_of : (xs : List ℕ) → length xs ≡ 0 → xs ≡ []
 empty_of [] e = refl

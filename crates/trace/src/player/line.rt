@@ -32,7 +32,11 @@ fn tell_entry<K: Sink>(
 {
     let end = match style {
         Style::Replies => write_reply(&entry.reply, out, 0),
-        Style::Entries => write_entry(entry, out),
+        Style::Entries => {
+            // A copy, so that the entry isn't in memory where only its reply is written.
+            let copy = *entry;
+            write_entry(&copy, out)
+        }
         Style::Nothing => return Ok(()),
     };
     end_line(sink, out, end)

@@ -8,7 +8,8 @@ ghost use Rattle.trace.specs.Scripts.{line_of, lists_in, one_more, IsOfScripts, 
 use crate::{
     Line, LineFault, LineHandler, PlayFault, Source, TextLine, Version, each_line, read_line,
 };
-use graph_heap::{Command, Limits, NoMemory};
+use graph_heap::{Command, NoMemory};
+use size_classes::Config;
 use std::alloc::Global;
 
 /// What a line of scripts says: nothing, or a command and whose it is.
@@ -87,15 +88,15 @@ fn empty(alloc: Global, mutators: u32) -> Result<Vec<Vec<Command>>, NoMemory>
 pub fn read_scripts<S: Source>(
     alloc: Global,
     source: &mut S,
-    limits: &Limits,
+    config: &Config,
 ) -> Result<(Version, Vec<Vec<Command>>), PlayFault>
-    ensures read { ScriptsRead (given_by S.given S.ended source.old source.new) limits.now.mutators result }
-    ensures len { IfOk result (λ read. vec_len read.1 ≡ limits.now.mutators) }
+    ensures read { ScriptsRead (given_by S.given S.ended source.old source.new) config.now.mutators result }
+    ensures len { IfOk result (λ read. vec_len read.1 ≡ config.now.mutators) }
     ensures reads { S.failures source.new ≡ S.failures source.old + reads_failed result }
     ensures input { reads_failed result ≡ 0 → Stays (S.input source.old) (S.input source.new) }
 {
     let mut scripts = Scripts {
-        lists: empty(alloc, limits.mutators)?,
+        lists: empty(alloc, config.mutators)?,
     };
     let end = each_line(source, &mut scripts)?;
     Ok((end.version, scripts.lists))

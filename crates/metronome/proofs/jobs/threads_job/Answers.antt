@@ -1,8 +1,6 @@
 use Rattle.std.proofs.Common.{◌++◌, ℕ, List, Ok, Err, inl, inr, ap, ◌∙◌, subst, arith}
-use Rattle.graph_heap.specs.declared.command.Limits.{Limits}
 use Rattle.graph_heap.specs.declared.command.Entry.{Entry}
 use Rattle.trace.specs.Streams.{GrowsByPart, given_by}
-use Rattle.trace.specs.Scripts.{ScriptsRead}
 use Rattle.trace.specs.declared.player.style.Style.TheVariants.{Entries}
 use Rattle.trace.specs.Playing.{text_written}
 use Rattle.metronome.specs.Faults.{failed_reads, failed_writes}
@@ -17,9 +15,8 @@ returns-in_err-write_history-clause-done g c =
     let outcome = c.in_ok-outcome.outcome in
     let old = g.K.Sink.taken c.args.sink.now in
     let new = g.K.Sink.taken c.write_history.new.sink in
-    let Read : ℕ → Type 0 = λ mutators. ScriptsRead (given_by g.S.Source.given g.S.Source.ended c.args.source.now c.read_scripts.new.source) mutators (Ok (version, scripts)) in
     let Part : List Entry → Type 0 = λ history. GrowsByPart old new (text_written Entries version history) in
-    let read = subst Read (ap (λ (limits : Limits). limits.mutators) c.limits.ensures) c.in_ok-version.ensures.read in
+    let read = c.in_ok-version.ensures.read in
     let ran = c.in_ok-outcome.ensures in
     let part = subst Part c.history.ensures.history c.in_err-write_history.ensures.err in
     (Ok (version, scripts), read, inr (outcome, ran, inr (failed_so c.from_residual-in_err-write_history.result _ c.from_residual-in_err-write_history.ensures.1, part)))
@@ -30,8 +27,7 @@ returns-clause-done g c =
     let scripts = c.in_ok-version.scripts in
     let outcome = c.in_ok-outcome.outcome in
     let old = g.K.Sink.taken c.args.sink.now in
-    let Read : ℕ → Type 0 = λ mutators. ScriptsRead (given_by g.S.Source.given g.S.Source.ended c.args.source.now c.read_scripts.new.source) mutators (Ok (version, scripts)) in
-    let read = subst Read (ap (λ (limits : Limits). limits.mutators) c.limits.ensures) c.in_ok-version.ensures.read in
+    let read = c.in_ok-version.ensures.read in
     let ran = c.in_ok-outcome.ensures in
     (Ok (version, scripts), read, inr (outcome, ran, inl (c.finished.ensures, c.in_ok-write_history.ensures.ok ∙ ap (λ (h : List Entry). old ++ text_written Entries version h) c.history.ensures.history)))
 
@@ -39,7 +35,7 @@ pub returns-in_err-version-clause-reads : goal.returns-in_err-version-clause-rea
 returns-in_err-version-clause-reads g c = reads_text c.from_residual.result c.in_err-version.field-0.0 _ _ c.from_residual.ensures.1 c.in_err-version.ensures.reads
 
 pub returns-in_err-version-clause-writes : goal.returns-in_err-version-clause-writes
-returns-in_err-version-clause-writes g c = omega (arith, text_unwritten c.from_residual.result c.in_err-version.field-0.0 c.from_residual.ensures.1 (scripts_unwritten (given_by g.S.Source.given g.S.Source.ended c.args.source.now c.read_scripts.new.source) c.limits.result.mutators (Err c.in_err-version.field-0.0) c.in_err-version.ensures.read))
+returns-in_err-version-clause-writes g c = omega (arith, text_unwritten c.from_residual.result c.in_err-version.field-0.0 c.from_residual.ensures.1 (scripts_unwritten (given_by g.S.Source.given g.S.Source.ended c.args.source.now c.read_scripts.new.source) c.args.config.now.mutators (Err c.in_err-version.field-0.0) c.in_err-version.ensures.read))
 
 pub returns-in_err-outcome-clause-reads : goal.returns-in_err-outcome-clause-reads
 returns-in_err-outcome-clause-reads g c = omega (arith, memory_unread c.from_residual-in_err-outcome.result c.from_residual-in_err-outcome.ensures.1, c.in_ok-version.ensures.reads)

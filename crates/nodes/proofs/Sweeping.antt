@@ -63,6 +63,20 @@ module _ (s new : Store) (page block : ℕ) (p : Page) (there : page_at s.pages 
     )
   ]
 
+-- a block that was given back, of a value t as which the fields s are seen
+pub given_leaves : (s t new : Store) → s ≡ t → IsStore s → ((b : ℕ) → is_allocated s b ≡ true → IsHeader (get_or s.words (b + 1) 0)) → (page block : ℕ) → IsSomeAnd (page_at t.pages page) (λ p. slice_get p.allocated block ≡ Some true)
+    → IfSome (page_at s.pages page) (λ p. new.pages ≡ set s.pages page (Some (with_allocated p block false))) → KeepsAllocated new.pages s.words new.words → LeavesLinks t new
+given_leaves s t new is whole headers page block allocated given kept =
+    subst (λ (x : Store). LeavesLinks x new) is (by_page (page_at s.pages page) refl (subst (λ (x : Store). IsSomeAnd (page_at x.pages page) (λ p. slice_get p.allocated block ≡ Some true)) (sym is) allocated) given)
+  where
+    by_page : (o : Option Page) → page_at s.pages page ≡ o → IsSomeAnd o (λ p. slice_get p.allocated block ≡ Some true) → IfSome o (λ p. new.pages ≡ set s.pages page (Some (with_allocated p block false))) → LeavesLinks s new
+    by_page None there h g = absurd h
+    by_page (Some p) there h g = links_left s new page block p there h g kept (record { whole = whole; headers = headers })
+
+-- a page of which something holds is one
+pub in_use_low : (pages : List (Option Page)) (page : ℕ) (P : Page → Type 0) → IsSomeAnd (page_at pages page) P → page < length pages
+in_use_low pages page P h = elim (cases_lt page (length pages)) [ inl l ↦ l | inr l ↦ absurd (subst (λ o. IsSomeAnd o P) (get_or_past pages page None l) h) ]
+
 look_sound : (colour : Bool) (page block : ℕ) (s after : Store) → LooksAt colour page block s after → IsSound s → IsSound after
 look_sound colour page block s after (It_stays p there below stays) sound = sound
 look_sound colour page block s after (It_goes p new there allocated goes pages kept) sound = freed_sound s new page block p there allocated pages kept sound

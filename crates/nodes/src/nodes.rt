@@ -7,7 +7,7 @@ ghost use Rattle.heap_model.specs.Header.{ShapeFits};
 ghost use Rattle.heap_model.specs.Block.{new_record};
 ghost use Rattle.heap_model.specs.Pages.{has_room, page_for, page_at, is_usable, free_on, free_blocks, with_allocated, IsOpen, TakesBlock};
 ghost use Rattle.heap_model.specs.Pages as page_list;
-ghost use Rattle.heap_model.specs.Action.{KeepsBlocks, MovesBlock, closed, allocated_on, is_choosable};
+ghost use Rattle.heap_model.specs.Action.{Frees, KeepsBlocks, MovesBlock, closed, allocated_on, is_choosable};
 ghost use Rattle.heap_model.specs.Store.{size_in, is_allocated, address_of, Adds};
 ghost use Rattle.pages.specs.Places.{FindsAllocated};
 ghost use Rattle.nodes.specs.Links.{KeepsLinks, LeavesLinks, CopiesLink};
@@ -98,6 +98,18 @@ impl Nodes {
         ensures { result ≡ has_room self.now.pages (blocks_needed parts.now (parts_in parts.now)) }
     {
         self.table.room(parts)
+    }
+
+    /// Gives an allocated block of a page back: it is free. Every other block is allocated or not, and says, as before.
+    pub fn give(&mut self, page: usize, index: usize)
+        requires { IsSomeAnd (page_at self.old.pages page) (λ p. slice_get p.allocated index ≡ Some true) }
+        ensures frees { IfSome (page_at self.old.pages page)
+            (λ p. Frees self.old self.new (address_of p.class page index)) }
+        ensures pages { IfSome (page_at self.old.pages page)
+            (λ p. self.new.pages ≡ slice_set self.old.pages page (Some (with_allocated p index false))) }
+        ensures links { LeavesLinks self.old self.new }
+    {
+        self.table.give(&mut self.arena, Block { page, index });
     }
 
     /// Looks at `count` blocks of a page in use, from one on, as the sweeper does: each that is allocated and hasn't
@@ -320,7 +332,8 @@ impl Nodes {
         ensures kept { IsNone result → self.new ≡ self.old }
         ensures links { KeepsLinks self.old self.new }
     {
-        let address = self.table.take(&mut self.arena, class)?;
+        let block = self.table.take(&mut self.arena, class)?;
+        let address = address(block.page, block.index, class.size() as usize);
         self.arena
             .begin(address, shape, part, colour, identity, cells);
         Some(address)

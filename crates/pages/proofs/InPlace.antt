@@ -4,13 +4,13 @@ use Rattle.std.specs.Prelude.{IfSome, slice_get}
 use Rattle.std.specs.Option.{option_copied_mut}
 use Rattle.std.proofs.lemmas.List.{get_or_read}
 use Rattle.size_classes.specs.declared.class.TheConstants.{CLASSES}
-use Rattle.size_classes.specs.Sizes.{size_of, blocks_in}
+use Rattle.size_classes.specs.Sizes.{blocks_in}
 use Rattle.heap_model.specs.Pages.{page_at, page_of_class, with_allocated, IsOpen}
 use Rattle.heap_model.specs.Store.{address_of}
 use Rattle.pages.specs.declared.bits.BitRow.{BitRow}
 use Rattle.pages.specs.declared.page.PageRow.{PageRow}
 use Rattle.pages.specs.BitRow.{has_bit, room_of}
-use Rattle.pages.specs.FreeList.{flags_of, index_on, IsFreeList, SameOutside}
+use Rattle.pages.specs.FreeList.{flags_of, IsFreeList, SameOutside}
 use Rattle.pages.specs.Index.{row_at, HasFree, IsIndex}
 use Rattle.pages.specs.Together.{pages_in, Together, KeepsAllocated}
 use Rattle.pages.proofs.Indexing.{taken_last, taken_one, some_had}
@@ -83,25 +83,21 @@ module _ (rows pages : List (Option PageRow)) (seen : rows ≡ pages) (usable : 
             through number (number_is ∙ sym class_is) had had_is (λ _. usable) (λ h. h - 1)
             (taken_one rows usable free free_blocks free_pages b page old row inside lent_is same known has_free.1 stays more has_free.2 (λ e. left (e ∙ sym full_is)))
 
-    module _ (block : ℕ) (place : block ≡ 2048 * page + index_on old.class page block * size_of old.class) (was_free : slice_get (flags_of words (2048 * page) old.class) (index_on old.class page block) ≡ Some false)
-        (flags : flags_of new (2048 * page) old.class ≡ set (flags_of words (2048 * page) old.class) (index_on old.class page block) true) (chain : IsFreeList new (2048 * page) old.class row.first (old.allocated + 1)) (is : new ≡ set words block block) where
+    module _ (index : ℕ) (was_free : slice_get (flags_of words (2048 * page) old.class) index ≡ Some false) (flags : flags_of new (2048 * page) old.class ≡ set (flags_of words (2048 * page) old.class) index true)
+        (chain : IsFreeList new (2048 * page) old.class row.first (old.allocated + 1)) (is : new ≡ set words (address_of old.class page index) (address_of old.class page index)) where
       outside : SameOutside words new (2048 * page)
-      outside = popped_outside pages words new together.classes page old there block place was_free is
+      outside = popped_outside pages words new together.classes page old there index _ was_free is
 
       -- the page's list runs through its other free blocks, the block was free and is allocated, and allocated blocks keep their words
       pub taken : record {
         together : Together (set rows page (Some row)) new;
-        place : block ≡ address_of class page (index_on class page block);
-        free : IsOpen (page_of_class class (page_at (pages_in pages words) page)) (index_on class page block);
-        allocated : pages_in (set rows page (Some row)) new ≡ set (pages_in pages words) page (Some (with_allocated (page_of_class class (page_at (pages_in pages words) page)) (index_on class page block) true));
+        free : IsOpen (page_of_class class (page_at (pages_in pages words) page)) index;
+        allocated : pages_in (set rows page (Some row)) new ≡ set (pages_in pages words) page (Some (with_allocated (page_of_class class (page_at (pages_in pages words) page)) index true));
         words : KeepsAllocated (pages_in pages words) words new;
       }
       taken = record {
-        together = together_by pages words new together page below old row there (old.allocated + 1) old.is_target row_is chain outside (set rows page (Some row)) after (index_on old.class page block) true flags;
-        place = subst (λ k. block ≡ address_of k page (index_on k page block)) class_is place;
-        free = ap (λ k. slice_get (page_of_class class (page_at (pages_in pages words) page)).allocated (index_on k page block)) (sym class_is) ∙ open_by pages words page old (index_on old.class page block) class below there was_free;
-        allocated =
-            taken_by pages words new together page below old row there (old.allocated + 1) old.is_target row_is chain outside (set rows page (Some row)) after (index_on old.class page block) true flags refl class
-            ∙ ap (λ k. set (pages_in pages words) page (Some (with_allocated (page_of_class class (page_at (pages_in pages words) page)) (index_on k page block) true))) class_is;
-        words = popped_keeps pages words new together.classes page old there block place was_free is;
+        together = together_by pages words new together page below old row there (old.allocated + 1) old.is_target row_is chain outside (set rows page (Some row)) after index true flags;
+        free = open_by pages words page old index class below there was_free;
+        allocated = taken_by pages words new together page below old row there (old.allocated + 1) old.is_target row_is chain outside (set rows page (Some row)) after index true flags refl class;
+        words = popped_keeps pages words new together.classes page old there index _ was_free is;
       }

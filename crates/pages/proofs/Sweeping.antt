@@ -1,6 +1,8 @@
 -- Blocks of a page are looked at, with whatever records of other pages its own goes together with.
-use Rattle.std.proofs.Common.{◌≡◌, ℕ, ◌+◌, ◌-◌, ◌*◌, ◌<◌, ◌≤◌, Bool, true, false, List, Option, Some, None, length, get_or, set, ap, ◌∙◌, sym, refl, subst, inl, inr, arith}
+use Rattle.std.proofs.Common.{◌≡◌, ℕ, ◌+◌, ◌-◌, ◌*◌, ◌<◌, ◌≤◌, Bool, true, false, List, Option, Some, None, length, get_or, set, ap, ◌∙◌, ◌++◌, take, drop, sym, refl, subst, inl, inr, arith}
 use Rattle.std.specs.Prelude.{IfSome, IsSomeAnd, slice_get}
+use Rattle.std.specs.List.{refill}
+use Rattle.std.proofs.Math.Seq.{take-append_seam}
 use Rattle.std.proofs.lemmas.Bool.{cases_lt}
 use Rattle.std.proofs.lemmas.List.{get_or-set_same, get_or_past, set-get_or, set-set}
 use Rattle.std.proofs.lemmas.Option.{slice_get_within, none-some}
@@ -12,7 +14,7 @@ use Rattle.heap_model.specs.State.{same_colour}
 use Rattle.heap_model.specs.Store.{address_of}
 use Rattle.pages.specs.declared.page.PageRow.{PageRow}
 use Rattle.pages.specs.FreeList.{flags_of, free_mark, IsFreeList, SameOutside}
-use Rattle.pages.specs.Index.{row_at}
+use Rattle.pages.specs.Index.{row_at, row_given}
 use Rattle.pages.specs.Sweeping.{has_colour, LooksAt, It_stays, It_goes, Looks, No_look, Then_one}
 use Rattle.pages.specs.Together.{joined, pages_in, Together, KeepsAllocated}
 use Rattle.pages.proofs.Flags.{length-flags}
@@ -26,6 +28,15 @@ page_below rows page row there = elim (cases_lt page (length rows)) [ inl l ↦ 
 -- the record stays as it is
 pub row_same : (rows : List (Option PageRow)) (page : ℕ) (row : PageRow) → row_at rows page ≡ Some row → set rows page (Some row) ≡ rows
 row_same rows page row there = ap (set rows page) (sym there) ∙ set-get_or rows page None
+
+-- the record of a page whose block was given back, but for the block that is first
+pub row_loose : (page index : ℕ) (old row : PageRow) → row ≡ row_given page index old → row ≡ record old { first = row.first; allocated = old.allocated - 1 }
+row_loose page index old row is = is ∙ sym (ap (λ (r : PageRow). record old { first = r.first; allocated = old.allocated - 1 }) is)
+
+-- the words that were lent, written back
+pub written_back : (old new : List ℕ) → length new ≡ length old → refill (length old) old new ≡ new
+written_back old new len =
+    ap (λ n. take n (new ++ drop (length new) old)) (sym len) ∙ take-append_seam new (drop (length new) old)
 
 -- the record says how many blocks there are
 pub blocks_told : (rows : List (Option PageRow)) (words : List ℕ) (page : ℕ) (row : PageRow) → row_at rows page ≡ Some row → (n : ℕ) → IsSomeAnd (page_at (pages_in rows words) page) (λ p. n ≤ length p.allocated) → n ≤ blocks_in row.class
@@ -64,19 +75,21 @@ module _ (rows : List (Option PageRow)) (words new : List ℕ) (t : Together row
   pub goes_together : Together (set rows page (Some row)) new
   goes_together = together_by rows words new t page below old row there (old.allocated - 1) old.is_target row_is chain outside (set rows page (Some row)) refl index false flags
 
-  keeps : KeepsAllocated (pages_in (set rows page (Some row)) new) words new
+  pub keeps : KeepsAllocated (pages_in (set rows page (Some row)) new) words new
   keeps =
       keeps_freed (set rows page (Some row)) words new page row index free_mark old.first goes_together.classes (get_or-set_same rows page (Some row) None below)
       (ap (λ n. slice_get (flags_of new (2048 * page) n) index) class_stays ∙ ap (λ l. slice_get l index) flags ∙ freed_flag (flags_of words (2048 * page) old.class) index (slice_get_within (flags_of words (2048 * page) old.class) index true allocated))
       (is ∙ ap (λ n. set (set words (2048 * page + index * size_of n) free_mark) (2048 * page + index * size_of n + 3) old.first) (sym class_stays))
+
+  pub given_there : IfSome (page_at (pages_in rows words) page) (λ q. pages_in (set rows page (Some row)) new ≡ set (pages_in rows words) page (Some (with_allocated q index false)))
+  given_there = given_by rows words new t page below old row there (old.allocated - 1) old.is_target row_is chain outside (set rows page (Some row)) refl index false flags refl
 
   pub goes_there : (colour : Bool) → has_colour words colour (address_of old.class page index) ≡ false → LooksAt colour page index (joined rows words) (joined (set rows page (Some row)) new)
   goes_there colour goes =
       let p : Page = record { class = old.class; evacuating = old.evacuating; is_target = old.is_target; allocated = flags_of words (2048 * page) old.class } in
       let read : page_at (pages_in rows words) page ≡ Some p = page_read rows words page old below there in
       It_goes p (joined (set rows page (Some row)) new) read allocated goes
-      (subst (λ o. IfSome o (λ q. pages_in (set rows page (Some row)) new ≡ set (pages_in rows words) page (Some (with_allocated q index false)))) read
-      (given_by rows words new t page below old row there (old.allocated - 1) old.is_target row_is chain outside (set rows page (Some row)) refl index false flags refl))
+      (subst (λ o. IfSome o (λ q. pages_in (set rows page (Some row)) new ≡ set (pages_in rows words) page (Some (with_allocated q index false)))) read given_there)
       keeps
 
 -- this many blocks were looked at, and then one more

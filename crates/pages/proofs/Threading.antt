@@ -260,6 +260,10 @@ module _ (words : List ℕ) (page class first allocated size : ℕ) (low_page : 
     pub pop_place : first - 1 ≡ 2048 * page + (first - 1 - 2048 * page) / size * size_of class
     pop_place = block_is ∙ ap (λ n. 2048 * page + n * size_of class) (sym index_is)
 
+    -- the offset on the page, as the code computes it
+    pub pop_offset : (2048 * page ≤ first - 1) × (first - 1 - 2048 * page < 2 ^ 32)
+    pop_offset = let f = block_fits class head.index head.below in (omega (arith, block_is), omega (arith, block_is, f))
+
     pub pop_within : (first - 1) + 3 < length words
     pop_within = let f = block_fits class head.index head.below in omega (arith, block_is, f, within, low_size)
 

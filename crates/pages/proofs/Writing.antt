@@ -9,7 +9,7 @@ use Rattle.size_classes.proofs.Table.{size_low}
 use Rattle.size_classes.specs.Sizes.{size_of, blocks_in}
 use Rattle.heap_model.specs.Pages.{Page, page_at}
 use Rattle.pages.specs.declared.page.PageRow.{PageRow}
-use Rattle.pages.specs.FreeList.{flags_of, index_on, free_mark, RunsFree, IsFreeList, SameOutside}
+use Rattle.pages.specs.FreeList.{flags_of, free_mark, RunsFree, IsFreeList, SameOutside}
 use Rattle.pages.specs.Index.{row_at}
 use Rattle.pages.specs.Together.{page_by, pages_in, Together, KeepsAllocated}
 use Rattle.pages.proofs.Indexing.{row_none}
@@ -76,20 +76,17 @@ keeps_one rows words new page old index v classes there free is =
     keeps_but rows words words new page old index classes there free (ap (λ w. length w) is ∙ length-set words a v)
     (λ n other. ap (λ x. get_or x n 0) is ∙ get_or-set_other words a n v 0 (λ e. other 0 (omega (arith, low)) (omega (arith, e))))
 
--- a block was taken off the list of a page, by its address
-module _ (rows : List (Option PageRow)) (words new : List ℕ) (classes : (k : ℕ) → IfSome (row_at rows k) (λ r. r.class < CLASSES)) (page : ℕ) (old : PageRow) (there : row_at rows page ≡ Some old) (block : ℕ)
-    (place : block ≡ 2048 * page + index_on old.class page block * size_of old.class) (free : slice_get (flags_of words (2048 * page) old.class) (index_on old.class page block) ≡ Some false) (is : new ≡ set words block block) where
-  written : new ≡ set words (2048 * page + index_on old.class page block * size_of old.class) block
-  written = is ∙ ap (λ n. set words n block) place
-
+-- a block was taken off the list of a page
+module _ (rows : List (Option PageRow)) (words new : List ℕ) (classes : (k : ℕ) → IfSome (row_at rows k) (λ r. r.class < CLASSES)) (page : ℕ) (old : PageRow) (there : row_at rows page ≡ Some old) (index v : ℕ)
+    (free : slice_get (flags_of words (2048 * page) old.class) index ≡ Some false) (is : new ≡ set words (2048 * page + index * size_of old.class) v) where
   pub popped_outside : SameOutside words new (2048 * page)
   popped_outside =
       let known : old.class < CLASSES = subst (λ o. IfSome o (λ r. r.class < CLASSES)) there (classes page) in
-      let w = inside_page words page old.class (index_on old.class page block) false known free in
-      outside_one words new (2048 * page) _ _ written (omega arith) (omega (arith, w))
+      let w = inside_page words page old.class index false known free in
+      outside_one words new (2048 * page) _ _ is (omega arith) (omega (arith, w))
 
   pub popped_keeps : KeepsAllocated (pages_in rows words) words new
-  popped_keeps = keeps_one rows words new page old (index_on old.class page block) block classes there free written
+  popped_keeps = keeps_one rows words new page old index v classes there free is
 
 pub freed_flag : (flags : List Bool) (i : ℕ) → i < length flags → slice_get (set flags i false) i ≡ Some false
 freed_flag flags i h = slice_get-get_or (set flags i false) i false (omega (arith, h, length-set flags i false)) ∙ ap Some (get_or-set_same flags i false false h)

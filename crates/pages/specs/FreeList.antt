@@ -1,5 +1,5 @@
 -- Free blocks, threaded through their headers.
-use Rattle.std.specs.Prelude.{◌≡◌, ℕ, zero, suc, ◌+◌, ◌-◌, ◌*◌, ◌/◌, ◌<◌, ◌≤◌, Bool, true, false, not, ◌==◌, List, map, length, slice_get, slice_set, slice_index, count_by, Some}
+use Rattle.std.specs.Prelude.{◌≡◌, ℕ, zero, suc, ◌+◌, ◌*◌, ◌<◌, ◌≤◌, Bool, true, false, not, ◌==◌, List, map, length, slice_get, slice_set, slice_index, count_by, Some}
 use Rattle.std.specs.List.{range_with_len}
 use Rattle.size_classes.specs.declared.class.TheConstants.{PAGE_WORDS}
 use Rattle.size_classes.specs.Sizes.{size_of, blocks_in}
@@ -29,10 +29,6 @@ flags_of words at class = flags_at words at (size_of class) (blocks_in class)
 -- the blocks of a page of a class from one up to another are free
 abbrev pub AreFree : List ℕ → ℕ → ℕ → ℕ → ℕ → Type 0
 AreFree words at class from end = (k : ℕ) → from ≤ k → k < end → slice_get (flags_of words at class) k ≡ Some false
-
--- the number of a block on a page of a class, by its address
-abbrev pub index_on : ℕ → ℕ → ℕ → ℕ
-index_on class page block = (block - PAGE_WORDS * page) / size_of class
 
 -- A page's list: this many blocks are allocated, and the list from the first runs through just the others.
 pub record IsFreeList (words : List ℕ) (at class first allocated : ℕ) : Type 0 where

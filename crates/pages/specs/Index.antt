@@ -1,8 +1,9 @@
 -- What the table itself keeps: a record for each page, bits and numbers.
-use Rattle.std.specs.Prelude.{◌≡◌, ℕ, ◌-◌, ◌<◌, ◌≤◌, Bool, true, false, ◌&&◌, not, ◌==◌, nat_lt, if◌then◌else◌, List, map, length, slice_index, slice_index_or, Option, Some, None, IsSomeAnd, count_by, sum_by}
+use Rattle.std.specs.Prelude.{◌≡◌, ℕ, ◌+◌, ◌-◌, ◌<◌, ◌≤◌, Bool, true, false, ◌&&◌, not, ◌==◌, nat_lt, if◌then◌else◌, List, map, length, slice_index, slice_index_or, Option, Some, None, IsSomeAnd, count_by, sum_by}
 use Rattle.size_classes.specs.declared.class.TheConstants.{CLASSES}
 use Rattle.size_classes.specs.declared.config.TheConstants.{MOST_HEAP_PAGES}
 use Rattle.size_classes.specs.Sizes.{blocks_in}
+use Rattle.heap_model.specs.Store.{address_of}
 use Rattle.pages.specs.declared.bits.BitRow.{BitRow}
 use Rattle.pages.specs.declared.page.PageRow.{PageRow}
 use Rattle.pages.specs.BitRow.{has_bit, room_of}
@@ -70,3 +71,8 @@ pub record IsIndex (rows : List (Option PageRow)) (usable : List BitRow) (free :
 abbrev pub row_closed : Option PageRow → Option PageRow
 row_closed None = None
 row_closed (Some r) = if r.allocated == 0 then None else Some (record r { evacuating = false; is_target = false })
+
+-- the record of a page whose block was given back: the block is the first of the list, and one less is allocated
+abbrev pub row_given : ℕ → ℕ → PageRow → PageRow
+row_given page index r =
+    record r { first = address_of r.class page index + 1; allocated = r.allocated - 1 }

@@ -1,7 +1,6 @@
 -- Blocks of a page, found from its first on.
-use Rattle.std.specs.Prelude.{◌≡◌, ◌≢◌, ℕ, ◌≤◌, false, true, slice_get, List, Option, Some, None, IfSome, IsSomeAnd}
-use Rattle.heap_model.specs.Pages.{Page, IsOpen, TakesBlock}
-use Rattle.heap_model.specs.Store.{address_of}
+use Rattle.std.specs.Prelude.{◌≡◌, ◌≢◌, ℕ, ◌≤◌, false, true, slice_get, Option, Some, None, IfSome, IsSomeAnd}
+use Rattle.heap_model.specs.Pages.{Page, IsOpen}
 use Rattle.heap_model.specs.Action.{IsNext}
 
 -- a page in use that isn't evacuating and has a free block
@@ -16,10 +15,3 @@ NoneAllocated from o = IfSome o (λ p. (k : ℕ) → from ≤ k → slice_get p.
 abbrev pub FindsAllocated : Option Page → ℕ → Option ℕ → Type 0
 FindsAllocated o from None = NoneAllocated from o
 FindsAllocated o from (Some i) = IsSomeAnd o (λ p. IsNext p from i)
-
--- the block at an address was taken for a class
-pub record TakesAt (old : List (Option Page)) (class address : ℕ) (new : List (Option Page)) : Type 0 where
-  pub page : ℕ
-  pub index : ℕ
-  pub place : address ≡ address_of class page index
-  pub takes : TakesBlock old class page index new

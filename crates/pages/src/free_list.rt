@@ -2,10 +2,10 @@
 //! blocks are lent the arena's words once, as one row.
 ghost use Rattle.std.specs.Prelude.{◌≡◌, ◌+◌, ◌-◌, ◌<◌, ◌≤◌, ◌*◌, List, Option, length, slice_get, slice_set, replicate, true, false, not, ◌==◌, Some, IfSome, IsNone};
 ghost use Rattle.size_classes.specs.declared.class.TheConstants.{CLASSES};
-ghost use Rattle.size_classes.specs.Sizes.{size_of, blocks_in};
+ghost use Rattle.size_classes.specs.Sizes.{blocks_in};
 ghost use Rattle.heap_model.specs.Store.{address_of};
-ghost use Rattle.pages.specs.FreeList.{flags_of, index_on, AreFree, IsFreeList, SameOutside, free_mark};
-ghost use Rattle.pages.specs.Index.{row_at};
+ghost use Rattle.pages.specs.FreeList.{flags_of, AreFree, IsFreeList, SameOutside, free_mark};
+ghost use Rattle.pages.specs.Index.{row_at, row_given};
 ghost use Rattle.pages.specs.Sweeping.{has_colour, LooksAt, Looks};
 ghost use Rattle.pages.specs.Together.{joined, Together};
 ghost use Rattle.pages.specs.declared.page.PageRow.{PageRow as Row};
@@ -15,29 +15,28 @@ use headers::Arena;
 use headers::block::{self, forward_of, set_forward, set_link};
 use size_classes::Class;
 
-/// Takes the first free block off a page's list, and answers its address: it is allocated, and forwards to
-/// itself.
+/// Takes the first free block off a page's list, and answers which: it is allocated, and forwards to itself.
 #[inline(always)]
 pub fn pop(arena: &mut Arena, page: usize, row: &mut PageRow) -> usize
     requires page { page < 1048576 }
     requires within { 2048 * page + 2048 ≤ length arena.old.words }
     requires chain { IsFreeList arena.old.words (2048 * page) row.old.class row.old.first row.old.allocated }
     requires some { row.old.allocated < blocks_in row.old.class }
-    ensures place { result ≡ 2048 * page + index_on row.old.class page result * size_of row.old.class }
-    ensures free { slice_get (flags_of arena.old.words (2048 * page) row.old.class) (index_on row.old.class page result)
-        ≡ Some false }
+    ensures free { slice_get (flags_of arena.old.words (2048 * page) row.old.class) result ≡ Some false }
     ensures flags { flags_of arena.new.words (2048 * page) row.old.class
-        ≡ slice_set (flags_of arena.old.words (2048 * page) row.old.class) (index_on row.old.class page result) true }
+        ≡ slice_set (flags_of arena.old.words (2048 * page) row.old.class) result true }
     ensures chain { IsFreeList arena.new.words (2048 * page) row.old.class row.new.first (row.old.allocated + 1) }
     ensures row { row.new ≡ record row.old { first = row.new.first; allocated = row.old.allocated + 1 } }
-    ensures words { arena.new.words ≡ slice_set arena.old.words result result }
+    ensures words { arena.new.words ≡ slice_set arena.old.words (address_of row.old.class page result)
+        (address_of row.old.class page result) }
     ensures pages { arena.new.pages ≡ arena.old.pages }
 {
     let block = row.first as usize - 1;
     row.first = arena.link(block);
     row.allocated += 1;
     arena.set_forward(block, block as u64);
-    block
+    let offset = (block - 2048 * page) as u32;
+    (offset / row.class.size()) as usize
 }
 
 /// Says of a block that it is free, and names the next free one.
@@ -50,9 +49,9 @@ fn link_free(words: &mut [u64], block: usize, next: u64)
     set_link(words, block, next);
 }
 
-/// Puts an allocated block on a page's list: it is free.
+/// Puts an allocated block on a page's list: it is free, and the first of the list.
 #[inline(always)]
-fn push(words: &mut [u64], page: usize, row: &mut PageRow, index: usize)
+pub fn push(words: &mut [u64], page: usize, row: &mut PageRow, index: usize)
     requires page { page < 1048576 }
     requires within { 2048 * page + 2048 ≤ length words.old }
     requires chain { IsFreeList words.old (2048 * page) row.old.class row.old.first row.old.allocated }
@@ -61,9 +60,9 @@ fn push(words: &mut [u64], page: usize, row: &mut PageRow, index: usize)
         ≡ slice_set (flags_of words.old (2048 * page) row.old.class) index false }
     ensures chain { IsFreeList words.new (2048 * page) row.old.class row.new.first (row.old.allocated - 1) }
     ensures some { 0 < row.old.allocated }
-    ensures row { row.new ≡ record row.old { first = row.new.first; allocated = row.old.allocated - 1 } }
-    ensures words { words.new ≡ slice_set (slice_set words.old (2048 * page + index * size_of row.old.class) free_mark)
-        (2048 * page + index * size_of row.old.class + 3) row.old.first }
+    ensures row { row.new ≡ row_given page index row.old }
+    ensures words { words.new ≡ slice_set (slice_set words.old (address_of row.old.class page index) free_mark)
+        (address_of row.old.class page index + 3) row.old.first }
 {
     let block = 2048 * page + index * row.class.size() as usize;
     link_free(words, block, row.first);

@@ -1,16 +1,14 @@
 //! All pages.
-ghost use Rattle.std.specs.Prelude.{◌≡◌, ◌+◌, ◌*◌, ◌<◌, ◌≤◌, ◌↔◌, slice_set, position, length, replicate, List, ℕ, IsNone, IfSome, IsSomeAnd, Some, None, true, false, IfOk};
-ghost use Rattle.heap_model.specs.Pages.{page_for, page_at, page_of_class, fresh_page, with_allocated, IsOpen};
+ghost use Rattle.std.specs.Prelude.{◌≡◌, ◌+◌, ◌<◌, ◌≤◌, ◌↔◌, slice_get, slice_set, position, length, replicate, List, ℕ, IsNone, IfSome, IsSomeAnd, Some, None, true, false, IfOk};
+ghost use Rattle.heap_model.specs.Pages.{page_for, page_at, page_of_class, fresh_page, with_allocated, IsOpen, TakesBlock};
 ghost use Rattle.heap_model.specs.Action.{closed};
-ghost use Rattle.pages.specs.Index.{row_at, row_closed, OfClass, row_usable, row_free, bit, HasFree};
-ghost use Rattle.heap_model.specs.Store.{address_of};
-ghost use Rattle.pages.specs.FreeList.{index_on};
-ghost use Rattle.pages.specs.Places.{CanBeTarget, TakesAt};
+ghost use Rattle.pages.specs.Index.{row_at, row_closed, OfClass, row_usable, row_free, row_given, bit, HasFree};
+ghost use Rattle.pages.specs.Places.{CanBeTarget};
 ghost use Rattle.pages.specs.Sweeping.{Looks, LooksAndCloses};
 ghost use Rattle.pages.specs.Together.{joined, pages_in, Together, KeepsAllocated};
 
 use crate::bits::BitRow;
-use crate::free_list::{link_blocks, pop, sweep};
+use crate::free_list::{link_blocks, pop, push, sweep};
 use crate::page::{PageRow, free_on, is_usable};
 use graph_heap::NoMemory;
 use headers::Arena;
@@ -177,61 +175,83 @@ impl PageTable {
         self.put(page, class, Some(row));
     }
 
-    /// Takes the first free block of a page that isn't evacuating, and answers its address. A bit is written
-    /// only where the page has no other free block.
+    /// Takes the first free block of a page that isn't evacuating, and answers which. A bit is written only where
+    /// the page has no other free block.
     #[inline(always)]
     fn take_on(&mut self, arena: &mut Arena, page: usize, class: Class) -> usize
         requires page { page < length self.old }
         requires together { Together self.old arena.old.words }
         requires usable { HasFree class (row_at self.old page) }
         ensures together { Together self.new arena.new.words }
-        ensures place { result ≡ address_of class page (index_on class page result) }
-        ensures free { IsOpen (page_of_class class (page_at (pages_in self.old arena.old.words) page))
-            (index_on class page result) }
+        ensures free { IsOpen (page_of_class class (page_at (pages_in self.old arena.old.words) page)) result }
         ensures allocated { pages_in self.new arena.new.words
             ≡ slice_set (pages_in self.old arena.old.words) page
-            (Some (with_allocated (page_of_class class (page_at (pages_in self.old arena.old.words) page))
-            (index_on class page result) true)) }
+            (Some (with_allocated (page_of_class class (page_at (pages_in self.old arena.old.words) page)) result true)) }
         ensures words { KeepsAllocated (pages_in self.old arena.old.words) arena.old.words arena.new.words }
         ensures len { length self.new ≡ length self.old }
         ensures pages { arena.new.pages ≡ arena.old.pages }
     {
         let number = class.number();
         let row = self.rows[page].as_mut().unwrap();
-        let block = pop(arena, page, row);
+        let index = pop(arena, page, row);
         let is_full = row.allocated == class.blocks_per_page() as usize;
         self.free_blocks[number] -= 1;
         if is_full {
             self.usable[number].set(page, false);
         }
-        block
+        index
     }
 
-    /// Takes a block of a class, and answers its address: a free one of the first page of the class that
-    /// isn't evacuating and has one, else of the first free page, which gets the class. None where there is
-    /// no such page, and then nothing changes. The words of allocated blocks stay.
+    /// Takes a block of a class: a free one of the first page of the class that isn't evacuating and has one, else
+    /// of the first free page, which gets the class. None where there is no such page, and then nothing changes.
+    /// The words of allocated blocks stay.
     #[inline(always)]
-    pub fn take(&mut self, arena: &mut Arena, class: Class) -> Option<usize>
+    pub fn take(&mut self, arena: &mut Arena, class: Class) -> Option<Block>
         requires together { Together self.old arena.old.words }
         requires pages { arena.old.pages ≡ length self.old }
         ensures together { Together self.new arena.new.words }
         ensures none { IsNone result ↔ IsNone (page_for (pages_in self.old arena.old.words) class) }
-        ensures taken { IfSome result (λ block. TakesAt (pages_in self.old arena.old.words) class block
+        ensures taken { IfSome result (λ b. TakesBlock (pages_in self.old arena.old.words) class b.page b.index
             (pages_in self.new arena.new.words)) }
         ensures words { IfSome result (λ _. KeepsAllocated (pages_in self.old arena.old.words) arena.old.words arena.new.words) }
         ensures kept { IsNone result → (self.new ≡ self.old) × (arena.new ≡ arena.old) }
         ensures pages { arena.new.pages ≡ length self.new }
     {
         match self.first_usable(class) {
-            Some(page) => Some(self.take_on(arena, page, class)),
+            Some(page) => {
+                let index = self.take_on(arena, page, class);
+                Some(Block { page, index })
+            }
             None => match self.first_free() {
                 Some(page) => {
                     self.use_page(arena, page, class);
-                    Some(self.take_on(arena, page, class))
+                    let index = self.take_on(arena, page, class);
+                    Some(Block { page, index })
                 }
                 None => None,
             },
         }
+    }
+
+    /// Gives an allocated block back: it is free, and the next that is taken of its page. Every other block, and
+    /// every other page, stays, and so do the words of the blocks that are allocated then.
+    pub fn give(&mut self, arena: &mut Arena, block: Block)
+        requires together { Together self.old arena.old.words }
+        requires page { block.page < length self.old }
+        requires allocated { IsSomeAnd (page_at (pages_in self.old arena.old.words) block.page)
+            (λ p. slice_get p.allocated block.index ≡ Some true) }
+        ensures together { Together self.new arena.new.words }
+        ensures row { IfSome (row_at self.old block.page) (λ r. self.new
+            ≡ slice_set self.old block.page (Some (row_given block.page block.index r))) }
+        ensures given { IfSome (page_at (pages_in self.old arena.old.words) block.page) (λ p. pages_in self.new arena.new.words
+            ≡ slice_set (pages_in self.old arena.old.words) block.page (Some (with_allocated p block.index false))) }
+        ensures words { KeepsAllocated (pages_in self.new arena.new.words) arena.old.words arena.new.words }
+        ensures len { length self.new ≡ length self.old }
+        ensures pages { arena.new.pages ≡ arena.old.pages }
+    {
+        let mut row = self.row(block.page).unwrap();
+        push(arena.words_mut(), block.page, &mut row, block.index);
+        self.update(block.page, row.class, Some(row));
     }
 
     /// Looks at `count` blocks of a page in use, from one on: each that is allocated and hasn't the colour is given
@@ -305,10 +325,10 @@ impl PageTable {
         ensures pages { arena.new.pages ≡ arena.old.pages }
     {
         let mut row = self.row(page).unwrap();
-        let block = pop(arena, page, &mut row);
+        let index = pop(arena, page, &mut row);
         row.is_target = true;
         self.update(page, row.class, Some(row));
-        (block - 2048 * page) / row.class.size() as usize
+        index
     }
 
     /// Marks a page in use as evacuating: it gets no block from then on. Whatever words the table goes

@@ -55,9 +55,17 @@ pub fn sweep_one(heap: &mut HeapFields, page: u32, block: u32) -> Swept
         heap.charge(CLOSE, next);
         return Swept::Closed;
     }
-    let garbage = is_garbage(heap, page as usize, block as usize);
-    sweep_blocks(heap, page, block, 1);
-    if garbage { Swept::Freed } else { Swept::Looked }
+    let next = Phase::Sweeping {
+        page,
+        block: block + 1,
+    };
+    if is_garbage(heap, page as usize, block as usize) {
+        heap.nodes.give(page as usize, block as usize);
+        heap.charge(LOOK, next);
+        return Swept::Freed;
+    }
+    heap.charge(LOOK, next);
+    Swept::Looked
 }
 
 /// Looks at the next blocks of a page, as many as are left or as there is room for: a block that is allocated and
@@ -82,11 +90,14 @@ pub fn sweep_next(heap: &mut HeapFields, page: u32, block: u32, room: u32)
     if 0 < left && left < room as usize {
         return sweep_rest(heap, page, block, left as u32);
     }
-    if left > 0 {
-        let count = left.min(room as usize) as u32;
-        return sweep_blocks(heap, page, block, count);
+    if left == 0 {
+        return close_pages(heap, page, block, room);
     }
-    close_pages(heap, page, block, room);
+    if room == 1 {
+        sweep_one(heap, page, block);
+        return;
+    }
+    sweep_blocks(heap, page, block, room);
 }
 
 /// Closes a page whose blocks are all swept, and the free pages right after it for which there is room.

@@ -2,7 +2,7 @@ use Rattle.std.proofs.Common.{ap, ◌∙◌, sym, subst, refl, ◌*◌, length, 
 use Rattle.pages.specs.declared.page.PageRow.{PageRow}
 use Rattle.pages.specs.FreeList.{IsFreeList}
 use Rattle.pages.specs.Together.{Together}
-use Rattle.pages.proofs.Sweeping.{row_same, stays_there, goes_together, goes_there}
+use Rattle.pages.proofs.Sweeping.{row_same, row_loose, stays_there, goes_together, goes_there}
 use Rattle.pages.proofs.free_list.look.Goals as goal
 
 pub returns-then-stays-clause-row : goal.returns-then-stays-clause-row
@@ -24,10 +24,10 @@ pub returns-clause-chain : goal.returns-clause-chain
 returns-clause-chain c = subst (IsFreeList c.push.new.words (2048 * c.args.page) c.args.row.now.class c.push.new.row.first) (sym (ap (λ (r : PageRow). r.allocated) c.push.ensures.row)) c.push.ensures.chain
 
 pub returns-clause-row : goal.returns-clause-row
-returns-clause-row c = c.push.ensures.row ∙ sym (ap (λ (r : PageRow). record c.args.row.now { first = c.push.new.row.first; allocated = r.allocated }) c.push.ensures.row)
+returns-clause-row c = c.push.ensures.row ∙ sym (ap (λ (r : PageRow). record c.args.row.now { first = r.first; allocated = r.allocated }) c.push.ensures.row)
 
 pub returns-clause-together : goal.returns-clause-together
-returns-clause-together c = λ rows t there. goes_together rows c.args.words.now c.push.new.words t c.args.page c.args.row.now c.push.new.row there c.args.index (c.if-stays.ensures.goes refl).0 c.push.ensures.row c.push.ensures.flags c.push.ensures.chain c.push.ensures.words
+returns-clause-together c = λ rows t there. goes_together rows c.args.words.now c.push.new.words t c.args.page c.args.row.now c.push.new.row there c.args.index (c.if-stays.ensures.goes refl).0 (row_loose c.args.page c.args.index c.args.row.now c.push.new.row c.push.ensures.row) c.push.ensures.flags c.push.ensures.chain c.push.ensures.words
 
 pub returns-clause-looks : goal.returns-clause-looks
-returns-clause-looks c = λ rows t there. goes_there rows c.args.words.now c.push.new.words t c.args.page c.args.row.now c.push.new.row there c.args.index (c.if-stays.ensures.goes refl).0 c.push.ensures.row c.push.ensures.flags c.push.ensures.chain c.push.ensures.words c.args.colour (c.if-stays.ensures.goes refl).1
+returns-clause-looks c = λ rows t there. goes_there rows c.args.words.now c.push.new.words t c.args.page c.args.row.now c.push.new.row there c.args.index (c.if-stays.ensures.goes refl).0 (row_loose c.args.page c.args.index c.args.row.now c.push.new.row c.push.ensures.row) c.push.ensures.flags c.push.ensures.chain c.push.ensures.words c.args.colour (c.if-stays.ensures.goes refl).1

@@ -1,4 +1,4 @@
-use Rattle.std.proofs.Common.{arith}
+use Rattle.std.proofs.Common.{◌+◌, ◌-◌, ◌*◌, ap, arith}
 use Rattle.pages.proofs.Threading.{push_within, push_some, push_words, push_flags, push_chain}
 use Rattle.pages.proofs.free_list.push.Goals as goal
 
@@ -28,3 +28,6 @@ returns-clause-chain c = push_chain c.args.words.now c.args.page c.args.row.now.
 
 pub returns-clause-words : goal.returns-clause-words
 returns-clause-words c = push_words c.args.words.now c.args.page c.args.row.now.class c.args.row.now.first c.args.row.now.allocated c.size.result c.requires.page c.requires.within c.requires.chain c.size.ensures.size c.size.ensures.within.0 c.args.index c.requires.allocated c.link_free.new.words c.link_free.ensures
+
+pub returns-clause-row : goal.returns-clause-row
+returns-clause-row c = ap (λ n. record c.args.row.now { first = 2048 * c.args.page + c.args.index * n + 1; allocated = c.args.row.now.allocated - 1 }) c.size.ensures.size

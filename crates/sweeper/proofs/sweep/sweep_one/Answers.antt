@@ -8,7 +8,7 @@ use Rattle.nodes.specs.declared.heap_fields.HeapFields.{HeapFields}
 use Rattle.nodes.specs.HeapFields.{state_of}
 use Rattle.nodes.proofs.Keeping.{store_still, linked_left, linked_charged}
 use Rattle.nodes.proofs.Representing.{still}
-use Rattle.sweeper.proofs.Acting.{looked, one_done}
+use Rattle.sweeper.proofs.Acting.{looked, garbage_there, is_allocated_there, frees_one, passes_one}
 use Rattle.sweeper.proofs.sweep.sweep_one.Goals as goal
 
 pub returns-then-blocks-block-clause-acts : goal.returns-then-blocks-block-clause-acts
@@ -27,8 +27,34 @@ returns-then-blocks-block-clause-linked c =
     let a = c.args.heap.now in
     linked_charged (record a { nodes = c.close_page.new.self }) c.charge.new.self _ _ c.charge.ensures (linked_left a c.requires.heap (ap records c.requires.phase) c.close_page.new.self c.close_page.ensures.links)
 
-pub returns-then-garbage-clause-acts : goal.returns-then-garbage-clause-acts
-returns-then-garbage-clause-acts c = one_done (state_of c.args.heap.now) c.requires.heap.heap (state_of c.sweep_blocks.new.heap) 1 c.sweep_blocks.ensures.acts refl
+pub give-requires : goal.give-requires
+give-requires c =
+    let h = state_of c.args.heap.now in let o = page_at c.args.heap.now.nodes.pages c.args.page in
+    is_allocated_there h c.args.page c.args.block o (garbage_there h c.args.page c.args.block o c.if-is_garbage.ensures)
 
-pub returns-else-garbage-clause-acts : goal.returns-else-garbage-clause-acts
-returns-else-garbage-clause-acts c = one_done (state_of c.args.heap.now) c.requires.heap.heap (state_of c.sweep_blocks.new.heap) 1 c.sweep_blocks.ensures.acts refl
+pub returns-then-is_garbage-clause-acts : goal.returns-then-is_garbage-clause-acts
+returns-then-is_garbage-clause-acts c =
+    let a = c.args.heap.now in let h = state_of a in let page = c.args.page in let new = c.give.new.self in (
+      a.nodes,
+      still,
+      subst (λ (x : HeapFields). Action h 1 (state_of x)) (sym c.charge-then-is_garbage.ensures)
+          (subst (λ (k : HeapState). Action h 1 (goes_to k 1 (phases.Sweeping page (c.args.block + 1)))) (sym (store_still a c.requires.heap (ap records c.requires.phase) new))
+          (frees_one h page c.args.block new c.requires.phase (page_at a.nodes.pages page) refl (garbage_there h page c.args.block (page_at a.nodes.pages page) c.if-is_garbage.ensures) c.give.ensures.frees c.give.ensures.pages)),
+    )
+
+pub returns-then-is_garbage-clause-linked : goal.returns-then-is_garbage-clause-linked
+returns-then-is_garbage-clause-linked c =
+    let a = c.args.heap.now in
+    linked_charged (record a { nodes = c.give.new.self }) c.charge-then-is_garbage.new.self _ _ c.charge-then-is_garbage.ensures (linked_left a c.requires.heap (ap records c.requires.phase) c.give.new.self c.give.ensures.links)
+
+pub returns-clause-acts : goal.returns-clause-acts
+returns-clause-acts c =
+    let a = c.args.heap.now in let h = state_of a in (
+      a.nodes,
+      still,
+      subst (λ (x : HeapFields). Action h 1 (state_of x)) (sym c.charge-2.ensures)
+          (passes_one h c.args.page c.args.block c.requires.phase (page_at a.nodes.pages c.args.page) refl c.if-is_garbage.ensures (omega (arith, c.blocks-2.ensures, c.if-blocks-block.false))),
+    )
+
+pub returns-clause-linked : goal.returns-clause-linked
+returns-clause-linked c = linked_charged c.args.heap.now c.charge-2.new.self _ _ c.charge-2.ensures c.requires.heap.linked

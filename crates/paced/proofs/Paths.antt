@@ -1,5 +1,5 @@
 -- Events that are done on a heap that is paced.
-use Rattle.std.proofs.Common.{◌≡◌, ℕ, ◌+◌, ◌≤◌, Result, Ok, Err, List, [], ◌∷◌, ◌++◌, ap, ◌∙◌, subst, arith, refl}
+use Rattle.std.proofs.Common.{◌≡◌, ℕ, ◌+◌, Result, Ok, Err, List, [], ◌∷◌, ◌++◌, ap, ◌∙◌, subst, arith, refl}
 use Rattle.graph_heap.specs.declared.command.Command.{Command}
 use Rattle.graph_heap.specs.declared.command.Command.TheVariants as commands
 use Rattle.graph_heap.specs.declared.command.Reply.{Reply}
@@ -15,7 +15,7 @@ use Rattle.machine.specs.declared.collector.Spent.{Spent}
 use Rattle.machine.specs.Collecting.{Begins, Spends}
 use Rattle.machine.specs.Recorded.{begin_done, quantum_done}
 use Rattle.paced.specs.declared.pacer.AbovePlan.{AbovePlan}
-use Rattle.paced.specs.Pacing.{PacerView, PacedState, PacedView, paced_by, state_of, counted, Path, KeepsPlan, MakesNothing, MayAsk, Paced, WorksFor, Pays, PaysUnless, Calls, Counted}
+use Rattle.paced.specs.Pacing.{PacerView, PacedState, PacedView, paced_by, state_of, counted, Path, KeepsPlan, MakesNothing, MayAsk, Paced, WorksFor, Pays, Calls, Counted}
 
 -- events, and then others
 pub path_then : (Passes : PacedState → Event → Type 0) (es fs : List Event) (old mid new : PacedState) → Path Passes old es mid → Path Passes mid fs new → Path Passes old (es ++ fs) new
@@ -74,9 +74,6 @@ quantum_path p q old new budget (Err refused) s k = (state_of (paced_by q new), 
 
 pub quantum_paced : (p q : PacerView) (old new : HeapState) (budget : ℕ) (result : Result Spent BudgetOutOfRange) → Spends old budget new result → Counted p (quantum_done budget result) q → Paced (state_of (paced_by p old)) (state_of (paced_by q new))
 quantum_paced p q old new budget result s k = (quantum_done budget result ∷ [], quantum_path p q old new budget result s k)
-
-pub call_done : (old mid new : PacedView) (words m : ℕ) (c : Command) (reply : Reply) (paid : Unit {0}) → words ≡ words_of (asks c) → PaysUnless old words (Ok paid) mid → Steps mid.heap m c reply new.heap → new.pacer ≡ mid.pacer → Calls old m c (Ok reply) new
-call_done old mid new words m c reply paid is w steps same = (subst (λ n. n ≤ old.pacer.counts.plan.cycle_words) is w.0, mid, subst (λ n. Pays old n mid) is w.1, steps, same)
 
 -- a command that makes no object asks for no words
 no_words : (c : Command) → MakesNothing c → words_of (asks c) ≡ 0

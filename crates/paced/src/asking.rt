@@ -1,12 +1,11 @@
-//! How many words a command asks for.
+//! How many words an object asks for.
 ghost use Rattle.std.specs.Prelude.{◌≡◌, if◌then◌else◌};
 ghost use Rattle.graph_heap.specs.Shape.{fits};
 ghost use Rattle.size_classes.specs.Need.{needed, blocks_needed};
 ghost use Rattle.size_classes.specs.Parts.{parts_in};
-ghost use Rattle.space.specs.Room.{asks};
 ghost use Rattle.fragmentation.specs.Flow.{words_of};
 
-use graph_heap::{Command, Shape};
+use graph_heap::Shape;
 use size_classes::{CLASSES, Class, Need, Parts, class_of, parts_of};
 
 /// The words of the blocks that an object with these parts needs.
@@ -34,15 +33,4 @@ pub fn words_of_shape(shape: &Shape) -> u64
         return words_of_parts(&parts);
     }
     u64::from(class_of(parts.words(0)).unwrap().size())
-}
-
-/// The words of the blocks for which a command asks at most, with their headers: those of a new object, also where it
-/// is refused, unless its shape is too large.
-pub fn words_asked(command: &Command) -> u64
-    ensures { result ≡ words_of (asks command.now) }
-{
-    match command {
-        Command::New { dst: _, shape } => words_of_shape(shape),
-        _ => 0,
-    }
 }

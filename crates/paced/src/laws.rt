@@ -1,5 +1,5 @@
 //! The laws of a heap that is paced. Each function does nothing: its contract is the law.
-ghost use Rattle.std.specs.Prelude.{◌≡◌, ◌↔◌, ℕ, ◌*◌, ◌≤◌, Bool, Ok, List, [], ◌∷◌, ◌++◌, length};
+ghost use Rattle.std.specs.Prelude.{◌≡◌, ◌↔◌, ℕ, ◌*◌, ◌≤◌, Bool, Result, Ok, List, [], ◌∷◌, ◌++◌, length};
 ghost use Rattle.std.specs.List.{AllByRecursion};
 ghost use Rattle.graph_heap.specs.declared.command.Command.{Command};
 ghost use Rattle.graph_heap.specs.declared.command.Reply.{Reply};
@@ -8,6 +8,7 @@ ghost use Rattle.heap_model.specs.Event.{Course, Event, Command_done, IsCourse, 
 ghost use Rattle.heap_model.specs.State.{HeapState};
 ghost use Rattle.fragmentation.specs.Configured.{MovesAll, FlowFitsIn};
 ghost use Rattle.machine.specs.Plan.{Steps};
+ghost use Rattle.paced.specs.declared.pacer.AbovePlan.{AbovePlan};
 ghost use Rattle.paced.specs.declared.plan.Plan.{Plan};
 ghost use Rattle.paced.specs.Pacing.{PacedState, PacedView, state_of, worked, Path, KeepsPlan, MakesNothing, MayAsk, WorksFor, Paced, Pays, Calls};
 ghost use Rattle.paced.specs.Rooms.{planned_flow, flow_for, AsksOnly, IsJustPaced, FindsRoom};
@@ -68,9 +69,11 @@ pub fn work_keeps_to_words()
         → KeepsToWords plan (config.collector_ticks * config.rate) stretch }
 {}
 
-/// Each call of a pacer is one deed, and the figures count the deed's work. A command for words that may already be asked for has
-/// no work. Whatever else keeps the plan is a deed without work.
+/// A command that is done once its words were paid for is paced. It is one deed, and the figures count the deed's work. A command for
+/// words that may already be asked for has no work. Whatever else keeps the plan is a deed without work.
 pub fn calls_are_deeds()
+    ensures paced { (old new : PacedView) (m : ℕ) (c : Command) (answer : Result Reply AbovePlan)
+        → Calls old m c answer new → Paced (state_of old) (state_of new) }
     ensures call { (old new : PacedView) (m : ℕ) (c : Command) (answer : Reply) → Calls old m c (Ok answer) new
         → (work : List Event) × IsDone (state_of old) (record { work = work; event = Command_done m c answer }) (state_of new)
         × (new.pacer.figures ≡ worked old.pacer.figures work) }

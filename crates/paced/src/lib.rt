@@ -5,7 +5,6 @@
 pub mod asking;
 pub mod figures;
 mod laws;
-pub mod paced;
 pub mod pacer;
 pub mod plan;
 mod quanta;
@@ -17,6 +16,5 @@ pub use laws::{
     other_commands_need_no_pacer, paced_calls_add_up, paced_events_run, paced_heaps_find_room,
     pieces_left_suffice, plans_need_pages, words_paid_ahead_are_free, work_keeps_to_words,
 };
-pub use paced::PacedHeap;
 pub use pacer::{AbovePlan, Pacer};
 pub use plan::{Plan, classes_in, cycle_quanta, flow_fits, lasts, least_pages, moves_all, planned};

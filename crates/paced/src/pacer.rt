@@ -1,23 +1,23 @@
 //! What paces a heap that its caller lends.
-ghost use Rattle.std.specs.Prelude.{◌≡◌, ◌⊎◌, ℕ, ◌+◌, ◌<◌, ◌*◌, ◌≤◌, true, false, max, IfOk, OnOk, OnErr};
+ghost use Rattle.std.specs.Prelude.{◌≡◌, ◌⊎◌, ℕ, ◌+◌, ◌<◌, ◌*◌, ◌≤◌, true, false, max, IfOk};
 ghost use Rattle.heap_model.specs.declared.phase.Phase.{Phase};
 ghost use Rattle.heap_model.specs.declared.phase.Phase.TheVariants as phases;
-ghost use Rattle.heap_model.specs.Event.{Cycle_begun, Quantum_done, IsBudget};
+ghost use Rattle.heap_model.specs.Event.{Cycle_begun, Quantum_done};
 ghost use Rattle.heap_model.specs.Spent.{cycle_limit};
 ghost use Rattle.space.specs.Pace.{in_cycle};
 ghost use Rattle.machine.specs.Collecting.{Begins, Spends};
 ghost use Rattle.machine.specs.Recorded.{begin_done, quantum_done};
-ghost use Rattle.paced.specs.Pacing.{paced_by, state_of, shape_words, MayAsk, Paced, PaysUnless, Calls, Counted};
+ghost use Rattle.paced.specs.Pacing.{paced_by, state_of, shape_words, MayAsk, Paced, PaysUnless, Counted};
 ghost use Rattle.paced.specs.Rooms.{first_pacer};
 ghost use Rattle.paced.specs.Working.{KeepsAgreeing, DoesPiece, work_left};
 ghost use Rattle.paced.specs.Bounds.{pieces_left, PreparesUnless};
 
-use crate::asking::{words_asked, words_of_shape};
+use crate::asking::words_of_shape;
 use crate::figures::Figures;
 use crate::plan::Plan;
-use graph_heap::{Command, Reply, Shape};
+use graph_heap::Shape;
 use machine::{BudgetOutOfRange, Busy, Heap, Spent};
-use size_classes::{Config, LEAST_BUDGET, MOST_BUDGET};
+use size_classes::Config;
 use std::marker::Model;
 use thiserror::Error;
 
@@ -61,29 +61,9 @@ impl Pacer {
     pub fn new(config: &Config, plan: Plan) -> Pacer
         ensures { result ≡ first_pacer (config.now.collector_ticks * config.now.rate) plan }
     {
-        Pacer::fresh(plan, config.budget())
-    }
-
-    /// The same, with quanta of this budget. Refused outside `LEAST_BUDGET` to `MOST_BUDGET`.
-    pub fn with_budget(plan: Plan, budget: u32) -> Result<Pacer, BudgetOutOfRange>
-        ensures made { IfOk result (λ p. p ≡ first_pacer budget plan) }
-        ensures within { OnOk result (IsBudget budget) }
-        ensures refused { OnErr result (IsBudget budget → ⊥) }
-    {
-        if budget < LEAST_BUDGET || MOST_BUDGET < budget {
-            return Err(BudgetOutOfRange);
-        }
-        Ok(Pacer::fresh(plan, budget))
-    }
-
-    /// One that has counted nothing.
-    fn fresh(plan: Plan, budget: u32) -> Pacer
-        requires { IsBudget budget }
-        ensures { result ≡ first_pacer budget plan }
-    {
         Pacer {
             plan,
-            budget,
+            budget: config.budget(),
             words: 0,
             quanta: 0,
             figures: Figures::NONE,
@@ -195,43 +175,8 @@ impl Pacer {
         Ok(())
     }
 
-    /// Does a command of a mutator, and replies. Before it the collector works as much as the plan wants for what the
-    /// command asks, and no more: cycles begin, and quanta are spent. A command but `New` asks for no words, and may be
-    /// done on the heap without the pacer just as well. Where the command asks for more words than a whole cycle has,
-    /// nothing is done.
-    pub fn call(
-        &mut self,
-        heap: &mut Heap,
-        mutator: u32,
-        command: Command,
-    ) -> Result<Reply, AbovePlan>
-        ensures calls { Calls (paced_by self.old heap.old) mutator command result (paced_by self.new heap.new) }
-        ensures paced { Paced (state_of (paced_by self.old heap.old)) (state_of (paced_by self.new heap.new)) }
-    {
-        self.pay(heap, words_asked(&command))?;
-        Ok(heap.step(mutator, command))
-    }
-
-    /// A new object, with null references and zero words, into slot dst. Before it the collector works as much as the
-    /// plan wants for the object, and no more. Where it has more words than a whole cycle has, nothing is done.
-    pub fn make(
-        &mut self,
-        heap: &mut Heap,
-        mutator: u32,
-        dst: u32,
-        shape: Shape,
-    ) -> Result<Reply, AbovePlan>
-        ensures calls { Calls (paced_by self.old heap.old) mutator (Command.New dst shape) result
-            (paced_by self.new heap.new) }
-        ensures paced { Paced (state_of (paced_by self.old heap.old)) (state_of (paced_by self.new heap.new)) }
-    {
-        self.pay(heap, words_of_shape(&shape))?;
-        Ok(heap.make(mutator, dst, shape))
-    }
-
     /// Has the collector work as much as the plan wants for a new object of this shape, and no more, and counts its words:
-    /// what `make` does before it makes the object, for a caller that makes it on the heap then. Where it has more words
-    /// than a whole cycle has, nothing is done.
+    /// its caller makes the object on the heap then. Where it has more words than a whole cycle has, nothing is done.
     pub fn pay_for(&mut self, heap: &mut Heap, shape: Shape) -> Result<(), AbovePlan>
         ensures { PaysUnless (paced_by self.old heap.old) (shape_words shape) result (paced_by self.new heap.new) }
     {

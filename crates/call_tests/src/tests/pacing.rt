@@ -1,9 +1,9 @@
 //! A heap that paces itself, and its plans.
 use super::*;
 use graph_heap::Reply;
+use machine::Heap;
 use paced::{
-    AbovePlan, Figures, PacedHeap, Pacer, Plan, classes_in, flow_fits, least_pages, moves_all,
-    planned,
+    AbovePlan, Figures, Pacer, Plan, classes_in, flow_fits, least_pages, moves_all, planned,
 };
 use size_classes::Class;
 use std::alloc::Global;
@@ -24,14 +24,14 @@ fn moving_all(rt: &impl Abort, collector_ticks: i64) -> Config {
     config
 }
 
-fn paced_heap(rt: &impl Abort, alloc: Global, config: &Config, plan: Plan) -> PacedHeap {
-    let Ok(heap) = PacedHeap::new(alloc, config, plan) else {
+fn new_heap(rt: &impl Abort, alloc: Global, config: &Config) -> Heap {
+    let Ok(heap) = Heap::new(alloc, config) else {
         panic!(rt; "there is memory");
     };
     heap
 }
 
-/// A plan of a configuration, and commands on its heap through some cycles; then one above the words of a cycle.
+/// A plan of a configuration, and objects on its heap through some cycles; then one above the words of a cycle.
 #[test]
 fn a_paced_heap_is_made_and_asked(rt: HostRuntime) {
     let config = moving_all(&rt, 50);
@@ -42,18 +42,19 @@ fn a_paced_heap_is_made_and_asked(rt: HostRuntime) {
     assert!(rt; moves_all(&config));
     // A word for each quantum adds less than a page to the 100 that are live and three of each class.
     assert!(rt; least_pages(&config, 183200, None) == Some(214));
-    let mut heap = paced_heap(&rt, rt.alloc(), &config, plan);
+    let mut heap = new_heap(&rt, rt.alloc(), &config);
+    let mut pacer = Pacer::new(&config, plan);
     for n in 0..100u32 {
         let shape = Shape::WordArray(20000);
-        let reply = heap.call(0, Command::New { dst: 0, shape });
-        assert!(rt; reply == Ok(Reply::Made(u64::from(n) + 1)));
+        assert!(rt; pacer.pay_for(&mut heap, shape).is_ok());
+        let reply = heap.step(0, Command::New { dst: 0, shape });
+        assert!(rt; reply == Reply::Made(u64::from(n) + 1));
     }
-    let figures = heap.pacer().figures();
+    let figures = pacer.figures();
     assert!(rt; figures.cycles > 0 && figures.quanta >= figures.most_quanta);
-    let shape = Shape::WordArray(70000);
-    let above = heap.call(0, Command::New { dst: 0, shape });
+    let above = pacer.pay_for(&mut heap, Shape::WordArray(70000));
     assert!(rt; above == Err(AbovePlan));
-    assert!(rt; heap.pacer().figures() == figures);
+    assert!(rt; pacer.figures() == figures);
 }
 
 /// Plans for the smallest and the largest size class alone: all but 6 of the 114 pages that may be filled in part are
@@ -82,20 +83,20 @@ fn a_program_works_besides(rt: HostRuntime) {
         quantum_words: 10,
         cycle_words: 70000,
     };
-    let mut heap = paced_heap(&rt, rt.alloc(), &config, plan);
-    assert!(rt; Pacer::with_budget(plan, 255).is_err() && Pacer::with_budget(plan, 256).is_ok());
-    assert!(rt; heap.begin().is_ok());
-    assert!(rt; heap.begin().is_err());
-    assert!(rt; heap.quantum(300).is_ok());
-    assert!(rt; heap.quantum(1000).is_ok());
-    assert!(rt; heap.quantum(255).is_err());
+    let mut heap = new_heap(&rt, rt.alloc(), &config);
+    let mut pacer = Pacer::new(&config, plan);
+    assert!(rt; pacer.begin(&mut heap).is_ok());
+    assert!(rt; pacer.begin(&mut heap).is_err());
+    assert!(rt; pacer.quantum(&mut heap, 300).is_ok());
+    assert!(rt; pacer.quantum(&mut heap, 1000).is_ok());
+    assert!(rt; pacer.quantum(&mut heap, 255).is_err());
     assert!(rt;
-        heap.pacer().figures()
+        pacer.figures()
             == Figures {
                 quanta: 0,
                 cycles: 0,
                 most_quanta: 0
             }
     );
-    assert!(rt; !heap.heap().phase().is_idle());
+    assert!(rt; !heap.phase().is_idle());
 }

@@ -1,4 +1,4 @@
-use Rattle.std.proofs.Common.{◌++◌, ℕ, List, Ok, Err, inl, inr, ap, ◌∙◌, subst, arith}
+use Rattle.std.proofs.Common.{◌++◌, List, Ok, Err, inl, inr, ap, ◌∙◌, subst, arith}
 use Rattle.graph_heap.specs.declared.command.Entry.{Entry}
 use Rattle.trace.specs.Streams.{GrowsByPart, given_by}
 use Rattle.trace.specs.declared.player.style.Style.TheVariants.{Entries}

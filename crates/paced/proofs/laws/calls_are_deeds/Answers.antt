@@ -1,5 +1,9 @@
 use Rattle.paced.proofs.Deeds.{call_deed, alone_deed, paid_ahead}
+use Rattle.paced.proofs.Paths.{calls_paced}
 use Rattle.paced.proofs.laws.calls_are_deeds.Goals as goal
+
+pub returns-clause-paced : goal.returns-clause-paced
+returns-clause-paced c = calls_paced
 
 pub returns-clause-call : goal.returns-clause-call
 returns-clause-call c = call_deed

@@ -1,6 +1,6 @@
 -- What is reported of the pages that a trace needs, and how many are enough for the trace itself.
-use Rattle.std.specs.Prelude.{◌≡◌, ℕ, ◌+◌, ◌≤◌, ◌⊎◌, nat_le, Bool, true, false, if◌then◌else◌, List, ◌++◌, Option, Some, None, Result, Ok, Err}
-use Rattle.size_classes.specs.Config.{limits_of}
+use Rattle.std.specs.Prelude.{◌≡◌, ℕ, ◌+◌, ◌≤◌, ◌⊎◌, nat_le, Bool, true, false, List, ◌++◌, Option, Some, None, Result, Ok, Err}
+use Rattle.size_classes.specs.Config.{IsOnPages}
 use Rattle.size_classes.specs.declared.config.Config.{Config}
 use Rattle.size_classes.specs.declared.config.TheConstants.{MOST_PAGES}
 use Rattle.trace.specs.declared.fault.PlayFault.{PlayFault}
@@ -20,21 +20,10 @@ abbrev pub is_enough : Config → Option Needed → Bool
 is_enough c None = false
 is_enough c (Some n) = nat_le (needed_pages c n) c.pages
 
--- A configuration is another one with this many pages, on which nothing is moved, or moving follows each sweep and may empty
--- every page. The rest stays.
-pub record IsResized (c : Config) (moves : Bool) (count : ℕ) (resized : Config) : Type 0 where
-  pub pages : resized.pages ≡ count
-  pub defrag_below : resized.defrag_below ≡ (if moves then count + 1 else 0)
-  pub defrag_pages : resized.defrag_pages ≡ (if moves then count else c.defrag_pages)
-  pub limits : limits_of resized ≡ limits_of c
-  pub collector_ticks : resized.collector_ticks ≡ c.collector_ticks
-  pub mutator_ticks : resized.mutator_ticks ≡ c.mutator_ticks
-  pub rate : resized.rate ≡ c.rate
-
 module _ (config : Config) (text : List ℕ) where
   -- This many pages, with moving or without, are enough for what the trace of a text needs there, or not: it was measured.
   abbrev pub Measures : Bool → ℕ → Bool → Config → Type 0
-  Measures moves pages enough c = IsResized config moves pages c
+  Measures moves pages enough c = IsOnPages config pages moves c
       × (m : Measured) × TextMeasured c text (Ok m) × (is_enough c m.needed ≡ enough)
 
   -- this many pages are too few for that
@@ -54,7 +43,7 @@ module _ (config : Config) (text : List ℕ) where
 
   -- measuring it on some number of pages, with moving or without, ended with a fault
   abbrev pub FailsBy : PlayFault → Type 0
-  FailsBy why = (moves : Bool) × (pages : ℕ) × (c : Config) × IsResized config moves pages c × TextMeasured c text (Err why)
+  FailsBy why = (moves : Bool) × (pages : ℕ) × (c : Config) × IsOnPages config pages moves c × TextMeasured c text (Err why)
 
   -- it was measured, and then this holds; or that ended with a fault
   abbrev pub OrFault : {A : Type 0} → (A → Type 0) → Result A PlayFault → Type 0

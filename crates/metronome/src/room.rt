@@ -2,7 +2,7 @@
 ghost use Rattle.std.specs.Prelude.{◌≡◌, ◌≤◌, Some};
 ghost use Rattle.size_classes.specs.declared.config.TheConstants.{MOST_PAGES};
 ghost use Rattle.trace.specs.LinesProcessed.{reads_failed, writes_failed};
-ghost use Rattle.metronome.specs.Demand.{is_enough, IsResized, Measures, IsEnoughOn, IsFound, OrFault};
+ghost use Rattle.metronome.specs.Demand.{is_enough, Measures, IsEnoughOn, IsFound, OrFault};
 ghost use Rattle.metronome.specs.Bounds.{enough_of, AreBounds, BoundsOrNone};
 
 use crate::measuring::measure_text;
@@ -18,27 +18,6 @@ fn is_enough(config: &Config, needed: &Option<Needed>) -> bool
     match needed {
         Some(needed) => needed.pages_in(config) <= u128::from(config.pages),
         None => false,
-    }
-}
-
-/// The configuration with this many pages, on which nothing is moved, or moving follows each sweep and may empty every
-/// page.
-fn resized(config: &Config, moves: bool, pages: u32) -> Config
-    requires { (1 ≤ pages) × (pages ≤ MOST_PAGES) }
-    ensures { IsResized config.now moves pages result }
-{
-    Config {
-        pages,
-        mutators: config.mutators,
-        slots: config.slots,
-        statics: config.statics,
-        identities: config.identities,
-        defrag_below: if moves { pages + 1 } else { 0 },
-        defrag_pages: if moves { pages } else { config.defrag_pages },
-        collector_ticks: config.collector_ticks,
-        mutator_ticks: config.mutator_ticks,
-        rate: config.rate,
-        live: config.live,
     }
 }
 
@@ -65,7 +44,7 @@ fn trial_of(
     ensures reads { reads_failed result ≡ 0 }
     ensures writes { writes_failed result ≡ 0 }
 {
-    let config = resized(config, moves, pages);
+    let config = config.on_pages(pages, moves);
     let needed = measure_text(alloc, &config, text)?.needed;
     let (enough, fewest) = (is_enough(&config, &needed), fewest_of(&needed));
     Ok(Trial {

@@ -1,6 +1,5 @@
 pub mod Live
 pub mod LiveMeter
-pub mod OnPages
 pub mod Order
 pub mod Report
 pub mod Bars

@@ -1,14 +1,14 @@
 -- What is told of the plans for a number of live words: lines of text.
-use Rattle.std.specs.Prelude.{◌≡◌, ℕ, ◌+◌, ◌*◌, ◌/◌, nat_lt, if◌then◌else◌, Bool, List, [], ◌∷◌, ◌++◌, Option, Some, None, codes, decimal}
+use Rattle.std.specs.Prelude.{◌≡◌, ℕ, ◌+◌, ◌*◌, ◌/◌, nat_lt, if◌then◌else◌, Bool, true, List, [], ◌∷◌, ◌++◌, Option, Some, None, codes, decimal}
 use Rattle.std.specs.Int.{div_ceil}
 use Rattle.std.specs.List.{concat}
+use Rattle.size_classes.specs.Config.{IsOnPages}
 use Rattle.size_classes.specs.declared.config.Config.{Config}
 use Rattle.size_classes.specs.declared.config.TheConstants.{MOST_PAGES}
 use Rattle.paced.specs.declared.plan.Plan.{Plan}
 use Rattle.fragmentation.specs.Flow.{classes_made}
 use Rattle.paced.specs.Rooms.{among, made_of, planned_flow}
 use Rattle.paced.specs.Planning.{quanta_on, IsFastestFor, IsLeastPagesFor}
-use Rattle.plans.specs.OnPages.{IsOnPages}
 use Rattle.plans.specs.Order.{OneForEach}
 
 -- how many words are live, the units of a quantum, and for how many size classes the plans are, where some are said
@@ -46,7 +46,7 @@ plan_line c live (Some plan) = codes "pages " ++ (decimal c.pages
 -- them, and blocks are made of these classes alone
 pub record FastestOn (makes : ℕ → Bool) (c : Config) (live pages : ℕ) : Type 0 where
   pub on : Config
-  pub is_on : IsOnPages c pages on
+  pub is_on : IsOnPages c pages true on
   pub plan : Option Plan
   pub fastest : IsFastestFor makes on live plan
 

@@ -4,7 +4,6 @@ ghost use Rattle.size_classes.specs.declared.config.TheConstants.{MOST_HEAP_PAGE
 ghost use Rattle.plans.specs.Bars.{figures_of, IsBar, AreBars, ArePlanBars};
 ghost use Rattle.paced.specs.Rooms.{made_of};
 
-use crate::on_pages::on_pages;
 use crate::order::next_of;
 use crate::report::numbers_told;
 use crate::row::tenths;
@@ -30,7 +29,7 @@ fn bar(config: &Config, live_words: u64, classes: Option<&[Class]>, pages: u32) 
     requires { (1 ≤ pages) × (pages ≤ MOST_HEAP_PAGES) }
     ensures { IsBar (made_of (option_map (λ used. used.now) classes.entry)) config.now live_words pages result }
 {
-    let on = on_pages(config, pages);
+    let on = config.on_pages(pages, true);
     let plan = planned(&on, live_words, classes);
     PlanBar {
         pages,

@@ -5,7 +5,6 @@
 mod bars;
 mod live;
 mod observing;
-mod on_pages;
 mod order;
 mod report;
 mod row;

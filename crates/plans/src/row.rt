@@ -4,7 +4,6 @@ ghost use Rattle.size_classes.specs.declared.config.TheConstants.{MOST_HEAP_PAGE
 ghost use Rattle.paced.specs.Rooms.{made_of};
 ghost use Rattle.plans.specs.Report.{tenths_of, plan_line, IsRow};
 
-use crate::on_pages::on_pages;
 use paced::{Plan, cycle_quanta, planned};
 use size_classes::{Class, Config};
 use std::alloc::{AllocError, Global};
@@ -51,6 +50,6 @@ pub(crate) fn row(
     ensures { IfOk result (λ line. IsRow (made_of (option_map (λ used. used.now) classes.entry)) config.now live_words pages
         (string_bytes line)) }
 {
-    let on = on_pages(config, pages);
+    let on = config.on_pages(pages, true);
     plan_line(alloc, &on, live_words, planned(&on, live_words, classes))
 }

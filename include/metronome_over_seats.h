@@ -114,8 +114,8 @@ METRONOME_NONNULL static inline uint32_t metronome_gate_enter(metronome_gate *ga
     return status;
 }
 
-/* Gives the turn back, and wakes a thread that waits for it. A turn that ends by metronome_seat_leave, metronome_seat_learn or
- * metronome_seat_destroy wakes none: metronome_gate_wake does then. OK, OUTSIDE, NO_HEAP, BAD_HANDLE. */
+/* Gives the turn back, and wakes a thread that waits for it. A turn that ends by metronome_seat_leave or metronome_seat_destroy
+ * wakes none: metronome_gate_wake does then. OK, OUTSIDE, NO_HEAP, BAD_HANDLE. */
 METRONOME_NONNULL static inline uint32_t metronome_gate_leave(metronome_gate *gate, metronome_seat *seat) {
 #ifdef METRONOME_GATE_TELLS
     __tsan_release(gate);

@@ -135,15 +135,9 @@ uint32_t metronome_seat_leave(metronome_seat *seat) METRONOME_NONNULL;
  * OK; INSIDE or NO_HEAP, and *place is left as it was. */
 uint32_t metronome_seat_place(metronome_seat *seat, uint64_t *place) METRONOME_NONNULL;
 
-/* Takes in what another seat of the same heap can tell of the history, and closes that one: nobody calls for its mutators any
- * more. Where it had the turn, the turn is given back first. Once one seat has learnt from all others, and takes the turn, the
- * heap's history is a merge of what was called by all of them. A seat at another heap is closed too, and nothing is learnt from it.
- * A thread that waits at a gate isn't woken: metronome_gate_wake does it.
- * OK; NO_HEAP or BAD_HANDLE of seat, then of other, and nothing has changed then. */
-uint32_t metronome_seat_learn(metronome_seat *seat, metronome_seat *other) METRONOME_NONNULL;
-
-/* Closes a seat; where it had the turn, the turn is given back first. With the last seat of a heap its memory goes back. Where the
- * handle holds none nothing is done. A thread that waits at a gate isn't woken: metronome_gate_wake does it. */
+/* Closes a seat; where it had the turn, the turn is given back first. Nobody calls for its mutators any more. With the last seat of a
+ * heap its memory goes back. Where the handle holds none nothing is done. A thread that waits at a gate isn't woken:
+ * metronome_gate_wake does it. */
 void metronome_seat_destroy(metronome_seat *seat) METRONOME_NONNULL;
 
 /* ---- Commands of mutators, in the turn. Each is what the command of the same name in metronome.h is, and has its answers. Before

@@ -61,11 +61,6 @@ public:
     // The length of the history.
     std::uint32_t try_place(std::uint64_t &place) noexcept { return metronome_seat_place(&seat, &place); }
 
-    // Takes in what another seat of the heap can tell, which is closed then, and its turn is over. BAD_HANDLE of itself.
-    std::uint32_t try_learn(Seat &other) noexcept {
-        return &other == this ? std::uint32_t{METRONOME_BAD_HANDLE} : metronome_seat_learn(&seat, &other.seat);
-    }
-
     // The handle for calls of metronome_shared.h. It is only read and written by these.
     metronome_seat *handle() noexcept { return &seat; }
 
@@ -83,7 +78,6 @@ public:
         detail::need(try_place(place));
         return place;
     }
-    void learn(Seat &other) { detail::need(try_learn(other)); }
 #endif
 
 private:

@@ -1,7 +1,6 @@
 /*
  * One heap that five threads share, each by a seat of its own: four mutators, and a collector. A mutator does all calls of a round
- * in one turn. In the end the main thread's seat learns from all others: the history, which has as many commands as all of them did,
- * is a merge of what they called.
+ * in one turn. In the end the history has as many commands as all of them did.
  */
 #include "metronome_shared.h"
 #include <pthread.h>
@@ -91,17 +90,17 @@ static uint32_t open_seats(struct mutator *mutators) {
     return status;
 }
 
-/* Learns from all seats, and looks whether the history has as many commands as they did. */
+/* Closes all seats but the main thread's, and looks whether the history has as many commands as they did. */
 static int is_whole(struct mutator *mutators) {
     uint64_t commands = 0, place = 0;
-    int learnt = metronome_seat_learn(&own, &collector) == METRONOME_OK;
+    metronome_seat_destroy(&collector);
     for (uint32_t m = 0; m < MUTATORS; m++) {
-        learnt += metronome_seat_learn(&own, &mutators[m].seat) == METRONOME_OK;
+        metronome_seat_destroy(&mutators[m].seat);
         commands += mutators[m].commands;
     }
     if (metronome_seat_place(&own, &place) != METRONOME_OK) return 0;
     printf("a history of %llu commands\n", (unsigned long long)place);
-    return learnt == MUTATORS + 1 && place == commands;
+    return place == commands;
 }
 
 int main(void) {

@@ -350,7 +350,6 @@ extern "C" {
     pub(crate) fn metronome_seat_leave(seat: *mut SeatHandle) -> u32;
     pub(crate) fn metronome_seat_place(seat: *mut SeatHandle, place: *mut u64) -> u32;
     pub(crate) fn metronome_seat_entry(seat: *mut SeatHandle, place: u64, entry: *mut EntryTold) -> u32;
-    pub(crate) fn metronome_seat_learn(seat: *mut SeatHandle, other: *mut SeatHandle) -> u32;
     pub(crate) fn metronome_seat_destroy(seat: *mut SeatHandle);
     pub(crate) fn metronome_seat_new_plain(seat: *mut SeatHandle, mutator: u32, dst: u32, refs: u32, words: u32) -> Answer;
     pub(crate) fn metronome_seat_new_refs(seat: *mut SeatHandle, mutator: u32, dst: u32, refs: u32) -> Answer;

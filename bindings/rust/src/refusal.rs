@@ -55,8 +55,6 @@ pub enum Refusal {
     SlotsUsed,
     /// The root is one of another mutator.
     OtherMutator,
-    /// The seat isn't at this heap: the crate finds it, and metronome.h has no number for it.
-    OtherHeap,
     /// A status of the library for which this crate has no other name.
     Other(u32),
 }
@@ -111,7 +109,6 @@ impl Refusal {
 impl fmt::Display for Refusal {
     fn fmt(&self, out: &mut fmt::Formatter<'_>) -> fmt::Result {
         let status = match (self, self.status()) {
-            (Refusal::OtherHeap, _) => return out.write_str("the seat is at another heap"),
             (Refusal::OtherVersion, _) | (_, None) => return out.write_str("the library is of another version"),
             (_, Some(status)) => status,
         };

@@ -107,16 +107,6 @@ impl Shared {
         unsafe { Turn::entered(seat, held) }
     }
 
-    /// Takes in what a seat can tell of the history; nobody calls for its mutators any more. It waits for the turn. Refused:
-    /// `OtherHeap` of a seat at another one, which is gone then.
-    pub fn learn(&self, mut other: Seat) -> Result<()> {
-        if !Arc::ptr_eq(&self.gate, &other.gate) {
-            return Err(Refusal::OtherHeap);
-        }
-        // SAFETY: both live through the call and are open; the first is used under the lock.
-        done(unsafe { calls::metronome_seat_learn(&mut *self.gate.lock(), &mut other.handle) })
-    }
-
     /// The length of the history: how many commands were done. It waits for the turn, as [`Seat::place`] doesn't.
     pub fn place(&self) -> u64 {
         place_of(&mut self.gate.lock())
@@ -131,8 +121,8 @@ fn place_of(handle: &mut SeatHandle) -> u64 {
     place
 }
 
-/// A seat at a shared heap, for a range of its mutators. It may go to another thread. What it was told of the history is lost when
-/// it is dropped, unless [`Shared::learn`] takes it in.
+/// A seat at a shared heap, for a range of its mutators. It may go to another thread. Once it is dropped nobody calls for its
+/// mutators.
 pub struct Seat {
     handle: SeatHandle,
     gate: Arc<Gate>,

@@ -172,14 +172,10 @@ fn a_whole_cycle_in_a_turn_frees_the_pages_that_moving_emptied() -> Result<()> {
 }
 
 #[test]
-fn a_seat_learns_at_its_own_heap() -> Result<()> {
-    let (here, there) = (Shared::new(&SMALL)?, Shared::new(&SMALL)?);
-    let (own, strange) = (here.seat(2)?, there.seat(2)?);
-    assert_eq!(here.learn(strange).err(), Some(Refusal::OtherHeap));
-    assert_eq!(Refusal::OtherHeap.status(), None);
-    assert_eq!(Refusal::OtherHeap.to_string(), "the seat is at another heap");
-    assert_eq!(here.learn(own), Ok(()));
-    assert_eq!(here.enter().clear(2, 0).err(), Some(Refusal::NotYours));
+fn nobody_calls_for_a_dropped_seats_mutators() -> Result<()> {
+    let shared = Shared::new(&SMALL)?;
+    drop(shared.seat(2)?);
+    assert_eq!(shared.enter().clear(2, 0).err(), Some(Refusal::NotYours));
     assert_eq!(Shared::new(&Settings { slots: 0, ..SMALL }).err(), Some(Refusal::BadSetting(2)));
     Ok(())
 }
@@ -221,10 +217,10 @@ fn what_threads_did_is_one_history() -> Result<()> {
         threads.push(thread::spawn(move || add(&mut seat, mutator).map(|()| seat)));
     }
     for thread in threads {
-        shared.learn(thread.join().expect("the thread ends")?)?;
+        drop(thread.join().expect("the thread ends")?);
     }
     end.send(()).expect("the collector's thread goes on");
-    shared.learn(collecting.join().expect("the thread ends")?)?;
+    drop(collecting.join().expect("the thread ends")?);
     assert_eq!(shared.enter().get(0, 0, 0)?, 3 * ROUNDS);
     assert_eq!(shared.place(), 3 * (3 * ROUNDS + 1) + 3);
     Ok(())

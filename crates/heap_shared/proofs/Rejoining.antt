@@ -1,5 +1,5 @@
 -- A member takes back what it gave to another, which did nothing.
-use Rattle.std.proofs.Common.{◌≡◌, ◌≢◌, ℕ, ◌+◌, ◌-◌, ◌%◌, ◌<◌, ◌≤◌, ◌⊎◌, inl, inr, ⊎_elim, true, false, List, [], ◌++◌, set, refl, sym, ap, ◌∙◌, subst, arith, Some, Ok}
+use Rattle.std.proofs.Common.{◌≡◌, ◌≢◌, ℕ, ◌+◌, ◌-◌, ◌%◌, ◌<◌, ◌≤◌, ◌⊎◌, inl, inr, ⊎_elim, true, false, List, [], ◌++◌, set, refl, sym, ap, ◌∙◌, subst, arith, Some, None, Ok}
 use Rattle.std.specs.List.{All}
 use Rattle.std.proofs.lemmas.List.{append_cancel_left}
 use mathlib.Core.Option.{Option, none, some, some-ne-none}
@@ -10,7 +10,7 @@ use Rattle.heap_shared.specs.declared.deed.Deed.{Deed}
 use Rattle.heap_shared.specs.declared.rule.Known.{Known}
 use Rattle.heap_shared.specs.declared.shared_heap.SharedConfig.{SharedConfig}
 use Rattle.heap_shared.specs.Accounts.{Doer, mutator_of, member_of, Has, IsOthers, BearsOut, account_of}
-use Rattle.heap_shared.specs.Members.{MemberView, shown_by, Adds, IsUpper}
+use Rattle.heap_shared.specs.Members.{MemberView, shown_by, Adds, before_giving}
 use Rattle.heap_shared.specs.Ring.{Ringed}
 use Rattle.heap_shared.specs.Turns.{Turn, free, taken, rejoined, nobody, IsTurn, Knows, Keeps}
 use Rattle.heap_shared.proofs.Owners.{given, given_within, given_other, given_same, one_of_two}
@@ -119,16 +119,47 @@ rejoins c id v other w d config half st k at off there =
       below = k.below;
     }
 
--- as they are shown
-pub half_shown : (id there : TableId) (c d : SharedConfig) (m n : Me Ringed Known) (v w : MemberView) → shown_by id c m ≡ v → shown_by there d n ≡ w → IsUpper v w → IsHalf m.0 n.0
-half_shown id there c d m n v w mine theirs is =
-    let u : IsUpper (shown_by id c m) (shown_by there d n) = subst (λ (x : MemberView). IsUpper x (shown_by there d n)) (sym mine) (subst (IsUpper v) (sym theirs) is) in
-    record { width = u.width; next = u.next; mine = u.mine; theirs = u.theirs; joins = u.joins; low = u.low; high = u.high; seen = u.seen }
+-- a member got from another the mutators from its last one on and every other number, and both have seen the same
+record IsUpper (v made : MemberView) : Type 0 where
+  pub width : ℕ
+  pub next : made.number ≡ v.number + width
+  pub mine : v.step ≡ width + width
+  pub theirs : made.step ≡ width + width
+  pub joins : made.from ≡ v.to
+  pub low : v.from ≤ v.to
+  pub high : made.from ≤ made.to
+  pub seen : made.seen ≡ v.seen
 
--- who was just made got the upper half
-pub upper : (old : MemberView) (from : ℕ) (made new : MemberView) → Adds old from (Ok made) new → IsUpper new made
+-- who was given this got the upper half
+upper : (old : MemberView) (from : ℕ) (made new : MemberView) → Adds old from (Ok made) new → IsUpper new made
 upper old from made new adds =
     let cut : MemberView = record old { to = from; step = old.step + old.step } in
     let got : MemberView = record old { from = from; number = old.number + old.step; step = old.step + old.step; learnt = [] } in
     let is : IsUpper cut got = record { width = old.step; next = refl; mine = refl; theirs = refl; joins = refl; low = adds.1; high = adds.2; seen = refl } in
     subst (λ (x : MemberView). IsUpper x made) (sym adds.3) (subst (IsUpper cut) (sym adds.4) is)
+
+-- as they are shown
+pub half_shown : (id there : TableId) (c d : SharedConfig) (m n : Me Ringed Known) (v w : MemberView) → shown_by id c m ≡ v → shown_by there d n ≡ w → (old : MemberView) (from : ℕ) → Adds old from (Ok w) v → IsHalf m.0 n.0
+half_shown id there c d m n v w mine theirs old from adds =
+    let u : IsUpper (shown_by id c m) (shown_by there d n) = subst (λ (x : MemberView). IsUpper x (shown_by there d n)) (sym mine) (subst (IsUpper v) (sym theirs) (upper old from w v adds)) in
+    record { width = u.width; next = u.next; mine = u.mine; theirs = u.theirs; joins = u.joins; low = u.low; high = u.high; seen = u.seen }
+
+
+-- what was given is at the same heap, and neither has the turn
+pub given_here : (old : MemberView) (from : ℕ) (made new : MemberView) → Adds old from (Ok made) new → (made.heap ≡ new.heap) × (made.turn ≡ None)
+given_here old from made new adds = (ap (λ (v : MemberView). v.heap) adds.4 ∙ sym (ap (λ (v : MemberView). v.heap) adds.3), ap (λ (v : MemberView). v.turn) adds.4 ∙ adds.0)
+
+-- who takes back what it has just given is who it was
+pub as_before : (old : MemberView) (from : ℕ) (made new : MemberView) → Adds old from (Ok made) new → before_giving new made ≡ old
+as_before old from made new adds =
+    let cut : MemberView = record old { to = from; step = old.step + old.step } in
+    let got : MemberView = record old { from = from; number = old.number + old.step; step = old.step + old.step; learnt = [] } in
+    let step : got.number - cut.number ≡ old.step = omega arith in
+    let back : before_giving cut got ≡ old = ap (λ (n : ℕ). record old { step = n }) step in
+    ap (λ (v : MemberView). before_giving v made) adds.3 ∙ (ap (before_giving cut) adds.4 ∙ back)
+
+-- so it may take that back
+pub may_rejoin : (old : MemberView) (from : ℕ) (made new : MemberView) → Adds old from (Ok made) new → Adds (before_giving new made) made.from (Ok made) new
+may_rejoin old from made new adds =
+    let at : from ≡ made.from = sym (ap (λ (v : MemberView). v.from) adds.4) in
+    subst (λ (v : MemberView). Adds v made.from (Ok made) new) (sym (as_before old from made new adds)) (subst (λ (n : ℕ). Adds old n (Ok made) new) at adds)

@@ -1,5 +1,5 @@
 -- What a member of a shared heap shows, and what its calls do.
-use Rattle.std.specs.Prelude.{ℕ, ◌≡◌, ◌≢◌, ◌+◌, ◌≤◌, ◌%◌, Bool, true, false, List, [], ◌∷◌, ◌++◌, length, Option, Some, None, Result, Ok, Err}
+use Rattle.std.specs.Prelude.{ℕ, ◌≡◌, ◌≢◌, ◌+◌, ◌-◌, ◌≤◌, ◌%◌, Bool, true, false, List, [], ◌∷◌, ◌++◌, length, Option, Some, None, Result, Ok, Err}
 use Rattle.std.specs.List.{All}
 use Rattle.graph_heap.specs.declared.command.Command.{Command}
 use Rattle.graph_heap.specs.declared.command.Entry.{Entry}
@@ -158,16 +158,9 @@ Adds old from (Ok made) new = (old.turn ≡ None) × (old.from ≤ from) × (fro
     × (new ≡ record old { to = from; step = old.step + old.step })
     × (made ≡ record old { from = from; number = old.number + old.step; step = old.step + old.step; learnt = [] })
 
--- A member got from another the mutators from its last one on and every other number, and both have seen the same.
-pub record IsUpper (v made : MemberView) : Type 0 where
-  pub width : ℕ
-  pub next : made.number ≡ v.number + width
-  pub mine : v.step ≡ width + width
-  pub theirs : made.step ≡ width + width
-  pub joins : made.from ≡ v.to
-  pub low : v.from ≤ v.to
-  pub high : made.from ≤ made.to
-  pub seen : made.seen ≡ v.seen
+-- a member before it gave this one its upper mutators, and every other number
+abbrev pub before_giving : MemberView → MemberView → MemberView
+before_giving v made = record v { to = made.to; step = made.number - v.number }
 
 -- Where both members are of one heap, the one learns the other's account, and all that it had learnt; else nothing.
 abbrev pub Learns : MemberView → MemberView → MemberView → Type 0

@@ -1,9 +1,9 @@
 //! Members of a shared heap.
-ghost use Rattle.std.specs.Prelude.{◌≡◌, ◌<◌, ◌+◌, ◌-◌, ◌%◌, [], IfOk, IfSome, MatchResult, Ok, Err, None};
+ghost use Rattle.std.specs.Prelude.{◌≡◌, ◌<◌, ◌+◌, ◌%◌, [], IfOk, IfSome, Ok, None};
 ghost use Rattle.std.specs.Fn.{FnOnceReturnsAt, FnOnceReturnsAtMut};
 ghost use Rattle.heap_model.specs.Settings.{settings_by};
 ghost use Rattle.machine.specs.Recorded.{begin_done, quantum_done};
-ghost use Rattle.heap_shared.specs.Members.{Enters, Leaves, Places, Calls, DoesInTurn, Finds, FindsEntry, Adds, Learns, IsUpper, IsPromised};
+ghost use Rattle.heap_shared.specs.Members.{Enters, Leaves, Places, Calls, DoesInTurn, Finds, FindsEntry, Adds, before_giving, Learns, IsPromised};
 ghost use Rattle.heap_shared.specs.Methods.{IsMethodOf};
 ghost use mathlib.Core.List.{IsPrefix};
 
@@ -16,15 +16,15 @@ use atomic_table::{Refused, Seat, Table};
 use graph_heap::{Command, Entry, NoMemory, Reply};
 use machine::{BudgetOutOfRange, Busy, Heap, Spent};
 use size_classes::Config;
-use std::alloc::{AllocFailed, Global};
+use std::alloc::Global;
 use std::marker::Model;
 use std::sync::Arc;
 
 /// A member of a heap that threads share. It calls for the mutators from one number on and below another, and no other
 /// member calls for these. Contracts see what it has seen of the history, and the heap with its history while it has the
-/// turn. It keeps what others write off the cache lines on which it lies.
+/// turn. It keeps what others write off the cache lines on which it lies. It is given up by `end` or `learn` alone, neither of
+/// which takes one that has the turn: so who has it can't be lost.
 #[repr(C)]
-#[derive(Drop)]
 pub struct Member {
     before: Apart,
     table: Arc<Table<SharedHeap, Known, SharedConfig, TurnRule, Global>, Global>,
@@ -185,27 +185,21 @@ impl Member {
         })
     }
 
-    /// The same, in a box. Where there is no memory for that, nothing changes either.
-    pub fn another_in(&mut self, alloc: Global, from: u32) -> Result<Box<Member>, NoMember>
-        ensures { MatchResult result (λ b. Adds self.old from (Ok b.value) self.new)
-            (λ why. Adds self.old from (Err why) self.new) }
+    /// Takes back what it gave to another member, of which nothing was asked since.
+    pub fn rejoin(&mut self, made: Member)
+        requires { Adds (before_giving self.old made) made.from (Ok made) self.old }
+        ensures { self.new ≡ before_giving self.old made }
     {
-        match Box::new(alloc, self.another(from)?) {
-            Ok(boxed) => Ok(boxed),
-            Err(AllocFailed { value: made }) => {
-                self.rejoin(made);
-                Err(NoMember::NoMemory)
-            }
-        }
-    }
-
-    /// Takes back what it gave to another member, which did nothing.
-    fn rejoin(&mut self, made: Member)
-        requires heap { (made.heap ≡ self.old.heap) × (self.old.turn ≡ None) × (made.turn ≡ None) }
-        requires half { IsUpper self.old made }
-        ensures { self.new ≡ record self.old { to = made.to; step = made.number - self.old.number } }
-    {
-        let Member { seat, to, .. } = made;
+        let Member {
+            before: _,
+            table: _,
+            seat,
+            word: _,
+            from: _,
+            to,
+            inside: _,
+            behind: _,
+        } = made;
         self.table.shared.join_seat::<Rejoin>(&mut self.seat, seat);
         self.to = to;
     }
@@ -351,12 +345,37 @@ impl Member {
         requires { other.turn ≡ None }
         ensures { Learns self.old other self.new }
     {
-        let Member { seat, .. } = other;
+        let Member {
+            before: _,
+            table: _,
+            seat,
+            word: _,
+            from: _,
+            to: _,
+            inside: _,
+            behind: _,
+        } = other;
         let spare = self.table.shared.split_seat::<Spare>(&mut self.seat);
         let (fitting, _) = fitting_first(seat, spare);
         self.table
             .shared
             .join_seat::<Learn>(&mut self.seat, fitting);
+    }
+
+    /// Gives the member up. The heap's memory is given back with its last member.
+    pub fn end(self)
+        requires { self.turn ≡ None }
+    {
+        let Member {
+            before: _,
+            table: _,
+            seat: _,
+            word: _,
+            from: _,
+            to: _,
+            inside: _,
+            behind: _,
+        } = self;
     }
 
     /// What is promised of the heap and its history, where the member has the turn. It does nothing.

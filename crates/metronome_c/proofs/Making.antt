@@ -7,7 +7,7 @@ use Rattle.size_classes.specs.declared.fault.ConfigFault.{ConfigFault}
 use Rattle.size_classes.specs.declared.ranges.Ranges.TheVariants.{Library}
 use Rattle.size_classes.specs.Config.{fault_of}
 use Rattle.metronome_c.specs.declared.status.Status.{Status}
-use Rattle.metronome_c.specs.declared.status.Status.TheVariants.{Done, Open, BadHandle}
+use Rattle.metronome_c.specs.declared.status.Status.TheVariants.{Done, NoMemory, Open, BadHandle}
 use Rattle.metronome_c.specs.Status.{status_number, fault_status}
 use Rattle.metronome_c.specs.Opened.{absence, held_by}
 use Rattle.metronome_c.specs.Lifetime.{IsMade, MakesUnless, Creates, Destroys}
@@ -30,6 +30,13 @@ pub creates_one : {S : Type 0} (IsSo : Settings → S → Type 0) (check after :
 creates_one {S} IsSo check after old new h s n none zero e made m is =
     creates IsSo check old (held_by after new) s None n none zero e
     (subst (λ (x : Result S Status). IsMade (IsSo s) x n) (sym (ap (held_by after) made)) (m, is))
+
+-- there is no memory for it
+pub creates_nothing : {S : Type 0} (IsSo : Settings → S → Type 0) (check : ℕ) (old : Option S) (s : Settings) (n : ℕ)
+    → is_some old ≡ false → (check == 0) ≡ true → None ≡ fault_of Library s → n ≡ status_number NoMemory → Creates IsSo (held_by check old) s (held_by check old) n
+creates_nothing {S} IsSo check old s n none zero e m =
+    creates IsSo check old (held_by check old) s None n none zero e
+    (subst (λ (x : Result S Status). IsMade (IsSo s) x n) (sym (held_none check old true none zero)) (refl, m))
 
 -- where the handle isn't closed nothing is made
 pub creates_open : {S : Type 0} (IsSo : Settings → S → Type 0) (check : ℕ) (old : Option S) (s : Settings) (n : ℕ)

@@ -20,8 +20,8 @@ use Rattle.std.specs.Box.Ownership.{box_owns}
 use Rattle.std.specs.contracts.impls.GlobalAllocator.TheImpl.{ghosts}
 use Rattle.std.specs.Prelude.{Option, Some, None}
 use Rattle.metronome_c.specs.contracts.seats.handle.SeatHandle as handle
-use Rattle.heap_shared.specs.contracts.member.Member as store
-use Rattle.metronome_c.specs.Kept.{member_kept}
+use Rattle.metronome_c.specs.contracts.seats.seated.Seated as store
+use Rattle.metronome_c.specs.Kept.{seat_kept}
 use Rattle.metronome_c.proofs.Values.{Loose, al, both, Z, LZ, null}
 
 abbrev pub R : RattleType
@@ -36,7 +36,7 @@ module _ {M : Type 1} {𝓤 : Ura M} {𝓛 : Logic 𝓤} {K : Type 0} {Γ : List
       → Seq K 𝓛 (‵ ((handle.the_row).own_val d vs) ∷ Γ) G
   seat_out t d x is vs k =
       fsplit t $ fpick t (λ vss. fsplit t $ feq_l t (λ ev. fsplit t $ feq_l t (λ ep. fsplit t $ handle_tells (al R Z LZ ghosts) t d.alloc vss.1.0 (λ h ea fits. move t (1 ∷ []) $ drop t $ move t (1 ∷ []) $
-      rewrite t 0 (λ (y : Option R.Denot). ‵ (member_kept d.alloc d.at y)) is refl $
+      rewrite t 0 (λ (y : Option R.Denot). ‵ (seat_kept d.alloc d.at y)) is refl $
       in_a_block t d.at (λ p. box_owns (ghosts.dealloc_token d.alloc) R p x) (fst∗ 𝓤 (never 𝓤) (sem 𝓛 (ghosts.dealloc_token d.alloc (bare (lone R.mir)) null_ptr))) (λ b o e. k b o h e
       (subst (λ (p : Ptr). vs ≡ vstruct (of_list (ptr_val p ∷ h ∷ [])) ∷ []) e
       (subst (λ (ws : List Val). vs ≡ vstruct (of_list (ptr_val d.at ∷ (ws ++ []))) ∷ []) ea (subst (λ (ps : List Val). vs ≡ vstruct (of_list (ps ++ (vss.1.0 ++ []))) ∷ []) ep ev))) fits)))))

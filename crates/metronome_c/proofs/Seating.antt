@@ -1,18 +1,16 @@
 -- What C is told of a call of the seat that it holds.
 use Rattle.std.proofs.Common.{◌≡◌, ◌==◌, ◌∙◌, ℕ, true, false, Bool, refl, sym, ap, subst}
-use Rattle.std.specs.Prelude.{Option, Some, None, Result, Ok, Err, IfOk}
+use Rattle.std.specs.Prelude.{Option, Some, None, Result, Ok, Err}
 use Rattle.std.specs.Option.{is_some}
 use Rattle.heap_model.specs.State.{HeapState}
 use Rattle.heap_shared.specs.declared.member.NoMember.{NoMember}
-use Rattle.heap_shared.specs.Members.{MemberView, Leaves, Finds, Adds, Learns}
-use Rattle.heap_shared.proofs.Members.{left_none}
+use Rattle.heap_shared.specs.Members.{MemberView, Finds, Adds}
 use Rattle.metronome_c.specs.declared.status.Status.{Status}
 use Rattle.metronome_c.specs.declared.status.Status.TheVariants.{Done, Open, Closed, BadHandle, Outside}
 use Rattle.metronome_c.specs.Asking.{Asks}
-use Rattle.metronome_c.specs.Lifetime.{Destroys}
 use Rattle.metronome_c.specs.Opened.{absence, held_by}
 use Rattle.metronome_c.specs.Figures.{IsTold}
-use Rattle.metronome_c.specs.Seats.{AsksSeat, TellsInTurn, told_or, AddsSeat, LearnsSeat, DestroysSeat}
+use Rattle.metronome_c.specs.Seats.{AsksSeat, TellsInTurn, told_or, AddsSeat}
 use Rattle.metronome_c.specs.Status.{status_number, no_member_status}
 use Rattle.metronome_c.proofs.Holding.{IsTruth, held_none}
 
@@ -100,33 +98,3 @@ module _ (check after : ℕ) (old new : Option MemberView) (was : ℕ) (held : O
       subst (λ (x : Result MemberView Status). AddsSeat (held_by check old) x from (held_by after new) x n) (sym (held_none was held true none zero))
       (subst (λ (o : Option MemberView). AddsSeat (held_by check o) (Err Closed) from (held_by after new) (Err Closed) n) (sym is)
       (Err why, k, adds, ap (held_by after) left, (refl, told)))
-
--- what another seat can tell: there is no seat that could learn it; there is no other; it is learnt
-pub learns_absent : (check : ℕ) (old : Option MemberView) (was : Result MemberView Status) (n : ℕ) (why : Status)
-    → is_some old ≡ false → why ≡ absence (check == 0) → n ≡ status_number why → LearnsSeat (held_by check old) was (held_by check old) was n
-learns_absent check None was n why none is told = (refl, refl, told ∙ ap status_number is)
-learns_absent check (Some s) was n why none is told = absurd (subst IsTruth none tt)
-
-pub learns_none : (check : ℕ) (old : Option MemberView) (was : ℕ) (other : Option MemberView) (n : ℕ) (why : Status)
-    → is_some old ≡ true → is_some other ≡ false → why ≡ absence (was == 0) → n ≡ status_number why → LearnsSeat (held_by check old) (held_by was other) (held_by check old) (held_by was other) n
-learns_none check None was other n why some none is told = absurd (subst IsTruth (sym some) tt)
-learns_none check (Some s) was None n why some none is told = (refl, refl, told ∙ ap status_number is)
-learns_none check (Some s) was (Some o) n why some none is told = absurd (subst IsTruth none tt)
-
-pub learns_one : (check after : ℕ) (old new : Option MemberView) (was later : ℕ) (other gone : Option MemberView) (s k o out : MemberView) (had : Bool) (n : ℕ)
-    → old ≡ Some s → new ≡ Some k → other ≡ Some o → gone ≡ None → later ≡ 0 → Leaves o had out → Learns s out k → n ≡ status_number Done
-    → LearnsSeat (held_by check old) (held_by was other) (held_by after new) (held_by later gone) n
-learns_one check after old new was later other gone s k o out had n is left theirs none zero leaves met told =
-    subst (λ (x : Option MemberView). LearnsSeat (held_by check x) (held_by was other) (held_by after new) (held_by later gone) n) (sym is)
-    (subst (λ (x : Option MemberView). LearnsSeat (Ok s) (held_by was x) (held_by after new) (held_by later gone) n) (sym theirs)
-    (had, out, k, leaves, met, ap (held_by after) left, ap (held_by later) none ∙ ap (λ (c : ℕ). Err (absence (c == 0))) zero, told))
-
--- who was asked to leave hasn't the turn
-pub left_out : (old : Result MemberView Status) (had : Result Bool Status) (new : Result MemberView Status) → Asks Leaves old had new → IfOk new (λ s. s.turn ≡ None)
-left_out (Err why) had new asks = subst (λ (x : Result MemberView Status). IfOk x (λ s. s.turn ≡ None)) (sym asks.1) tt
-left_out (Ok s) had new asks = subst (λ (x : Result MemberView Status). IfOk x (λ s. s.turn ≡ None)) (sym asks.3) (left_none s asks.0 asks.1 asks.4)
-
--- and then the handle is closed
-pub destroys_seat : (old : Result MemberView Status) (had : Result Bool Status) (mid new : Result MemberView Status) → Asks Leaves old had mid → Destroys mid new → DestroysSeat old new
-destroys_seat (Err why) had mid new asks closed = subst (λ (x : Result MemberView Status). Destroys x new) asks.1 closed
-destroys_seat (Ok s) had mid new asks closed = (asks.0, asks.1, asks.4, subst (λ (x : Result MemberView Status). Destroys x new) asks.3 closed)

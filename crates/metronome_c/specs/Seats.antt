@@ -10,7 +10,7 @@ use Rattle.heap_model.specs.State.{HeapState}
 use Rattle.machine.specs.declared.collector.Busy.{Busy as CycleOn}
 use Rattle.machine.specs.declared.collector.BudgetOutOfRange.{BudgetOutOfRange as Refused}
 use Rattle.machine.specs.declared.collector.Spent.{Spent}
-use Rattle.heap_shared.specs.Members.{MemberView, Leaves, Calls, Finds, Adds, Learns}
+use Rattle.heap_shared.specs.Members.{MemberView, Calls, Finds, Adds}
 use Rattle.metronome_c.specs.declared.answer.Answer.{Answer}
 use Rattle.metronome_c.specs.declared.answer.MetronomeShape.{MetronomeShape}
 use Rattle.metronome_c.specs.declared.collector.QuantumSpent.{QuantumSpent}
@@ -119,18 +119,3 @@ AddsSeat old (Ok held) from new after status =
     (new ≡ old) × (after ≡ Ok held) × (status ≡ status_number (none_or Open old))
 AddsSeat old (Err why) from new after status =
     (new ≡ old) × (after ≡ Err why) × (status ≡ status_number (none_or why old))
-
--- A seat learns what the seat of another handle can tell, once that has given its turn back, and that handle is closed.
--- Where one of the two holds no seat, both stay as they are.
-abbrev pub LearnsSeat : Result MemberView Status → Result MemberView Status → Result MemberView Status
-    → Result MemberView Status → ℕ → Type 0
-LearnsSeat (Ok s) (Ok other) new after status =
-    (had : Bool) × (left : MemberView) × (k : MemberView) × Leaves other had left × Learns s left k × (new ≡ Ok k)
-    × (after ≡ Err Closed) × (status ≡ status_number Done)
-LearnsSeat (Ok s) (Err why) new after status = (new ≡ Ok s) × (after ≡ Err why) × (status ≡ status_number why)
-LearnsSeat (Err why) was new after status = (new ≡ Err why) × (after ≡ was) × (status ≡ status_number why)
-
--- A seat gives its turn back, where it has it, and then its handle is closed. Another handle stays as it is.
-abbrev pub DestroysSeat : Result MemberView Status → Result MemberView Status → Type 0
-DestroysSeat (Ok s) new = (had : Bool) × (left : MemberView) × Leaves s had left × (new ≡ Err Closed)
-DestroysSeat (Err why) new = new ≡ Err why

@@ -8,4 +8,5 @@ mod laws;
 mod lifetime;
 mod ring;
 mod seat;
+mod seated;
 mod turns;

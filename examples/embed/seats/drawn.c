@@ -1,7 +1,7 @@
 /*
  * drawn [ROUNDS]: four threads at one heap, each with two mutators and a seat, later a seat for each of the two; and a collector.
  * Each answer to a drawn command is compared with a model of the mutator's objects, and each thread does in between what it must
- * not do. In the end one seat learns from all others, and the history is as long as the answers are many. With -DMUTEX threads wait
+ * not do. In the end the history is as long as the answers are many. With -DMUTEX threads wait
  * at a mutex of the program, else at a gate.
  */
 #include "model.h"
@@ -160,10 +160,10 @@ static int open_worker(struct worker *self, uint32_t number, uint32_t rounds) {
     return metronome_seat_another(&own, &self->seats[0], 2 * number) == METRONOME_OK;
 }
 
-/* Learns from a worker's seats, and counts what failed. */
+/* Closes a worker's seats, and counts what it did. */
 static void end(struct worker *self, uint64_t *commands, uint64_t *wrong) {
     for (int k = 0; k < 2; k++) {
-        IS(METRONOME_OK, metronome_seat_learn(&own, &self->seats[k]));
+        metronome_seat_destroy(&self->seats[k]);
         IS(METRONOME_NO_HEAP, metronome_seat_enter(&self->seats[k]));
         close_model(&self->callers[k].model);
     }
@@ -194,7 +194,7 @@ int main(int count, char **words) {
     is_over = 1;
     IS(METRONOME_OK, leave(&own));
     pthread_join(threads[THREADS], NULL);
-    IS(METRONOME_OK, metronome_seat_learn(&own, &collector));
+    metronome_seat_destroy(&collector);
     for (int n = 0; n < THREADS; n++) end(&workers[n], &commands, &wrong);
     IS(METRONOME_OK, metronome_seat_place(&own, &place));
     need(self, place == commands, __LINE__);

@@ -1,6 +1,6 @@
 /*
- * Threads that wait at a gate: one that has the turn for long, one that ends in its turn, and one whose seat is closed or learnt
- * from in its turn. The program's own `syscall` counts what the gate asks of the system: nothing where nobody waits, and one wake
+ * Threads that wait at a gate: one that has the turn for long, one that ends in its turn, and one whose seat is closed
+ * in its turn. The program's own `syscall` counts what the gate asks of the system: nothing where nobody waits, and one wake
  * for each thread that sleeps.
  */
 #define _GNU_SOURCE
@@ -132,12 +132,6 @@ static uint32_t by_closing(metronome_seat *seat) {
     return METRONOME_OK;
 }
 
-static uint32_t by_learning(metronome_seat *seat) {
-    uint32_t status = metronome_seat_learn(&own, seat);
-    metronome_gate_wake(&gate);
-    return status;
-}
-
 /* Of a thread that ended in its turn the turn is taken for all others, until its seat gives it back. */
 static void who_ends_in_its_turn_keeps_it(uint32_t (*give_back)(metronome_seat *)) {
     pthread_t ended, waiting;
@@ -180,9 +174,6 @@ int main(void) {
     who_waits_sleeps();
     no_wake_is_lost();
     who_ends_in_its_turn_keeps_it(by_leaving);
-    who_ends_in_its_turn_keeps_it(by_learning);
-    close_seats();
-    open_seats();
     who_ends_in_its_turn_keeps_it(by_closing);
     close_seats();
     printf("%d passed, %d failed\n", passed, failed);

@@ -78,14 +78,13 @@ static void no_turn(metronome_seat *s, uint32_t status) {
 
 /* Every call on a handle that holds no seat tells a status; the handle stays as it was, and so do others. */
 static void nothing_is_done(metronome_seat *s, uint32_t status) {
-    metronome_seat before, made = none, other = none;
+    metronome_seat before, made = none;
     uint64_t place = 7;
     memcpy(&before, s, sizeof before);
     no_turn(s, status);
     IS(status, metronome_seat_enter(s));
     IS(status, metronome_seat_place(s, &place));
     IS(status, metronome_seat_another(s, &made, 0));
-    IS(status, metronome_seat_learn(s, &other));
     metronome_seat_destroy(s);
     check(place == 7 && memcmp(&made, &none, sizeof none) == 0 && memcmp(&before, s, sizeof before) == 0, __LINE__);
 }
@@ -100,7 +99,6 @@ static void what_was_never_set_is_told(void) {
         nothing_is_done(&s, METRONOME_BAD_HANDLE);
         IS(METRONOME_BAD_HANDLE, metronome_seat_create(&s, &settings));
         IS(METRONOME_BAD_HANDLE, metronome_seat_another(&open, &s, 2));
-        IS(METRONOME_BAD_HANDLE, metronome_seat_learn(&open, &s));
     }
     metronome_seat_destroy(&open);
 }
@@ -228,27 +226,19 @@ static void reasons_are_told_in_order(void) {
     metronome_seat_destroy(&second);
 }
 
-/* A seat that another one learns from is closed, and its turn is over; so it is of a seat at another heap, which goes with it. */
-static void seats_learn(void) {
-    metronome_seat first = METRONOME_NO_SEAT, second = METRONOME_NO_SEAT, strange = METRONOME_NO_SEAT;
-    metronome_seat closed = METRONOME_NO_SEAT;
+/* A seat that is destroyed in its turn gives it back, and nobody calls for its mutators any more. */
+static void a_destroyed_seat_gives_its_turn_back(void) {
+    metronome_seat first = METRONOME_NO_SEAT, second = METRONOME_NO_SEAT;
     uint64_t place = 7;
     IS(METRONOME_OK, metronome_seat_create(&first, &settings));
     IS(METRONOME_OK, metronome_seat_another(&first, &second, 2));
-    IS(METRONOME_OK, metronome_seat_create(&strange, &settings));
-    IS(METRONOME_NO_HEAP, metronome_seat_learn(&closed, &second));
-    IS(METRONOME_NO_HEAP, metronome_seat_learn(&first, &closed));
     IS(METRONOME_OK, metronome_seat_enter(&second));
     check(metronome_seat_clear(&second, 3, 0).kind == METRONOME_DONE, __LINE__);
-    IS(METRONOME_OK, metronome_seat_learn(&first, &second));
+    IS(METRONOME_TAKEN, metronome_seat_enter(&first));
+    metronome_seat_destroy(&second);
     nothing_is_done(&second, METRONOME_NO_HEAP);
     IS(METRONOME_OK, metronome_seat_place(&first, &place));
     check(place == 1 && calls_for(&first, 0, 2), __LINE__);
-    IS(METRONOME_OK, metronome_seat_enter(&strange));
-    IS(METRONOME_OK, metronome_seat_learn(&first, &strange));
-    nothing_is_done(&strange, METRONOME_NO_HEAP);
-    IS(METRONOME_OK, metronome_seat_place(&first, &place));
-    check(place == 3 && calls_for(&first, 0, 2), __LINE__);
     metronome_seat_destroy(&first);
 }
 
@@ -293,7 +283,7 @@ int main(void) {
     turns_are_taken();
     mutators_are_given();
     reasons_are_told_in_order();
-    seats_learn();
+    a_destroyed_seat_gives_its_turn_back();
     figures_are_told();
     statuses_have_texts();
     printf("%d passed, %d failed\n", passed, failed);

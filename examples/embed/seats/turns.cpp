@@ -35,9 +35,9 @@ static void check_seats() {
     Seat moved = std::move(other);
     IS(METRONOME_NO_HEAP, other.try_place(place)); // NOLINT: what was moved away is closed
     CHECK(place == 7);
-    IS(METRONOME_BAD_HANDLE, seat.try_learn(seat));
-    IS(METRONOME_OK, seat.try_learn(moved));
-    IS(METRONOME_NO_HEAP, moved.try_place(place));
+    IS(METRONOME_OK, moved.try_place(place));
+    CHECK(place == 0);
+    place = 7;
     Seat strange;
     IS(METRONOME_OK, strange.try_open(SETTINGS));
     seat = std::move(strange);
@@ -140,7 +140,7 @@ static void check_threads() {
     IS(METRONOME_OK, turn->try_call(answer, metronome_seat_get, 0, 0, 0));
     CHECK(answer.number == std::uint64_t{THREADS} * ROUNDS);
     turn.reset();
-    for (Seat &seat : seats) IS(METRONOME_OK, own.try_learn(seat));
+    seats.clear();
     std::uint64_t place = 0;
     IS(METRONOME_OK, own.try_place(place));
     CHECK(place == 2 * std::uint64_t{THREADS} * ROUNDS + THREADS + 2);
@@ -169,7 +169,6 @@ static void check_throwing() {
     }
     CHECK(status == METRONOME_NOT_YOURS && other.place() == 1);
     CHECK(Turn(gate, other).call(metronome_seat_same, 2, 0, 1).number == 1);
-    seat.learn(other);
     CHECK(seat.place() == 2);
     Seat logged(SETTINGS, 1);
     CHECK(Turn(gate, logged).entry(0).kind == METRONOME_NOT_YET);

@@ -1,9 +1,9 @@
 //! Heaps that threads share are made, with seats at them, and given back.
-ghost use Rattle.std.specs.Prelude.{◌≡◌, ◌≢◌, IfOk, None};
+ghost use Rattle.std.specs.Prelude.{◌≡◌, ◌≢◌};
 ghost use Rattle.metronome_c.specs.declared.status.Status.TheVariants.{OtherVersion};
 ghost use Rattle.metronome_c.specs.Lifetime.{Creates, Destroys};
 ghost use Rattle.metronome_c.specs.Opened.{seat_in};
-ghost use Rattle.metronome_c.specs.Seats.{IsNewSeat, AddsSeat, LearnsSeat, DestroysSeat};
+ghost use Rattle.metronome_c.specs.Seats.{IsNewSeat, AddsSeat};
 ghost use Rattle.metronome_c.specs.Status.{status_number};
 
 use crate::seats::seat::MetronomeSeat;
@@ -47,11 +47,13 @@ pub(super) fn create(seat: &mut MetronomeSeat, settings: &Settings, ring: usize)
     let Ok(made) = Member::with_ring(alloc, &SharedConfig { config, ring }) else {
         return Status::NoMemory.number();
     };
-    let Ok(boxed) = Box::new(alloc, made) else {
-        return Status::NoMemory.number();
-    };
-    seat.put(boxed);
-    Status::Done.number()
+    match seat.put(made) {
+        Ok(()) => Status::Done.number(),
+        Err(member) => {
+            member.end();
+            Status::NoMemory.number()
+        }
+    }
 }
 
 /// Makes another seat at the same heap, where its handle is closed: it calls for the seat's mutators from a number on.
@@ -73,50 +75,28 @@ pub extern "C" fn metronome_seat_another(
     if !made.is_closed() {
         return Status::BadHandle.number();
     }
-    let alloc = made.alloc;
-    match seat.handle.lend().another_in(alloc, from) {
-        Ok(member) => {
-            made.put(member);
-            Status::Done.number()
+    let given = match seat.handle.lend().member().another(from) {
+        Ok(given) => given,
+        Err(why) => return Status::of_no_member(why).number(),
+    };
+    match made.put(given) {
+        Ok(()) => Status::Done.number(),
+        Err(back) => {
+            seat.handle.lend().member().rejoin(back);
+            Status::NoMemory.number()
         }
-        Err(why) => Status::of_no_member(why).number(),
     }
 }
 
-/// A seat takes in what another one at the same heap can tell of the history. That one gives its turn back, if it has it,
-/// and its handle is closed.
-#[unsafe(no_mangle)]
-pub extern "C" fn metronome_seat_learn(seat: &mut MetronomeSeat, other: &mut MetronomeSeat) -> u32
-    ensures { LearnsSeat (seat_in seat.old) (seat_in other.old) (seat_in seat.new) (seat_in other.new) result }
-{
-    if !seat.is_open() {
-        return seat.why_empty().number();
-    }
-    if !other.is_open() {
-        return other.why_empty().number();
-    }
-    let mut gone = other.take();
-    gone.leave();
-    seat.handle.lend().learn(Box::into_inner(gone));
-    Status::Done.number()
-}
-
-/// Gives a seat back, and the turn before, if it has it. The heap's memory is given back with its last seat. Where the
-/// handle holds none nothing is done.
+/// Gives a seat back, and the turn before, if it has it: a member that has it can't be given up. The heap's memory is given
+/// back with its last seat. Where the handle holds none nothing is done.
 #[unsafe(no_mangle)]
 pub extern "C" fn metronome_seat_destroy(seat: &mut MetronomeSeat)
-    ensures { DestroysSeat (seat_in seat.old) (seat_in seat.new) }
-{
-    let _left = seat.ask(|member| member.leave());
-    close(seat);
-}
-
-/// Gives a seat back that hasn't the turn.
-fn close(seat: &mut MetronomeSeat)
-    requires { IfOk (seat_in seat.old) (λ s. s.turn ≡ None) }
     ensures { Destroys (seat_in seat.old) (seat_in seat.new) }
 {
     if seat.is_open() {
-        drop(seat.take());
+        let mut gone = seat.take();
+        gone.leave();
+        gone.end();
     }
 }

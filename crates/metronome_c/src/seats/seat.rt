@@ -1,5 +1,5 @@
 //! What a thread of C holds: a seat at a heap that threads share, or none.
-ghost use Rattle.std.specs.Prelude.{◌≡◌, ◌==◌, Some, None, IsSome};
+ghost use Rattle.std.specs.Prelude.{◌≡◌, ◌==◌, Some, None, IsSome, false, MatchResult};
 ghost use Rattle.std.specs.Option.{is_some};
 ghost use Rattle.std.specs.Fn.{FnOnceReturnsAt, FnOnceReturnsAtMut};
 ghost use Rattle.heap_shared.specs.Members.{Finds};
@@ -10,7 +10,6 @@ ghost use Rattle.metronome_c.specs.declared.seats.seat.TheConstants.{SEAT_CHECK_
 ghost use Rattle.metronome_c.specs.declared.status.Status.TheVariants.{Outside};
 
 use crate::answer::{Answer, MetronomeShape};
-use crate::handle::Loose;
 use crate::seats::handle::SeatHandle;
 use crate::status::Status;
 use graph_heap::{Command, Reply};
@@ -25,7 +24,6 @@ const SEAT_CHECK_WORD: u64 = 5_567_949_226_874_585_428;
 
 /// What a thread of C holds: a seat at a heap, or none. All zeros hold none.
 #[repr(C)]
-#[derive(Drop)]
 pub struct MetronomeSeat {
     pub handle: SeatHandle,
     pub(super) alloc: Global,
@@ -74,27 +72,42 @@ impl MetronomeSeat {
         }
     }
 
-    /// Holds this member.
-    pub(super) fn put(&mut self, member: Box<Member>)
-        ensures { self.new.handle.value ≡ Some member.value }
+    /// Holds this member, where it holds none. Where there is no memory for that the member comes back, and nothing changes.
+    pub(super) fn put(&mut self, member: Member) -> Result<(), Member>
+        requires { is_some self.old.handle.value ≡ false }
+        ensures { MatchResult result (λ _. self.new.handle.value ≡ Some member)
+            (λ back. (back ≡ member) × (self.new ≡ self.old)) }
     {
-        *self = MetronomeSeat {
-            handle: SeatHandle::shut(Loose::from_box(member)),
+        let open = MetronomeSeat {
+            handle: SeatHandle::holding(self.alloc, member)?,
             alloc: self.alloc,
             check: SEAT_CHECK_WORD,
         };
+        replace(self, open).into_handle().vanish();
+        Ok(())
     }
 
     /// The member. None is left.
-    pub(super) fn take(&mut self) -> Box<Member>
+    pub(super) fn take(&mut self) -> Member
         requires { IsSome self.old.handle.value }
-        ensures value { self.old.handle.value ≡ Some result.value }
+        ensures value { self.old.handle.value ≡ Some result }
         ensures left { self.new.handle.value ≡ None }
         ensures check { self.new.check ≡ 0 }
     {
         let closed = MetronomeSeat::closed(self.alloc);
-        let MetronomeSeat { handle, .. } = replace(self, closed);
-        handle.open().into_box()
+        replace(self, closed).into_handle().into_member()
+    }
+
+    /// The handle of the member.
+    fn into_handle(self) -> SeatHandle
+        ensures { result ≡ self.handle }
+    {
+        let MetronomeSeat {
+            handle,
+            alloc: _,
+            check: _,
+        } = self;
+        handle
     }
 
     /// Asks the member, if there is one.
@@ -109,7 +122,7 @@ impl MetronomeSeat {
         if !self.is_open() {
             return Err(self.why_empty());
         }
-        Ok(call(self.handle.lend()))
+        Ok(call(self.handle.lend().member()))
     }
 
     /// What is found of the heap, if there is a seat that has the turn.
@@ -122,7 +135,7 @@ impl MetronomeSeat {
         if !self.is_open() {
             return Err(self.why_empty());
         }
-        match self.handle.lend().inspect(look) {
+        match self.handle.lend().member().inspect(look) {
             Some(found) => Ok(found),
             None => Err(Status::Outside),
         }
@@ -143,7 +156,12 @@ impl MetronomeSeat {
         if !self.is_open() {
             return Err(self.why_empty());
         }
-        match self.handle.lend().call_by(mutator, command, method) {
+        match self
+            .handle
+            .lend()
+            .member()
+            .call_by(mutator, command, method)
+        {
             Ok(reply) => Ok(reply),
             Err(why) => Err(Status::of_not_done(why)),
         }

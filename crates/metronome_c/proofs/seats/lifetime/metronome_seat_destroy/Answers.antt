@@ -1,11 +1,13 @@
-use Rattle.std.proofs.Common.{rules}
-use Rattle.heap_shared.specs.Members.{Leaves}
-use Rattle.metronome_c.proofs.Asking.{asks_so}
-use Rattle.metronome_c.proofs.Seating.{left_out, destroys_seat}
+use Rattle.std.proofs.Common.{◌∙◌, sym}
+use Rattle.heap_shared.proofs.Members.{left_none}
+use Rattle.metronome_c.proofs.Making.{destroys_one, destroys_none}
 use Rattle.metronome_c.proofs.seats.lifetime.metronome_seat_destroy.Goals as goal
 
-pub close-requires : goal.close-requires
-close-requires c = left_out _ _ _ (asks_so _ Leaves (λ s had k met. search rules) _ _ _ c.ask-left.ensures)
+pub end-requires : goal.end-requires
+end-requires c = left_none _ _ _ c.leave.ensures.leaves
 
-pub returns : goal.returns
-returns c = destroys_seat _ _ _ _ (asks_so _ Leaves (λ s had k met. search rules) _ _ _ c.ask-left.ensures) c.close.ensures
+pub returns-then-is_open : goal.returns-then-is_open
+returns-then-is_open c = destroys_one _ _ _ _ (sym c.is_open.ensures ∙ c.if-is_open.true) c.take-gone.ensures.left c.take-gone.ensures.check
+
+pub returns-else-is_open : goal.returns-else-is_open
+returns-else-is_open c = destroys_none _ _ (sym c.is_open.ensures ∙ c.if-is_open.false)

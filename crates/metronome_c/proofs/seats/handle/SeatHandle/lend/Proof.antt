@@ -27,7 +27,7 @@ use denote.Triple.Walked.{Stays, says, stay_dropped, Goes-spent_ref, walk_of, en
 use Rattle.std.proofs.alloc.Shapes.{after}
 use Rattle.std.proofs.raw_atomic.Walks.{proved}
 use Rattle.std.specs.contracts.impls.GlobalAllocator.TheImpl.{ghosts}
-use Rattle.metronome_c.specs.Lending.{with_member}
+use Rattle.metronome_c.specs.Lending.{with_seat}
 use Rattle.metronome_c.specs.contracts.seats.handle.SeatHandle as handle
 use Rattle.metronome_c.proofs.Values.{some_of, both, Z}
 use Rattle.metronome_c.proofs.SeatValues.{seat_out, seat_in, R}
@@ -47,13 +47,13 @@ Rest d rb ro b o h = fsep (fsep (ghosts.dealloc_token d.alloc (bare (lone R.mir)
 
 -- with any member there it is a handle again
 back : {M : Type 1} {𝓤 : Ura M} (𝓛 : Logic 𝓤) (d : H.Denot) (rb ro b o : ℕ) (h : Val) → d.at ≡ block_ptr b o → (x : R.Denot)
-    → ent 𝓤 (sep 𝓤 (sem 𝓛 ((mem R).own_at x b o)) (sem 𝓛 (Rest d rb ro b o h))) (sem 𝓛 ((mem H).own_at (with_member d x) rb ro))
+    → ent 𝓤 (sep 𝓤 (sem 𝓛 ((mem R).own_at x b o)) (sem 𝓛 (Rest d rb ro b o h))) (sem 𝓛 ((mem H).own_at (with_seat d x) rb ro))
 unfolding part_of
 back 𝓛 d rb ro b o h at x =
     let w : Val = both (vptr b o) h in
     qed 𝓛 (‵ (part_at R full_share x b o) ∷ ‵ (Rest d rb ro b o h) ∷ []) ∵ move ! (1 ∷ []) $ fsplit ! $ fsplit ! $ move ! (3 ∷ []) $ fjoin ! $
     seat_in ! b o h d.alloc x $ rewrite ! 0 (λ (p : Ptr). ‵ (H.own_val (record { at = p; alloc = d.alloc; value = Some x }) (w ∷ []))) (sym at) refl $
-    move ! (1 ∷ 0 ∷ []) $ fjoin ! $ fpack ! (List Val) (λ us. fsep (cell_at full_share H.mir us rb ro) (H.own_val (with_member d x) us)) (w ∷ []) $ done !
+    move ! (1 ∷ 0 ∷ []) $ fjoin ! $ fpack ! (List Val) (λ us. fsep (cell_at full_share H.mir us rb ro) (H.own_val (with_seat d x) us)) (w ∷ []) $ done !
 
 pub lend_spec : {M : Type 1} → statement M
 lend_spec 𝓤 𝓛 𝓜 𝓡 wired =
@@ -77,8 +77,8 @@ lend_spec 𝓤 𝓛 𝓜 𝓡 wired =
     sets ! (of_opd ! (get ! refl)) refl (tt, tt) $
     move ! (1 ∷ 2 ∷ []) $ fjoin ! $ move ! (2 ∷ 3 ∷ 4 ∷ 1 ∷ 0 ∷ []) $ group ! 5 $
     let lent : GName → (MutRef (named 0) κ R).Denot = λ δ. record { ref_ptr = (b, o); ghost_name = δ; now = x } in
-    use1 𝓛 (later (some (λ (δ : GName). ‵ ((MutRef (named 0) κ R).own_val (lent δ) (vptr b o ∷ [])) ⊛ ‵ (flft κ q) ⊛ ‵ (follows H R γ δ (with_member d)))))
-    (lends_Part 𝓛 H R (with_member d) (named 0) κ q rb ro b o γ (sem 𝓛 (Rest d rb ro b o h)) (back 𝓛 d rb ro b o h e) (H.coded.code d) (H.coded.code d) x) $ await ! tt $ pick ! (λ δ. split3 ! $
+    use1 𝓛 (later (some (λ (δ : GName). ‵ ((MutRef (named 0) κ R).own_val (lent δ) (vptr b o ∷ [])) ⊛ ‵ (flft κ q) ⊛ ‵ (follows H R γ δ (with_seat d)))))
+    (lends_Part 𝓛 H R (with_seat d) (named 0) κ q rb ro b o γ (sem 𝓛 (Rest d rb ro b o h)) (back 𝓛 d rb ro b o h e) (H.coded.code d) (H.coded.code d) x) $ await ! tt $ pick ! (λ δ. split3 ! $
     returns ! (look_at ! 0 refl) $ free_all ! refl $ keep ! (0 ∷ 1 ∷ 2 ∷ []) $
     suffices ! _ (ends_at 𝓛 f.ended stayed c y (vptr b o) (lent δ) (tt, tt) (tt, tt)) $
     nothing ! $ nothing ! $ fjoin ! $ join ! $ nothing ! $ move ! (2 ∷ 0 ∷ []) $ join ! $ join ! $ frame ! $ says ! is $ done !))))))

@@ -1,5 +1,5 @@
 use Rattle.std.proofs.Common.{◌∙◌, sym, refl, ap}
-use Rattle.std.specs.Prelude.{Err}
+use Rattle.std.specs.Prelude.{Err, Some}
 use Rattle.metronome_c.specs.Seats.{told_by}
 use Rattle.metronome_c.specs.Status.{not_done_status}
 use Rattle.metronome_c.proofs.Seating.{seat_none, seat_one}
@@ -9,7 +9,7 @@ pub returns-then-not-is_open : goal.returns-then-not-is_open
 returns-then-not-is_open g c = seat_none _ _ _ _ _ (sym c.is_open.ensures ∙ c.if-not-is_open.true) c.why_empty.ensures
 
 pub returns-in-Ok : goal.returns-in-Ok
-returns-in-Ok g c = seat_one _ (told_by not_done_status) _ c.args.self.now.check _ _ _ _ c.call_by.result _ c.lend.ensures.value refl c.call_by.ensures (sym (ap (told_by not_done_status) c.in-Ok.is))
+returns-in-Ok g c = seat_one _ (told_by not_done_status) _ c.args.self.now.check _ _ _ _ c.call_by.result _ (c.lend.ensures.value ∙ ap Some (sym c.member.ensures.value)) refl c.call_by.ensures (sym (ap (told_by not_done_status) c.in-Ok.is))
 
 pub returns-in-Err : goal.returns-in-Err
-returns-in-Err g c = seat_one _ (told_by not_done_status) _ c.args.self.now.check _ _ _ _ c.call_by.result _ c.lend.ensures.value refl c.call_by.ensures (ap Err c.of_not_done.ensures ∙ sym (ap (told_by not_done_status) c.in-Err.is))
+returns-in-Err g c = seat_one _ (told_by not_done_status) _ c.args.self.now.check _ _ _ _ c.call_by.result _ (c.lend.ensures.value ∙ ap Some (sym c.member.ensures.value)) refl c.call_by.ensures (ap Err c.of_not_done.ensures ∙ sym (ap (told_by not_done_status) c.in-Err.is))

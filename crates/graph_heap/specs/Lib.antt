@@ -3,6 +3,7 @@ pub mod Refusal
 pub mod Graph
 pub mod Effect
 pub mod History
+pub mod Merge
 pub mod Reach
 pub mod Stored
 pub mod Roots

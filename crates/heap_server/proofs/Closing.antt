@@ -8,12 +8,13 @@ use Rattle.std.proofs.lemmas.List.Sorted.{sum_by-IsPermutation, length_permutati
 use Rattle.std.proofs.lemmas.Bool.Decides.{nat_tests}
 use mathlib.Core.List.{IsPrefix}
 use Rattle.graph_heap.specs.declared.command.Entry.{Entry}
+use Rattle.graph_heap.specs.Merge.{mine_from, mine, upto}
+use Rattle.graph_heap.proofs.Merge.{upto-length, mine_grows}
 use Rattle.heap_server.specs.Views.{SeatView}
-use Rattle.heap_server.specs.Seats.{upto, mutators_of}
-use Rattle.heap_server.specs.Seen.{mine_from, mine, OneBegins, WasTold, IsKnown, EachKnown}
-use Rattle.heap_server.proofs.Counting.{upto-length, mutators-length}
+use Rattle.heap_server.specs.Seats.{mutators_of}
+use Rattle.heap_server.specs.Seen.{OneBegins, WasTold, IsKnown, EachKnown}
+use Rattle.heap_server.proofs.Counting.{mutators-length}
 use Rattle.heap_server.proofs.Fronts.{prefix_trans, prefix_shorter}
-use Rattle.heap_server.proofs.Mine.{mine_grows}
 
 -- 1 if the two are the same
 abbrev hits : ℕ → ℕ → ℕ

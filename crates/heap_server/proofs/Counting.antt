@@ -1,13 +1,11 @@
 -- How many seats there are.
-use Rattle.std.proofs.Common.{◌≡◌, ℕ, zero, suc, ◌+◌, List, [], ◌∷◌, ◌++◌, length, refl, sym, ap, ◌∙◌, arith, add-one, length-append}
+use Rattle.std.proofs.Common.{◌≡◌, ℕ, zero, suc, ◌+◌, List, [], ◌∷◌, ◌++◌, length, refl, sym, ap, ◌∙◌, add-one}
 use Rattle.std.proofs.lemmas.List.{length-map, map-append}
 use Rattle.graph_heap.specs.declared.command.Entry.{Entry}
+use Rattle.graph_heap.specs.Merge.{upto}
+use Rattle.graph_heap.proofs.Merge.{upto-length}
 use Rattle.heap_server.specs.Views.{SeatView}
-use Rattle.heap_server.specs.Seats.{new_seats, upto, mutators_of}
-
-pub upto-length : (n : ℕ) → length (upto n) ≡ n
-upto-length zero = refl
-upto-length (suc n) = omega (arith, upto-length n, length-append (upto n) (n ∷ []))
+use Rattle.heap_server.specs.Seats.{new_seats, mutators_of}
 
 pub mutators-length : (seats : List SeatView) → length (mutators_of seats) ≡ length seats
 mutators-length seats = length-map seats (λ (s : SeatView). s.mutator)

@@ -6,11 +6,13 @@ use Rattle.std.proofs.Math.Seq.{take-suc}
 use Rattle.std.specs.List.{sum_by, All, AllZip}
 use Rattle.graph_heap.specs.declared.command.Command.{Command}
 use Rattle.graph_heap.specs.declared.command.Entry.{Entry}
+use Rattle.graph_heap.specs.Merge.{mine, commands_of, upto, IsMerge}
+use Rattle.graph_heap.proofs.Merge.{upto_at}
 use Rattle.heap_server.specs.Views.{SeatView}
-use Rattle.heap_server.specs.Seats.{upto, mutators_of}
-use Rattle.heap_server.specs.Seen.{mine, commands_of, WasTold}
-use Rattle.heap_server.specs.Played.{HasPlayed, HasFronts, IsMerge}
-use Rattle.heap_server.proofs.Counting.{upto-length, seats_count}
+use Rattle.heap_server.specs.Seats.{mutators_of}
+use Rattle.heap_server.specs.Seen.{WasTold}
+use Rattle.heap_server.specs.Played.{HasPlayed, HasFronts}
+use Rattle.heap_server.proofs.Counting.{seats_count}
 use Rattle.heap_server.proofs.Closing.{spread}
 use Rattle.heap_server.proofs.Parts.{told_grows, part_whole}
 
@@ -18,32 +20,6 @@ mutator_get : (ss : List SeatView) (i : ℕ) (d : SeatView) → i < length ss �
 mutator_get [] i d le = absurd (omega arith)
 mutator_get (s ∷ ss) zero d le = refl
 mutator_get (s ∷ ss) (suc i) d le = mutator_get ss i d (omega arith)
-
-get_front : (xs ys : List ℕ) (i : ℕ) → i < length xs → slice_index_or (xs ++ ys) i 0 ≡ slice_index_or xs i 0
-get_front [] ys i le = absurd (omega arith)
-get_front (x ∷ xs) ys zero le = refl
-get_front (x ∷ xs) ys (suc i) le = get_front xs ys i (omega arith)
-
-get_end : (xs : List ℕ) (x i : ℕ) → i ≡ length xs → slice_index_or (xs ++ x ∷ []) i 0 ≡ x
-get_end [] x zero e = refl
-get_end [] x (suc i) e = absurd (omega arith)
-get_end (y ∷ xs) x zero e = absurd (omega arith)
-get_end (y ∷ xs) x (suc i) e = get_end xs x i (omega arith)
-
--- i is the last, or before it
-abbrev pub AtEnd : ℕ → ℕ → Type 0
-AtEnd n i = (i ≡ n) ⊎ (i < n)
-
-split : (n i : ℕ) → i < suc n → AtEnd n i
-split n i le = grind arith
-
-upto_step : (n i : ℕ) → (i < n → slice_index_or (upto n) i 0 ≡ i) → AtEnd n i → slice_index_or (upto (suc n)) i 0 ≡ i
-upto_step n i rec (inl e) = get_end (upto n) n i (omega (arith, upto-length n, e)) ∙ sym e
-upto_step n i rec (inr lt) = get_front (upto n) (n ∷ []) i (omega (arith, upto-length n, lt)) ∙ rec lt
-
-pub upto_at : (n i : ℕ) → i < n → slice_index_or (upto n) i 0 ≡ i
-upto_at zero i le = absurd (omega arith)
-upto_at (suc n) i le = upto_step n i (λ lt. upto_at n i lt) (split n i le)
 
 mutator_at : (ss : List SeatView) (n i : ℕ) (d : SeatView) → mutators_of ss ≡ upto n → i < n → i < length ss → (slice_index_or ss i d).mutator ≡ i
 mutator_at ss n i d all lt le = mutator_get ss i d le ∙ (ap (λ (w : List ℕ). slice_index_or w i 0) all ∙ upto_at n i lt)

@@ -1,5 +1,4 @@
 pub mod Fronts
-pub mod Mine
 pub mod Adding
 pub mod Turning
 pub mod Keeping

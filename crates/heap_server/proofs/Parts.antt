@@ -4,9 +4,9 @@ use Rattle.std.proofs.lemmas.List.{map-append}
 use mathlib.Core.List.{IsPrefix}
 use Rattle.graph_heap.specs.declared.command.Command.{Command}
 use Rattle.graph_heap.specs.declared.command.Entry.{Entry}
-use Rattle.heap_server.specs.Seen.{mine_from, mine, commands_of}
+use Rattle.graph_heap.specs.Merge.{mine_from, mine, commands_of}
+use Rattle.graph_heap.proofs.Merge.{mine_append, mine_own}
 use Rattle.heap_server.specs.Played.{IsPart}
-use Rattle.heap_server.proofs.Mine.{mine_append, mine_own}
 
 part_more : (xs ys zs : List Command) → IsPart xs ys → IsPart xs (ys ++ zs)
 part_more [] ys zs p = tt

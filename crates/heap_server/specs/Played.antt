@@ -3,12 +3,12 @@ use Rattle.std.specs.Prelude.{ℕ, ◌≡◌, ◌↔◌, ◌<◌, ◌≤◌, ◌
 use Rattle.std.specs.List.{AllZip}
 use Rattle.graph_heap.specs.declared.command.Command.{Command}
 use Rattle.graph_heap.specs.declared.command.Entry.{Entry}
+use Rattle.graph_heap.specs.Merge.{mine, commands_of, upto, IsMerge}
 use Rattle.heap_model.specs.Event.{IsBudget}
 use Rattle.heap_model.specs.ReachedFrom.{IsReachedFrom}
 use Rattle.heap_model.specs.Settings.{HeapSettings}
 use Rattle.heap_server.specs.Views.{PacerView, SeatView}
-use Rattle.heap_server.specs.Seats.{mutators_of, upto}
-use Rattle.heap_server.specs.Seen.{mine, commands_of}
+use Rattle.heap_server.specs.Seats.{mutators_of}
 use Rattle.heap_server.specs.Kept.{IsSound}
 use Rattle.heap_server.specs.declared.play.Outcome.{Outcome}
 
@@ -16,10 +16,6 @@ use Rattle.heap_server.specs.declared.play.Outcome.{Outcome}
 -- without a script none.
 abbrev pub HasFronts : List Entry → List (List Command) → List ℕ → Type 0
 HasFronts h scripts done = (m : ℕ) → commands_of (mine h m) ≡ take (slice_index done m) (slice_index_or scripts m [])
-
--- Of each mutator the history has just its script, in its order: it is a merge of the scripts.
-abbrev pub IsMerge : List Entry → List (List Command) → Type 0
-IsMerge h scripts = (m : ℕ) → commands_of (mine h m) ≡ slice_index_or scripts m []
 
 -- the first list is the second one with some left out
 abbrev pub IsPart : List Command → List Command → Type 0

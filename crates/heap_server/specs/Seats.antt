@@ -7,11 +7,6 @@ abbrev pub new_seats : ℕ → List SeatView
 new_seats zero = []
 new_seats (suc n) = new_seats n ++ record { mutator = n; calls = 0; seen = [] } ∷ []
 
--- the numbers below n, in rising order
-abbrev pub upto : ℕ → List ℕ
-upto zero = []
-upto (suc n) = upto n ++ n ∷ []
-
 -- the mutators of seats, in the order of the seats
 abbrev pub mutators_of : List SeatView → List ℕ
 mutators_of seats = map (λ s. s.mutator) seats

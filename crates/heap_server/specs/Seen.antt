@@ -1,26 +1,12 @@
 -- What callers have seen of the running history.
-use Rattle.std.specs.Prelude.{ℕ, ◌≡◌, ◌+◌, ◌<◌, ◌≤◌, ◌⊎◌, List, [], ◌∷◌, ◌++◌, length, map, nat_eq, if◌then◌else◌}
+use Rattle.std.specs.Prelude.{ℕ, ◌≡◌, ◌<◌, ◌≤◌, ◌⊎◌, List, [], ◌∷◌, ◌++◌, length}
 use Rattle.std.specs.List.{All}
 use mathlib.Core.List.{IsPrefix}
-use Rattle.graph_heap.specs.declared.command.Command.{Command}
 use Rattle.graph_heap.specs.declared.command.Entry.{Entry}
+use Rattle.graph_heap.specs.Merge.{mine}
 use Rattle.heap_server.specs.declared.fault.ServerFault.{ServerFault}
 use Rattle.heap_server.specs.declared.fault.ServerFault.TheVariants as faults
 use Rattle.heap_server.specs.Views.{SeatView}
-
--- the entries of mutator m, each with its place, in a part of a history that begins at this place
-abbrev pub mine_from : ℕ → List Entry → ℕ → List (ℕ × Entry)
-mine_from place [] m = []
-mine_from place (e ∷ es) m = if nat_eq e.mutator m then (place, e) ∷ mine_from (place + 1) es m
-    else mine_from (place + 1) es m
-
--- the entries of mutator m in a history, each with its place
-abbrev pub mine : List Entry → ℕ → List (ℕ × Entry)
-mine h m = mine_from 0 h m
-
--- their commands, in order
-abbrev pub commands_of : List (ℕ × Entry) → List Command
-commands_of es = map (λ e. e.1.command) es
 
 -- What was seen goes on to the place of this entry, and ends with it.
 abbrev pub Extends : List Entry → List Entry → ℕ → Entry → Type 0

@@ -34,7 +34,7 @@ pub struct Seat<N: Naming> {
 
 impl<N: Naming> Model for Seat<N> {
     ghost use Rattle.std.specs.Prelude.{◌≡◌, ◌≤◌, length};
-    ghost use Rattle.heap_server.specs.Seen.{mine};
+    ghost use Rattle.graph_heap.specs.Merge.{mine};
     ghost use Rattle.heap_server.specs.Views.{SeatView};
 
     ghost Value = { SeatView };

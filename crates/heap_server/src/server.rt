@@ -4,12 +4,13 @@ ghost use mathlib.Core.List.{IsPrefix};
 ghost use Rattle.std.specs.List.{sum_by};
 ghost use Rattle.graph_heap.specs.Graph.{opening};
 ghost use Rattle.graph_heap.specs.History.{IsLegal};
+ghost use Rattle.graph_heap.specs.Merge.{upto};
 ghost use Rattle.heap_model.specs.Event.{IsBudget};
 ghost use Rattle.heap_model.specs.ReachedFrom.{IsReachedFrom};
 ghost use Rattle.heap_server.specs.Kept.{IsSound};
 ghost use Rattle.heap_server.specs.Opened.{names_of};
 ghost use Rattle.heap_server.specs.Paced.{IsPaced};
-ghost use Rattle.heap_server.specs.Seats.{new_seats, mutators_of, upto};
+ghost use Rattle.heap_server.specs.Seats.{new_seats, mutators_of};
 ghost use Rattle.heap_server.specs.Seen.{Closes, EachKnown, Extends, FaultShows, IsKnown};
 
 use crate::fault::ServerFault;

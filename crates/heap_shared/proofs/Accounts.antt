@@ -6,9 +6,9 @@ use Rattle.std.proofs.lemmas.Bool.Decides.{nat_tests}
 use Rattle.std.proofs.lemmas.List.Elements.{All-append, All-cons, All-nil, All-map}
 use mathlib.Core.Option.{Option, some}
 use Rattle.graph_heap.specs.declared.command.Entry.{Entry}
+use Rattle.graph_heap.specs.Merge.{mine_from, mine}
+use Rattle.graph_heap.proofs.Merge.{mine_append}
 use Rattle.heap_model.specs.Event.{Event}
-use Rattle.heap_server.specs.Seen.{mine_from, mine}
-use Rattle.heap_server.proofs.Mine.{mine_append}
 use Rattle.heap_shared.specs.declared.deed.Deed.{Deed}
 use Rattle.heap_shared.specs.declared.rule.Account.{Account}
 use Rattle.heap_shared.specs.Accounts.{Doer, mutator_of, member_of, Has, IsOthers, BearsOut, IsAllowed, GoesOn, signed}

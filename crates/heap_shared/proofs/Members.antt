@@ -20,7 +20,6 @@ use Rattle.machine.proofs.Courses.{runs_then}
 use Rattle.machine.proofs.Headline.{always_holds}
 use Rattle.machine.proofs.Space.{found_space, runs_settings}
 use Rattle.heap_shared.specs.declared.deed.Deed.{Deed}
-use Rattle.heap_server.proofs.Fronts.{prefix_self}
 use Rattle.heap_shared.specs.declared.rule.Account.{Account}
 use Rattle.heap_shared.specs.declared.rule.Known.{Known}
 use Rattle.heap_shared.specs.declared.shared_heap.SharedConfig.{SharedConfig}
@@ -154,7 +153,7 @@ learnt_still c true w m l is = record { held = is.held; inside = is.inside; carr
 
 -- who has left has seen no less
 pub leaves_grow : (old : MemberView) (had : Bool) (new : MemberView) → Leaves old had new → IsPrefix old.seen new.seen
-leaves_grow old false new l = subst (λ (v : MemberView). IsPrefix old.seen v.seen) (sym l.1) (prefix_self old.seen)
+leaves_grow old false new l = subst (λ (v : MemberView). IsPrefix old.seen v.seen) (sym l.1) ([], append-nil old.seen)
 leaves_grow old true new l = (signed old.number old.did, ap (λ (v : MemberView). v.seen) (sym l.2))
 
 -- the turn was taken

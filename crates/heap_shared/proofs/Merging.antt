@@ -6,12 +6,9 @@ use Rattle.std.proofs.lemmas.Bool.Decides.{nat_tests}
 use Rattle.std.proofs.lemmas.List.{length-map, map-append, get_or-map, get_or_past}
 use Rattle.std.proofs.lemmas.List.Elements.{All-cons, All-map, All-nil}
 use Rattle.graph_heap.specs.declared.command.Entry.{Entry}
+use Rattle.graph_heap.specs.Merge.{mine, commands_of, upto, IsMerge}
+use Rattle.graph_heap.proofs.Merge.{upto-length, upto_at}
 use Rattle.heap_model.specs.Event.{Event, Command_done, Cycle_begun, Begin_refused, Quantum_done, Quantum_refused}
-use Rattle.heap_server.specs.Seats.{upto}
-use Rattle.heap_server.specs.Seen.{mine, commands_of}
-use Rattle.heap_server.specs.Played.{IsMerge}
-use Rattle.heap_server.proofs.Counting.{upto-length}
-use Rattle.heap_server.proofs.Fronted.{upto_at}
 use Rattle.heap_shared.specs.declared.deed.Deed.{Deed}
 use Rattle.heap_shared.specs.declared.rule.Account.{Account}
 use Rattle.heap_shared.specs.Past.{history_of}

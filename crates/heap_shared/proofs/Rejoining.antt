@@ -144,7 +144,6 @@ half_shown id there c d m n v w mine theirs old from adds =
     let u : IsUpper (shown_by id c m) (shown_by there d n) = subst (λ (x : MemberView). IsUpper x (shown_by there d n)) (sym mine) (subst (IsUpper v) (sym theirs) (upper old from w v adds)) in
     record { width = u.width; next = u.next; mine = u.mine; theirs = u.theirs; joins = u.joins; low = u.low; high = u.high; seen = u.seen }
 
-
 -- what was given is at the same heap, and neither has the turn
 pub given_here : (old : MemberView) (from : ℕ) (made new : MemberView) → Adds old from (Ok made) new → (made.heap ≡ new.heap) × (made.turn ≡ None)
 given_here old from made new adds = (ap (λ (v : MemberView). v.heap) adds.4 ∙ sym (ap (λ (v : MemberView). v.heap) adds.3), ap (λ (v : MemberView). v.turn) adds.4 ∙ adds.0)

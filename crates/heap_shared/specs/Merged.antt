@@ -1,8 +1,7 @@
 -- What members' accounts say was done.
 use Rattle.std.specs.Prelude.{ℕ, ◌≡◌, ◌<◌, ◌%◌, List, [], ◌∷◌, map, nat_eq, nat_le, nat_lt, ◌&&◌, Bool, true, false, if◌then◌else◌}
 use Rattle.graph_heap.specs.declared.command.Command.{Command}
-use Rattle.heap_server.specs.Seats.{upto}
-use Rattle.heap_server.specs.Seen.{mine, commands_of}
+use Rattle.graph_heap.specs.Merge.{mine, commands_of, upto}
 use Rattle.heap_shared.specs.declared.deed.Deed.{Deed}
 use Rattle.heap_shared.specs.declared.rule.Account.{Account}
 use Rattle.heap_shared.specs.Accounts.{history_by}

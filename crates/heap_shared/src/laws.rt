@@ -1,9 +1,9 @@
 //! The laws of logs that members share. Each function does nothing: its contract is the law.
 ghost use Rattle.std.specs.Prelude.{◌≡◌, ◌%◌, ℕ, true, List, [], ◌∷◌, Some, Ok};
 ghost use Rattle.std.specs.List.{All};
+ghost use Rattle.graph_heap.specs.Merge.{IsMerge};
 ghost use Rattle.atomic_table.specs.Table.{opening};
 ghost use Rattle.heap_model.specs.Event.{Event};
-ghost use Rattle.heap_server.specs.Played.{IsMerge};
 ghost use Rattle.heap_shared.specs.declared.deed.Deed.{Deed};
 ghost use Rattle.heap_shared.specs.declared.rule.Account.{Account};
 ghost use Rattle.heap_shared.specs.declared.shared_heap.SharedConfig.{SharedConfig};

@@ -1,8 +1,8 @@
 use Rattle.std.proofs.Common.{◌≡◌, ℕ, [], ◌∷◌, ◌++◌, take, refl, sym, ap, ◌∙◌, arith, subst}
 use Rattle.graph_heap.specs.declared.command.Command.TheVariants as commands
 use Rattle.graph_heap.specs.declared.command.Shape.TheVariants as shapes
+use Rattle.graph_heap.specs.Merge.{mine, commands_of}
 use Rattle.std.proofs.lemmas.List.{take_more}
-use Rattle.heap_server.specs.Seen.{mine, commands_of}
 use Rattle.heap_server.specs.Played.{IsPart}
 use Rattle.heap_server.specs.Views.{SeatView}
 use Rattle.heap_server.proofs.Parts.{told_grows, told_more}

@@ -1,5 +1,5 @@
 use Rattle.std.proofs.Common.{◌≡◌, take}
-use Rattle.heap_server.specs.Seen.{mine, commands_of}
+use Rattle.graph_heap.specs.Merge.{mine, commands_of}
 use Rattle.heap_server.specs.Played.{IsPart}
 use Rattle.heap_server.proofs.workers.work.Given as goal
 

@@ -6,13 +6,13 @@ use Rattle.graph_heap.specs.declared.command.Reply.{Reply}
 use Rattle.graph_heap.specs.declared.command.Entry.{Entry}
 use Rattle.graph_heap.specs.Graph.{opening}
 use Rattle.graph_heap.specs.History.{IsLegal}
+use Rattle.graph_heap.specs.Merge.{mine}
+use Rattle.graph_heap.proofs.Merge.{mine_grows, mine_more}
 use Rattle.heap_model.specs.Event.{Course, Enters}
 use Rattle.heap_model.specs.Settings.{HeapSettings}
 use Rattle.heap_server.specs.Views.{SeatView, LockedView}
-use Rattle.heap_server.specs.Seen.{mine}
 use Rattle.heap_server.proofs.Keeping.{call_kept}
 use Rattle.heap_server.proofs.Adding.{where_torn, where_done}
-use Rattle.heap_server.proofs.Mine.{mine_grows, mine_more}
 use Rattle.heap_server.proofs.locked.Locked.transact.Goals as goal
 
 -- making room leaves the heap and its history

@@ -1,7 +1,8 @@
 use Rattle.std.proofs.Common.{◌≡◌, ◌<◌, length, ap, sym, ◌∙◌, arith}
+use Rattle.graph_heap.specs.Merge.{upto}
 use Rattle.heap_model.specs.Settings.{HeapSettings}
 use Rattle.heap_server.specs.Names.{Names}
-use Rattle.heap_server.specs.Seats.{mutators_of, upto}
+use Rattle.heap_server.specs.Seats.{mutators_of}
 use Rattle.heap_server.proofs.Counting.{seats_count, mutators_of-new}
 use Rattle.heap_server.proofs.Keeping.{opening_kept}
 use Rattle.heap_server.proofs.server.Server.new.Goals as goal

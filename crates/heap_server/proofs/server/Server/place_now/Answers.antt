@@ -1,5 +1,5 @@
 use Rattle.std.proofs.Common.{arith}
-use Rattle.heap_server.proofs.Mine.{mine_grows}
+use Rattle.graph_heap.proofs.Merge.{mine_grows}
 use Rattle.heap_server.proofs.server.Server.place_now.Goals as goal
 
 pub invariant_of-seat : goal.invariant_of-seat

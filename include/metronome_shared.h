@@ -47,7 +47,8 @@ typedef struct metronome_seat {
 
 #define METRONOME_NO_SEAT { 0, 0 }
 
-/* Which command an entry of the history is of. Its numbers and words stand in the order given here, and all others are 0. */
+/* Which command an entry of the log is of. Its numbers and words stand in the order given here, and all others are 0. The last two
+ * are what the collector is asked to do. */
 enum metronome_command_kind {
     METRONOME_NEW = 0,             /* dst; of the shape its metronome_shape_kind, refs, words */
     METRONOME_LOAD = 1,            /* dst, obj, i */
@@ -64,7 +65,9 @@ enum metronome_command_kind {
     METRONOME_SAME = 12,           /* a, b */
     METRONOME_DESCRIBE = 13,       /* a */
     METRONOME_JOIN = 14,
-    METRONOME_RETIRE = 15
+    METRONOME_RETIRE = 15,
+    METRONOME_BEGIN = 16,          /* DONE, or refused as BUSY */
+    METRONOME_QUANTUM = 17         /* DONE: budget, the units that it spent, the phase behind it; or refused as BAD_BUDGET: budget */
 };
 
 typedef struct metronome_command {
@@ -77,7 +80,7 @@ typedef struct metronome_command {
     uint64_t second_word;
 } metronome_command;
 
-/* What there is at a place of the history. */
+/* What there is at a place of the log. */
 enum metronome_entry_kind {
     METRONOME_GONE = 0,    /* no entry: it isn't one of the last that are kept, nor the place behind them */
     METRONOME_ENTERED = 1, /* an entry */
@@ -86,7 +89,7 @@ enum metronome_entry_kind {
 
 typedef struct metronome_entry {
     uint32_t kind; /* a metronome_entry_kind; unless it is ENTERED all else is 0 */
-    uint32_t mutator;
+    uint32_t mutator; /* whose command it is, or 0 for what the collector is asked to do */
     metronome_command command;
     metronome_answer answer;
     metronome_shape shape; /* where the answer is DESCRIBED */
@@ -106,7 +109,7 @@ METRONOME_NONNULL static inline uint32_t metronome_seat_create(metronome_seat *s
     return metronome_seat_create_for(seat, settings, METRONOME_VERSION);
 }
 
-/* The same, of a heap that keeps the last `ring` entries of its history, for metronome_seat_entry: 72 bytes each, all taken here.
+/* The same, of a heap that keeps the last `ring` entries of its log, for metronome_seat_entry: 72 bytes each, all taken here.
  * metronome_seat_create keeps none. Programs call metronome_seat_create_logged. */
 uint32_t metronome_seat_create_logged_for(metronome_seat *seat, const metronome_settings *settings, size_t ring,
                                           uint32_t version) METRONOME_NONNULL;
@@ -130,8 +133,9 @@ uint32_t metronome_seat_enter(metronome_seat *seat) METRONOME_NONNULL;
 /* Gives the turn back. OK, OUTSIDE, NO_HEAP. */
 uint32_t metronome_seat_leave(metronome_seat *seat) METRONOME_NONNULL;
 
-/* The length of the history, as it wraps at 2^63: how many commands all seats have done, also such as the heap refused, but not
- * those that were refused before they came to it. It needs no turn; what a seat does counts once it gives the turn back.
+/* The length of the log, as it wraps at 2^63: how many commands, beginnings and quanta all seats have done, also such as the heap
+ * refused, but not those that were refused before they came to it. It needs no turn; what a seat does counts once it gives the turn
+ * back.
  * OK; INSIDE or NO_HEAP, and *place is left as it was. */
 uint32_t metronome_seat_place(metronome_seat *seat, uint64_t *place) METRONOME_NONNULL;
 
@@ -176,8 +180,8 @@ metronome_answer metronome_seat_retire(metronome_seat *seat, uint32_t mutator) M
 
 /* ---- The log, in the turn of any seat ---- */
 
-/* What there is at a place of the history. Places count from 0, and each has one of the commands that metronome_seat_place counts:
- * metronome_seat_begin and metronome_seat_quantum are none. A program that keeps the next place that it hasn't read goes on from
+/* What there is at a place of the log. Places count from 0, and each has one of what metronome_seat_place counts: a command, or what
+ * the collector was asked to do by metronome_seat_begin or metronome_seat_quantum. A program that keeps the next place that it hasn't read goes on from
  * place to place until the entry is NOT_YET there; for those that are GONE it came too late.
  * OK; OUTSIDE or NO_HEAP, and *entry is left as it was. */
 uint32_t metronome_seat_entry(metronome_seat *seat, uint64_t place, metronome_entry *entry) METRONOME_NONNULL;

@@ -48,7 +48,7 @@ public:
     // The first seat of a new heap: it calls for all mutators.
     std::uint32_t try_open(const metronome_settings &settings) noexcept { return metronome_seat_create(&seat, &settings); }
 
-    // The same, of a heap that keeps so many of the last entries of its history.
+    // The same, of a heap that keeps so many of the last entries of its log.
     std::uint32_t try_open_logged(const metronome_settings &settings, std::size_t ring) noexcept {
         return metronome_seat_create_logged(&seat, &settings, ring);
     }
@@ -58,7 +58,7 @@ public:
         return &made == this ? std::uint32_t{METRONOME_OPEN} : metronome_seat_another(&seat, &made.seat, from);
     }
 
-    // The length of the history.
+    // The length of the log.
     std::uint32_t try_place(std::uint64_t &place) noexcept { return metronome_seat_place(&seat, &place); }
 
     // The handle for calls of metronome_shared.h. It is only read and written by these.
@@ -111,7 +111,7 @@ public:
         return detail::status_of(found);
     }
 
-    // What there is at a place of the history.
+    // What there is at a place of the log.
     std::uint32_t try_entry(std::uint64_t place, metronome_entry &entry) noexcept {
         return metronome_seat_entry(seat, place, &entry);
     }

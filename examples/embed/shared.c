@@ -1,6 +1,6 @@
 /*
  * One heap that five threads share, each by a seat of its own: four mutators, and a collector. A mutator does all calls of a round
- * in one turn. In the end the history has as many commands as all of them did.
+ * in one turn. In the end the log has as many entries as calls were done, the collector's with them.
  */
 #include "metronome_shared.h"
 #include <pthread.h>
@@ -11,7 +11,7 @@ enum { MUTATORS = 4, SLOTS = 8, ROUNDS = 20000 };
 static metronome_gate gate = METRONOME_GATE;
 static metronome_seat own = METRONOME_NO_SEAT, collector = METRONOME_NO_SEAT;
 static int is_over; /* this and the next are read and written in turns alone */
-static uint64_t cycles;
+static uint64_t cycles, asked; /* how many cycles began, and what the collector was asked to do */
 
 struct mutator {
     metronome_seat seat;
@@ -71,6 +71,7 @@ static void *collect(void *argument) {
         over = is_over;
         if (metronome_seat_begin(&collector) == METRONOME_OK) cycles++;
         metronome_seat_quantum(&collector, 4096, &spent);
+        asked += 2;
         metronome_gate_leave(&gate, &collector);
     }
     return NULL;
@@ -90,17 +91,17 @@ static uint32_t open_seats(struct mutator *mutators) {
     return status;
 }
 
-/* Closes all seats but the main thread's, and looks whether the history has as many commands as they did. */
+/* Closes all seats but the main thread's, and looks whether the log has as many entries as they did calls. */
 static int is_whole(struct mutator *mutators) {
-    uint64_t commands = 0, place = 0;
+    uint64_t calls = asked, place = 0;
     metronome_seat_destroy(&collector);
     for (uint32_t m = 0; m < MUTATORS; m++) {
         metronome_seat_destroy(&mutators[m].seat);
-        commands += mutators[m].commands;
+        calls += mutators[m].commands;
     }
     if (metronome_seat_place(&own, &place) != METRONOME_OK) return 0;
-    printf("a history of %llu commands\n", (unsigned long long)place);
-    return place == commands;
+    printf("a log of %llu entries\n", (unsigned long long)place);
+    return place == calls;
 }
 
 int main(void) {

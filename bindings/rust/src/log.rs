@@ -1,15 +1,20 @@
-//! The log of a shared heap: the last entries of its history.
+//! The log of a shared heap: the last events of it.
 use crate::calls::{Answer, Kind, ShapeTold};
+use crate::heap::{Phase, Spent};
 use crate::refusal::Result;
 use crate::root::Shape;
 
-/// What there is at a place of a history.
+/// What there is at a place of a log.
 #[derive(Clone, Copy, Debug, PartialEq, Eq)]
 pub enum Logged {
     /// No entry any more: it isn't one of the last that are kept.
     Gone,
-    /// An entry.
+    /// A command.
     Entered(Entry),
+    /// A cycle was to begin: whether it did, as none was running.
+    Begin(bool),
+    /// A quantum of this budget: what it spent, or that it is refused as `BadBudget`.
+    Quantum(u32, Result<Spent>),
     /// No entry yet: it is the place behind the last one.
     NotYet,
 }
@@ -65,6 +70,10 @@ pub enum Command {
     Retire,
 }
 
+/// What the collector is asked to do, among the kinds of commands.
+const BEGIN: u32 = 16;
+const QUANTUM: u32 = 17;
+
 #[repr(C)]
 #[derive(Default)]
 struct CommandTold {
@@ -89,9 +98,14 @@ pub(crate) struct EntryTold {
 
 impl Logged {
     pub(crate) fn of(told: &EntryTold) -> Logged {
-        match told.kind {
-            0 => Logged::Gone,
-            1 => Logged::Entered(Entry {
+        match (told.kind, told.command.kind) {
+            (0, _) => Logged::Gone,
+            (1, BEGIN) => Logged::Begin(told.answer.kind() == Kind::Done),
+            (1, QUANTUM) => {
+                let CommandTold { first: budget, second: units, third: phase, .. } = told.command;
+                Logged::Quantum(budget, told.answer.number().map(|_| Spent { units, phase: Phase::of(phase) }))
+            }
+            (1, _) => Logged::Entered(Entry {
                 mutator: told.mutator,
                 command: Command::of(&told.command),
                 answer: told.answer.number(),

@@ -77,7 +77,7 @@ impl Shared {
         Shared::opened(|handle| unsafe { calls::metronome_seat_create_for(handle, settings, calls::VERSION) })
     }
 
-    /// The same, of a heap that keeps the last `ring` entries of its history, for [`Turn::entry`]: 72 bytes each, all taken here.
+    /// The same, of a heap that keeps the last `ring` entries of its log, for [`Turn::entry`]: 72 bytes each, all taken here.
     pub fn logged(settings: &Settings, ring: usize) -> Result<Shared> {
         // SAFETY: as above.
         Shared::opened(|handle| unsafe { calls::metronome_seat_create_logged_for(handle, settings, ring, calls::VERSION) })
@@ -107,7 +107,7 @@ impl Shared {
         unsafe { Turn::entered(seat, held) }
     }
 
-    /// The length of the history: how many commands were done. It waits for the turn, as [`Seat::place`] doesn't.
+    /// The length of the log: how many commands, beginnings and quanta were done. It waits for the turn, as [`Seat::place`] doesn't.
     pub fn place(&self) -> u64 {
         place_of(&mut self.gate.lock())
     }
@@ -152,7 +152,8 @@ impl Seat {
         Ok(unsafe { Turn::entered(&mut self.handle, held) })
     }
 
-    /// The length of the history: how many commands were done, those in another seat's turn not among them. It never waits.
+    /// The length of the log: how many commands, beginnings and quanta were done, those in another seat's turn not among them. It
+    /// never waits.
     pub fn place(&mut self) -> u64 {
         place_of(&mut self.handle)
     }

@@ -202,7 +202,7 @@ impl<'s> Turn<'s> {
         Ok(())
     }
 
-    /// What there is at a place of the history, from 0, as [`crate::Seat::place`] counts them: of a heap made by
+    /// What there is at a place of the log, from 0, as [`crate::Seat::place`] counts them: of a heap made by
     /// [`crate::Shared::logged`].
     pub fn entry(&mut self, place: u64) -> Logged {
         let mut told = EntryTold::default();

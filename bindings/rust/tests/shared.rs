@@ -33,7 +33,7 @@ fn mutators_go_to_seats() -> Result<()> {
 
 #[test]
 fn the_last_entries_are_logged() -> Result<()> {
-    let shared = Shared::logged(&SMALL, 3)?;
+    let shared = Shared::logged(&SMALL, 4)?;
     let mut seat = shared.seat(1)?;
     let shape = Shape::Plain { refs: 1, words: 2 };
     let mut turn = seat.enter();
@@ -44,21 +44,29 @@ fn the_last_entries_are_logged() -> Result<()> {
     drop(turn);
     let mut turn = shared.enter();
     assert_eq!(turn.describe(0, 2).err(), Some(Refusal::NullSlot));
-    assert!(turn.begin());
-    assert_eq!((turn.entry(0), turn.entry(4)), (Logged::Gone, Logged::NotYet));
-    let entries = [
-        (1, Command::New { dst: 0, shape }, Ok(1)),
-        (1, Command::ComparePut { obj: 0, i: 1, old: 5, replacement: 6 }, Ok(0)),
-        (0, Command::Describe { a: 2 }, Err(Refusal::NullSlot)),
-    ];
-    for (place, (mutator, command, answer)) in (1..).zip(entries) {
-        assert_eq!(turn.entry(place), Logged::Entered(Entry { mutator, command, answer, shape: None }));
-    }
+    assert!(turn.begin() && !turn.begin());
+    assert_eq!(turn.quantum(255).err(), Some(Refusal::BadBudget));
+    assert_eq!((turn.entry(2), turn.entry(7)), (Logged::Gone, Logged::NotYet));
+    assert_eq!((turn.entry(4), turn.entry(5)), (Logged::Begin(true), Logged::Begin(false)));
+    assert_eq!(turn.entry(6), Logged::Quantum(255, Err(Refusal::BadBudget)));
+    let spent = turn.quantum(256)?;
+    assert_eq!(turn.entry(7), Logged::Quantum(256, Ok(spent)));
     drop(turn);
     let mut turn = seat.enter();
+    turn.new_plain(1, 0, 1, 2)?;
+    assert_eq!(turn.compare_put(1, 0, 1, 5, 6)?, Compared::Kept(0));
+    assert_eq!(turn.describe(1, 2).err(), Some(Refusal::NullSlot));
     turn.describe(1, 0)?;
-    let described = Entry { mutator: 1, command: Command::Describe { a: 0 }, answer: Ok(1), shape: Some(shape) };
-    assert_eq!((turn.entry(1), turn.entry(4)), (Logged::Gone, Logged::Entered(described)));
+    let entries = [
+        (Command::New { dst: 0, shape }, Ok(2), None),
+        (Command::ComparePut { obj: 0, i: 1, old: 5, replacement: 6 }, Ok(0), None),
+        (Command::Describe { a: 2 }, Err(Refusal::NullSlot), None),
+        (Command::Describe { a: 0 }, Ok(2), Some(shape)),
+    ];
+    for (place, (command, answer, shape)) in (8..).zip(entries) {
+        assert_eq!(turn.entry(place), Logged::Entered(Entry { mutator: 1, command, answer, shape }));
+    }
+    assert_eq!((turn.entry(7), turn.entry(12)), (Logged::Gone, Logged::NotYet));
     drop(turn);
     assert_eq!(Shared::new(&SMALL)?.enter().entry(0), Logged::NotYet);
     assert_eq!(Shared::logged(&SMALL, usize::MAX).err(), Some(Refusal::NoMemory));
@@ -192,19 +200,21 @@ fn add(seat: &mut Seat, mutator: u32) -> Result<()> {
     Ok(())
 }
 
-/// A quantum in each turn, until what ends it is told.
-fn collect(mut seat: Seat, ends: &mpsc::Receiver<()>) -> Result<Seat> {
+/// A beginning and a quantum in each turn, until what ends it is told. How many calls these were.
+fn collect(mut seat: Seat, ends: &mpsc::Receiver<()>) -> Result<u64> {
+    let mut calls = 0;
     while ends.try_recv() == Err(mpsc::TryRecvError::Empty) {
         let mut turn = seat.enter();
         turn.begin();
         turn.quantum(1000)?;
+        calls += 2;
     }
-    Ok(seat)
+    Ok(calls)
 }
 
 /// There are pages for all objects, also where the collector's thread gets no turn.
 #[test]
-fn what_threads_did_is_one_history() -> Result<()> {
+fn what_threads_did_is_one_log() -> Result<()> {
     let shared = Shared::new(&Settings { pages: 64, ..SMALL })?;
     let (end, ends) = mpsc::channel();
     let collector = shared.seat(4)?;
@@ -220,8 +230,8 @@ fn what_threads_did_is_one_history() -> Result<()> {
         drop(thread.join().expect("the thread ends")?);
     }
     end.send(()).expect("the collector's thread goes on");
-    drop(collecting.join().expect("the thread ends")?);
+    let asked = collecting.join().expect("the thread ends")?;
     assert_eq!(shared.enter().get(0, 0, 0)?, 3 * ROUNDS);
-    assert_eq!(shared.place(), 3 * (3 * ROUNDS + 1) + 3);
+    assert_eq!(shared.place(), 3 * (3 * ROUNDS + 1) + 3 + asked);
     Ok(())
 }

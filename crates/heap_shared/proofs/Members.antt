@@ -7,9 +7,8 @@ use mathlib.Core.List.{IsPrefix}
 use Rattle.atomic_table.specs.Table.{Me, rest}
 use Rattle.atomic_table.specs.Seated.{TableId}
 use Rattle.graph_heap.specs.declared.command.Command.{Command}
-use Rattle.graph_heap.specs.declared.command.Entry.{Entry}
 use Rattle.graph_heap.specs.declared.command.Reply.{Reply}
-use Rattle.heap_model.specs.Event.{Course, Event, Command_done, Does}
+use Rattle.heap_model.specs.Event.{Course, Event, Command_done}
 use Rattle.heap_model.specs.ReachedFrom.{opened}
 use Rattle.heap_model.proofs.Settings.{does_settings}
 use Rattle.machine.specs.declared.collector.Busy.{Busy}
@@ -23,15 +22,16 @@ use Rattle.heap_shared.specs.declared.deed.Deed.{Deed}
 use Rattle.heap_shared.specs.declared.rule.Account.{Account}
 use Rattle.heap_shared.specs.declared.rule.Known.{Known}
 use Rattle.heap_shared.specs.declared.shared_heap.SharedConfig.{SharedConfig}
-use Rattle.heap_shared.specs.Past.{IsLed, history_of}
-use Rattle.heap_shared.specs.Accounts.{IsWithin, IsAllowed, GoesOn, events_of, history_by, signed}
+use Rattle.heap_shared.specs.Past.{IsLed}
+use Rattle.heap_shared.specs.Accounts.{IsWithin, IsAllowed, GoesOn, events_of, signed}
+use Rattle.heap_shared.specs.declared.logged.Logged.{Logged}
 use Rattle.heap_shared.specs.declared.member.NoEntry.{NoEntry}
 use Rattle.heap_shared.specs.declared.member.NoEntry.TheVariants.{NotYet}
 use Rattle.heap_shared.specs.Ring.{Ringed, IsAsAsked, GoesBy, TellsEntry}
 use Rattle.heap_shared.specs.Turns.{word_of, done_since, seen_now, Told, HasTurn}
 use Rattle.heap_shared.specs.Members.{MemberView, turn_of, shown_by, HasHeap, IsMember, events_up_to, BearsAll, Enters, Leaves, Places, DoesIn, DoesInTurn, FindsEntry, Calls, IsPromised}
 use Rattle.heap_shared.proofs.Accounts.{goes_none, goes_one}
-use Rattle.heap_shared.proofs.Pasts.{led_more, led_course, led_history, done_is}
+use Rattle.heap_shared.proofs.Pasts.{led_more, led_course, done_is}
 use Rattle.heap_shared.proofs.Rings.{not_yet}
 use Rattle.heap_shared.proofs.Words.{word_more}
 
@@ -81,12 +81,12 @@ module _ (c : SharedConfig) (b : Bool) (w : ℕ) (m : M) (now k : Ringed) (yes :
   goes_now : GoesOn m.0.from m.0.to (events_of m.0.seen) now.events
   goes_now = subst (λ (r : Ringed). GoesOn m.0.from m.0.to (events_of m.0.seen) r.events) same one.goes
 
-  number_now : w ≡ word_of now.course.history
-  number_now = one.number ∙ ap (λ (r : Ringed). word_of r.course.history) same
+  number_now : w ≡ word_of (length now.events)
+  number_now = one.number ∙ ap (λ (r : Ringed). word_of (length r.events)) same
 
-  -- an event was done, and the word gets another number, or not
-  gone_by : (v : ℕ) (e : Event) → IsAllowed m.0.from m.0.to e → GoesBy now e k → v ≡ word_of k.course.history → IsMember c b v (m.0, (0, k) ∷ rest m.1)
-  gone_by v e may d is_number = inside_still c b v _ yes (record {
+  -- an event was done, and the word counts it
+  pub gone_by : (v : ℕ) (e : Event) → IsAllowed m.0.from m.0.to e → v ≡ (w + 2) % 18446744073709551616 → GoesBy now e k → IsMember c b v (m.0, (0, k) ∷ rest m.1)
+  gone_by v e may is_more d = inside_still c b v _ yes (record {
     held = k;
     inside = one.inside;
     carried = ap (λ (l : List (ℕ × Ringed)). (0, k) ∷ l) none_left;
@@ -96,19 +96,12 @@ module _ (c : SharedConfig) (b : Bool) (w : ℕ) (m : M) (now k : Ringed) (yes :
       ring = d.ring ∙ asked_now.ring;
       led = subst (λ (es : List Event). IsLed es k.course) (sym d.events) (led_more now.events now.course k.course e asked_now.led d.does);
     };
-    number = is_number;
+    number = is_more ∙ (word_more now.events e w number_now ∙ ap (λ (es : List Event). word_of (length es)) (sym d.events));
   })
 
   -- a command was done
   pub commanded : (v : ℕ) (mu : ℕ) (command : Command) (told : Reply) → IsWithin m.0.from m.0.to mu → v ≡ (w + 2) % 18446744073709551616 → GoesBy now (Command_done mu command told) k → IsMember c b v (m.0, (0, k) ∷ rest m.1)
-  commanded v mu command told within is_more d =
-      let entry : Entry = record { mutator = mu; command = command; reply = told } in
-      gone_by v (Command_done mu command told) (λ j of. subst (IsWithin m.0.from m.0.to) of within) d
-      (is_more ∙ (word_more now.course.history entry w number_now ∙ ap word_of (sym d.does.history)))
-
-  -- the collector did something, and the history is the same
-  pub collected : (e : Event) → IsAllowed m.0.from m.0.to e → GoesBy now e k → k.course.history ≡ now.course.history → IsMember c b w (m.0, (0, k) ∷ rest m.1)
-  collected e may d still = gone_by w e may d (number_now ∙ ap word_of (sym still))
+  commanded v mu command told within is_more d = gone_by v (Command_done mu command told) (λ j of. subst (IsWithin m.0.from m.0.to) of within) is_more d
 
   -- one event more is done in this turn
   did_more : (e : Event) → GoesBy now e k → drop (length m.0.seen) k.events ≡ done_since m.0.seen m.1 ++ e ∷ []
@@ -158,8 +151,8 @@ leaves_grow old true new l = (signed old.number old.did, ap (λ (v : MemberView)
 
 -- the turn was taken
 module _ (c : SharedConfig) (v : Known) (found : ℕ) (m : M) (config : v.config ≡ Some c) (h : HasTurn v found m) where
-  history_is : history_by h.log ≡ h.held.course.history
-  history_is = ap history_of h.events ∙ sym (led_history h.held.events h.held.course (h.asked c config).led)
+  length_is : length h.log ≡ length h.held.events
+  length_is = sym (length-map h.log (λ (d : Deed). d.event)) ∙ ap length h.events
 
   pub entered : (n : ℕ) → n ≡ found → HasHeap c n m
   entered n is = subst (HasHeap c n) (sym h.has) (record {
@@ -168,7 +161,7 @@ module _ (c : SharedConfig) (v : Known) (found : ℕ) (m : M) (config : v.config
     carried = refl;
     goes = subst (GoesOn v.from v.to (events_of h.log)) h.events (goes_none v.from v.to (events_of h.log));
     asked = h.asked c config;
-    number = is ∙ (h.word ∙ ap word_of history_is);
+    number = is ∙ (h.word ∙ ap word_of length_is);
   })
 
 -- what a member is told, as it is shown
@@ -192,7 +185,7 @@ none_done l x y none = ap (done_since x) none ∙ sym (ap (done_since y) none)
 
 -- the word was looked at
 pub places_so : (id : TableId) (c : SharedConfig) (b : Bool) (w : ℕ) (old new : M) (n : ℕ) → b ≡ false → IsMember c b w old → old.0.config ≡ Some c
-    → (new ≡ (record old.0 { seen = new.0.seen }, old.1)) × Told new.0.seen old.0 × (n ≡ length (history_by new.0.seen) % 9223372036854775808)
+    → (new ≡ (record old.0 { seen = new.0.seen }, old.1)) × Told new.0.seen old.0 × (n ≡ length new.0.seen % 9223372036854775808)
     → Places (shown_by id c old) (Some n) (shown_by id c new)
 places_so id c b w old new n isnt is config did = (
   no_turn c b w old isnt is,
@@ -210,14 +203,13 @@ pub quantum_allowed : (from to budget : ℕ) (a : Result Spent BudgetOutOfRange)
 quantum_allowed from to budget (Ok spent) m of = absurd of
 quantum_allowed from to budget (Err refused) m of = absurd of
 
--- what the collector does is no entry of the history
-pub begin_same : (now k : Course) (a : Result (Unit {0}) Busy) → Does now (begin_done a) k → k.history ≡ now.history
-begin_same now k (Ok done) d = d.history
-begin_same now k (Err busy) d = ap (λ (r : Course). r.history) d.1
+-- the events up to now are those that led to the heap that is carried
+up_to_now : (seen : List Deed) (l : List (ℕ × Ringed)) (from to : ℕ) (r : Ringed) → l ≡ (0, r) ∷ [] → GoesOn from to (events_of seen) r.events → events_of seen ++ done_since seen l ≡ r.events
+up_to_now seen l from to r carried goes =
+    ap (λ (x : List (ℕ × Ringed)). events_of seen ++ done_since seen x) carried ∙ (ap (λ (es : List Event). events_of seen ++ es) (done_is seen goes.0 r.events goes.1) ∙ goes.1)
 
-pub quantum_same : (now k : Course) (budget : ℕ) (a : Result Spent BudgetOutOfRange) → Does now (quantum_done budget a) k → k.history ≡ now.history
-quantum_same now k budget (Ok spent) d = d.history
-quantum_same now k budget (Err refused) d = ap (λ (r : Course). r.history) d.1
+some_turn : (t : Option Course) (r : Course) → t ≡ Some r → t ≢ None
+some_turn t r is none = absurd (let z : Some r ≡ None = sym is ∙ none in cc)
 
 -- what is found in the turn
 module _ (id : TableId) (c : SharedConfig) (b : Bool) (w : ℕ) (m : M) (now : Ringed) (has : b ≡ true) (is : IsMember c b w m) (at : m.1 ≡ (0, now) ∷ rest m.1) (v : MemberView) (shows : shown_by id c m ≡ v) where
@@ -230,19 +222,23 @@ module _ (id : TableId) (c : SharedConfig) (b : Bool) (w : ℕ) (m : M) (now : R
   pub has_turn : v.turn ≡ Some now.course
   has_turn = ap (λ (x : MemberView). x.turn) (sym shows) ∙ turn_was c b w m now now has is at
 
-  pub tells_so : (place : ℕ) (told : Result Entry NoEntry) → TellsEntry now.ring now.course.history place told → FindsEntry place v (Some told) still
+  pub tells_so : (place : ℕ) (told : Result Logged NoEntry) → TellsEntry now.ring now.events place told → FindsEntry place v (Some told) still
   tells_so place told tells =
+      let one = carries_one c b w m has is in
       let kept : now.ring ≡ v.ring = (asked_now c b w m now now has is at).ring ∙ ap (λ (x : MemberView). x.ring) shows in
-      (now.course, has_turn, subst (λ (k : ℕ). TellsEntry k now.course.history place told) kept tells, stays)
+      let log : now.events ≡ events_up_to v = sym (up_to_now m.0.seen m.1 m.0.from m.0.to one.held one.carried one.goes ∙ ap (λ (r : Ringed). r.events) (lent one.held now m.1 one.carried at)) ∙ ap events_up_to shows in
+      (some_turn v.turn now.course has_turn, subst (λ (k : ℕ). TellsEntry k (events_up_to v) place told) kept (subst (λ (es : List Event). TellsEntry now.ring es place told) log tells), stays)
 
 -- there is no entry yet
 pub none_yet : (id : TableId) (c : SharedConfig) (b : Bool) (w : ℕ) (m : M) → b ≡ true → IsMember c b w m → (place ago : ℕ) → (place + ago) % 9223372036854775808 ≡ (w / 2) % 9223372036854775808 → ago < 9223372036854775808 → ago ≡ 0
     → FindsEntry place (shown_by id c m) (Some (Err NotYet)) (shown_by id c m)
 none_yet id c b w m has is place ago since wraps none =
-    let one = carries_one c b w m has is in (one.held.course, ap turn_of one.carried, not_yet one.held.course.history place w ago one.number since wraps none, refl)
+    let one = carries_one c b w m has is in
+    let log = up_to_now m.0.seen m.1 m.0.from m.0.to one.held one.carried one.goes in
+    (some_turn (turn_of m.1) one.held.course (ap turn_of one.carried), subst (λ (es : List Event). place % 9223372036854775808 ≡ length es % 9223372036854775808) (sym log) (not_yet one.held.events place w ago one.number since wraps none), refl)
 
--- the word that it has in the turn is that of its history
-pub word_now : (c : SharedConfig) (b : Bool) (w : ℕ) (m : M) (now : Ringed) → b ≡ true → IsMember c b w m → m.1 ≡ (0, now) ∷ rest m.1 → w ≡ word_of now.course.history
+-- the word that it has in the turn is that of its log
+pub word_now : (c : SharedConfig) (b : Bool) (w : ℕ) (m : M) (now : Ringed) → b ≡ true → IsMember c b w m → m.1 ≡ (0, now) ∷ rest m.1 → w ≡ word_of (length now.events)
 word_now c b w m now has is at = number_now c b w m now now has is at
 
 -- the turn was given back
@@ -261,7 +257,7 @@ promised id c b w m v has is shows =
     let one = carries_one c b w m has is in
     let r = one.held.course in
     let s = shown_by id c m in
-    let since : events_up_to s ≡ one.held.events = ap (λ (l : List (ℕ × Ringed)). events_of m.0.seen ++ done_since m.0.seen l) one.carried ∙ (ap (λ (es : List Event). events_of m.0.seen ++ es) (done_is m.0.seen one.goes.0 one.held.events one.goes.1) ∙ one.goes.1) in
+    let since : events_up_to s ≡ one.held.events = up_to_now m.0.seen m.1 m.0.from m.0.to one.held one.carried one.goes in
     let led : IsLed (events_up_to s) r = subst (λ (es : List Event). IsLed es r) (sym since) one.asked.led in
     let holds : IsPromised s r = record {
       headline = always_holds r (led_course one.held.events r one.asked.led);

@@ -1,5 +1,5 @@
 -- Events that lead to a heap with its history.
-use Rattle.std.proofs.Common.{◌≡◌, ℕ, List, [], ◌∷◌, ◌++◌, length, drop, refl, sym, ap, ◌∙◌, subst, append_assoc, append-nil, Ok, Err}
+use Rattle.std.proofs.Common.{◌≡◌, ℕ, List, [], ◌∷◌, ◌++◌, length, drop, refl, sym, ap, ◌∙◌, subst, append-nil, Ok, Err}
 use Rattle.std.specs.Prelude.{Result}
 use Rattle.std.proofs.lemmas.List.{length-map, map-append}
 use Rattle.std.proofs.Math.Seq.{drop-append_seam}
@@ -32,24 +32,6 @@ history_append (Cycle_begun ∷ es) fs = history_append es fs
 history_append (Begin_refused ∷ es) fs = history_append es fs
 history_append (Quantum_done budget units phase ∷ es) fs = history_append es fs
 history_append (Quantum_refused budget ∷ es) fs = history_append es fs
-
--- one event makes its part of the history
-does_history : (e : Event) (r new : Course) → Does r e new → new.history ≡ r.history ++ history_of (e ∷ [])
-does_history (Command_done m c reply) r new d = d.history
-does_history Cycle_begun r new d = d.history ∙ sym (append-nil r.history)
-does_history Begin_refused r new d = ap (λ (x : Course). x.history) d.1 ∙ sym (append-nil r.history)
-does_history (Quantum_done budget units phase) r new d = d.history ∙ sym (append-nil r.history)
-does_history (Quantum_refused budget) r new d = ap (λ (x : Course). x.history) d.1 ∙ sym (append-nil r.history)
-
-runs_history : (es : List Event) (r new : Course) → Runs r es new → new.history ≡ r.history ++ history_of es
-runs_history [] r new w = ap (λ (x : Course). x.history) w ∙ sym (append-nil r.history)
-runs_history (e ∷ es) r new w =
-    runs_history es w.0 new w.2 ∙ (ap (λ (hs : List Entry). hs ++ history_of es) (does_history e r w.0 w.1)
-    ∙ (append_assoc r.history (history_of (e ∷ [])) (history_of es) ∙ ap (λ (hs : List Entry). r.history ++ hs) (sym (history_append (e ∷ []) es))))
-
--- the history of a heap is that of the events that led to it
-pub led_history : (es : List Event) (r : Course) → IsLed es r → r.history ≡ history_of es
-led_history es r led = runs_history es (opened led.first) r led.runs
 
 pub led_course : (es : List Event) (r : Course) → IsLed es r → IsCourse r
 led_course es r led = runs_course es (opened led.first) r (opening_course led.first led.opening led.pages) led.runs
@@ -95,7 +77,7 @@ next_event p (Quantum_refused budget) = refl
 
 -- so the heap goes by it, and was led to by one more
 module _ (h after : HeapState) (p q : PastView) (e : Event) (is : q ≡ with_event p e) (does : Does (course_of h p) e (course_of after (with_event p e))) where
-  events_now : q.events ≡ p.events ++ e ∷ []
+  pub events_now : q.events ≡ p.events ++ e ∷ []
   events_now = ap (λ (x : PastView). x.events) is ∙ next_event p e
 
   does_now : Does (course_of h p) e (course_of after q)
@@ -106,21 +88,6 @@ module _ (h after : HeapState) (p q : PastView) (e : Event) (is : q ≡ with_eve
 
   pub goes_by : (old : Ringed) (kept ring : ℕ) → record { course = course_of h p; events = p.events; ring = ring } ≡ old → kept ≡ ring → GoesBy old e (record { course = course_of after q; events = q.events; ring = kept })
   goes_by old kept ring shows same = subst (λ (x : Ringed). GoesBy x e (record { course = course_of after q; events = q.events; ring = kept })) shows (record { does = does_now; events = events_now; ring = same })
-
-  pub history_now : history_of q.events ≡ history_of p.events ++ history_of (e ∷ [])
-  history_now = ap history_of events_now ∙ history_append p.events (e ∷ [])
-
-  pub history_still : history_of (e ∷ []) ≡ [] → history_of q.events ≡ history_of p.events
-  history_still none = ap history_of events_now ∙ quiet h p e none
-
--- what the collector is asked to do is no entry
-pub begin_quiet : (a : Result (Unit {0}) Busy) → history_of (begin_done a ∷ []) ≡ []
-begin_quiet (Ok done) = refl
-begin_quiet (Err busy) = refl
-
-pub quantum_quiet : (budget : ℕ) (a : Result Spent BudgetOutOfRange) → history_of (quantum_done budget a ∷ []) ≡ []
-quantum_quiet budget (Ok spent) = refl
-quantum_quiet budget (Err refused) = refl
 
 -- what was done is what led to the heap and wasn't seen
 pub events_signed : (n : ℕ) (es : List Event) → events_of (signed n es) ≡ es

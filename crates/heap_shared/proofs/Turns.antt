@@ -1,7 +1,7 @@
 -- Each step keeps the rule of the word.
 use Rattle.std.proofs.Common.{◌≡◌, ◌≢◌, ℕ, zero, suc, eq-eqb, ne_eqb, ◌+◌, ◌/◌, ◌%◌, ◌<◌, eqb, Bool, true, false, true≢false, List, [], ◌∷◌, ◌++◌, length, get_or, set, refl, sym, ap, ◌∙◌, subst, arith, Some}
 use Rattle.std.specs.List.{All}
-use Rattle.std.proofs.lemmas.List.{set-get_or, get_or-set_same, length-set}
+use Rattle.std.proofs.lemmas.List.{length-map, set-get_or, get_or-set_same, length-set}
 use Rattle.std.proofs.lemmas.List.Elements.{All-append, All-map, All-nil}
 use mathlib.Core.Logic.{dite}
 use mathlib.Core.Option.{Option, none, some, some-injective, some-ne-none}
@@ -16,13 +16,12 @@ use Rattle.heap_shared.specs.declared.rule.Account.{Account}
 use Rattle.heap_shared.specs.declared.rule.Known.{Known}
 use Rattle.heap_shared.specs.declared.rule.TheConstants.{TURN_WORD}
 use Rattle.heap_shared.specs.declared.shared_heap.SharedConfig.{SharedConfig}
-use Rattle.heap_shared.specs.Past.{history_of}
-use Rattle.heap_shared.specs.Accounts.{Doer, Has, IsOthers, BearsOut, IsAllowed, GoesOn, AreBelow, account_of, events_of, history_by, signed}
+use Rattle.heap_shared.specs.Accounts.{Doer, Has, IsOthers, BearsOut, IsAllowed, GoesOn, AreBelow, account_of, events_of, signed}
 use Rattle.heap_shared.specs.Ring.{Ringed, IsAsAsked}
 use Rattle.heap_shared.specs.Turns.{Turn, free, taken, newcomer, word_of, IsTurn, Knows, Keeps, Told, HasTurn, Entered, seen_now, Left, Looked, Cut}
 use Rattle.heap_shared.proofs.Accounts.{bears_more, bears_all, not_theirs}
 use Rattle.heap_shared.proofs.Owners.{own_number}
-use Rattle.heap_shared.proofs.Pasts.{led_history, done_is, events_then}
+use Rattle.heap_shared.proofs.Pasts.{done_is, events_then}
 use Rattle.heap_shared.proofs.Views.{others}
 use Rattle.heap_shared.proofs.Words.{odd, half, half_odd}
 
@@ -118,9 +117,9 @@ module _ (c : SharedConfig) (slots : ℕ) where
   Takes s n id v = (w : Known) × (a : Act Ringed) × Valid s.homes [] a × Keeps c (stepped s TURN_WORD (n + 1) id [] w a) × HasTurn v n (w, carried_after [] a)
 
   take_turn : (s : S) (n id : ℕ) (v : Known) (kept : Keeps c s) (t : Turn) → IsTurn c s kept.log t → get_elem? s.views id ≡ some v → n % 2 ≡ 0 → get_or s.words TURN_WORD 0 ≡ n → Takes s n id v
-  take_turn s n id v kept (taken by) is at even here = absurd (odd (length (history_by kept.log)) n (sym here ∙ is.0) even)
+  take_turn s n id v kept (taken by) is at even here = absurd (odd (length kept.log) n (sym here ∙ is.0) even)
   take_turn s n id v kept (free r) is at even here =
-      let number : n ≡ word_of (history_by kept.log) = sym here ∙ is.0 in
+      let number : n ≡ word_of (length kept.log) = sym here ∙ is.0 in
       let log = kept.log in
       let w : Known = record v { seen = log; inside = true } in (
         w,
@@ -201,7 +200,7 @@ module _ (c : SharedConfig) (slots : ℕ) where
   }
 
   give_turn : (s : S) (new id : ℕ) (v : Known) (r : Ringed) (kept : Keeps c s) (t : Turn) → IsTurn c s kept.log t → get_elem? s.views id ≡ some v → v.inside ≡ true
-      → GoesOn v.from v.to (events_of v.seen) r.events → (d : SharedConfig) → v.config ≡ Some d → IsAsAsked d r → new ≡ word_of r.course.history
+      → GoesOn v.from v.to (events_of v.seen) r.events → (d : SharedConfig) → v.config ≡ Some d → IsAsAsked d r → new ≡ word_of (length r.events)
       → Keeps c (stepped s TURN_WORD new id ((0, r) ∷ []) (record v { seen = seen_now (v, (0, r) ∷ []); inside = false }) gives)
   give_turn s new id v r kept (free was) is at inside goes d config asked number = absurd (both_ways v.inside (is.4 id v at) inside)
   give_turn s new id v r kept (taken by) is at inside goes d config asked number =
@@ -219,14 +218,14 @@ module _ (c : SharedConfig) (slots : ℕ) where
       let below_new : AreBelow c.config.mutators (log ++ added) = All-append (λ (x : Deed). IsAllowed 0 c.config.mutators x.event) log added kept.below
       (All-map (λ (x : Deed). IsAllowed 0 c.config.mutators x.event) (λ (e : Event). record { by = v.number; event = e }) did (λ k e lt m of. (let h = goes.2 k e lt m of in let top = knows.range in (omega arith, omega (arith, h.1, top))))) in
       let events : events_of now ≡ r.events = ap (λ (es : List Event). events_of (v.seen ++ signed v.number es)) since ∙ (events_then v.seen v.number did ∙ goes.1) in
-      let history : history_by now ≡ r.course.history = ap history_of events ∙ sym (led_history r.events r.course asked.led) in
+      let long : length now ≡ length r.events = sym (length-map now (λ (x : Deed). x.event)) ∙ ap length events in
       record {
         log = now;
         turn = free r;
         owner = kept.owner;
         has_word = still_there s.words new kept.has_word;
         stands = (
-          new_word s.words new kept.has_word ∙ (number ∙ ap word_of (sym history)),
+          new_word s.words new kept.has_word ∙ (number ∙ ap word_of (sym long)),
           ap (λ (hs : List (Option Ringed)). set hs 0 (some r)) is.1,
           events,
           subst (λ (x : SharedConfig). IsAsAsked x r) (knows.config d config) asked,
@@ -238,13 +237,13 @@ module _ (c : SharedConfig) (slots : ℕ) where
         below = subst (AreBelow c.config.mutators) grown below_new;
       }
 
-  leaves_from : (id new : ℕ) (v : Known) (r : Ringed) → v.inside ≡ true → GoesOn v.from v.to (events_of v.seen) r.events → (d : SharedConfig) → v.config ≡ Some d → IsAsAsked d r → new ≡ word_of r.course.history
+  leaves_from : (id new : ℕ) (v : Known) (r : Ringed) → v.inside ≡ true → GoesOn v.from v.to (events_of v.seen) r.events → (d : SharedConfig) → v.config ≡ Some d → IsAsAsked d r → new ≡ word_of (length r.events)
       → Allows (Keeps c) slots id (v, (0, r) ∷ []) TURN_WORD (λ _. new) (λ _. Left (step slots TURN_WORD new 0 none) (v, (0, r) ∷ []) new)
   leaves_from id new v r inside goes d config asked number s k wide at below =
       (record v { seen = seen_now (v, (0, r) ∷ []); inside = false }, gives, tt, give_turn s new id v r k k.turn k.stands at inside goes d config asked number, refl)
 
   -- the turn is given back
-  pub leaves : (id new : ℕ) (m : Me Ringed Known) (r : Ringed) → m.1 ≡ (0, r) ∷ [] → m.0.inside ≡ true → GoesOn m.0.from m.0.to (events_of m.0.seen) r.events → (d : SharedConfig) → m.0.config ≡ Some d → IsAsAsked d r → new ≡ word_of r.course.history
+  pub leaves : (id new : ℕ) (m : Me Ringed Known) (r : Ringed) → m.1 ≡ (0, r) ∷ [] → m.0.inside ≡ true → GoesOn m.0.from m.0.to (events_of m.0.seen) r.events → (d : SharedConfig) → m.0.config ≡ Some d → IsAsAsked d r → new ≡ word_of (length r.events)
       → Allows (Keeps c) slots id m TURN_WORD (λ _. new) (λ _. Left (step slots TURN_WORD new 0 none) m new)
   leaves id new m r carried inside goes d config asked number =
       subst (λ (y : Me Ringed Known). Allows (Keeps c) slots id y TURN_WORD (λ _. new) (λ _. Left (step slots TURN_WORD new 0 none) y new)) (λ i. (m.0, sym carried i)) (leaves_from id new m.0 r inside goes d config asked number)
@@ -268,9 +267,9 @@ module _ (c : SharedConfig) (slots : ℕ) where
     below = kept.below;
   }
 
-  number_is : (s : S) (log : List Deed) (t : Turn) → IsTurn c s log t → get_or s.words TURN_WORD 0 / 2 ≡ length (history_by log) % 9223372036854775808
-  number_is s log (free r) is = half (length (history_by log)) _ is.0
-  number_is s log (taken by) is = half_odd (length (history_by log)) _ is.0
+  number_is : (s : S) (log : List Deed) (t : Turn) → IsTurn c s log t → get_or s.words TURN_WORD 0 / 2 ≡ length log % 9223372036854775808
+  number_is s log (free r) is = half (length log) _ is.0
+  number_is s log (taken by) is = half_odd (length log) _ is.0
 
   looks_from : (id : ℕ) (v : Known) → v.inside ≡ false → Allows (Keeps c) slots id (v, []) TURN_WORD (λ n. n) (Looked (step slots TURN_WORD 0 0 none) (v, []))
   looks_from id v out s k wide at below =

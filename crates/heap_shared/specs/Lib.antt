@@ -1,4 +1,4 @@
-pub mod Happened
+pub mod Logged
 pub mod Past
 pub mod Accounts
 pub mod Ring

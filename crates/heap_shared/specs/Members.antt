@@ -2,7 +2,6 @@
 use Rattle.std.specs.Prelude.{ℕ, ◌≡◌, ◌≢◌, ◌+◌, ◌-◌, ◌≤◌, ◌%◌, Bool, true, false, List, [], ◌∷◌, ◌++◌, length, Option, Some, None, Result, Ok, Err}
 use Rattle.std.specs.List.{All}
 use Rattle.graph_heap.specs.declared.command.Command.{Command}
-use Rattle.graph_heap.specs.declared.command.Entry.{Entry}
 use Rattle.graph_heap.specs.declared.command.Reply.{Reply}
 use Rattle.atomic_table.specs.Table.{Me}
 use Rattle.atomic_table.specs.Seated.{TableId}
@@ -13,6 +12,7 @@ use Rattle.heap_model.specs.State.{HeapState}
 use Rattle.machine.specs.Headline.{AlwaysHolds}
 use Rattle.machine.specs.Space.{SpaceSuffices}
 use Rattle.heap_shared.specs.declared.deed.Deed.{Deed}
+use Rattle.heap_shared.specs.declared.logged.Logged.{Logged}
 use Rattle.heap_shared.specs.declared.rule.Account.{Account}
 use Rattle.heap_shared.specs.declared.rule.Known.{Known}
 use Rattle.heap_shared.specs.declared.member.NoTurn.{NoTurn}
@@ -24,7 +24,7 @@ use Rattle.heap_shared.specs.declared.member.NotDone.TheVariants as undone
 use Rattle.heap_shared.specs.declared.member.NoEntry.{NoEntry}
 use Rattle.heap_shared.specs.declared.shared_heap.SharedConfig.{SharedConfig}
 use Rattle.heap_shared.specs.Past.{IsLed}
-use Rattle.heap_shared.specs.Accounts.{IsWithin, BearsOut, GoesOn, AreBelow, IsAllowed, events_of, history_by, signed}
+use Rattle.heap_shared.specs.Accounts.{IsWithin, BearsOut, GoesOn, AreBelow, IsAllowed, events_of, signed}
 use Rattle.heap_shared.specs.Ring.{Ringed, IsAsAsked, TellsEntry}
 use Rattle.heap_shared.specs.Turns.{word_of, done_since}
 
@@ -73,7 +73,7 @@ pub record HasHeap (c : SharedConfig) (word : ℕ) (m : Me Ringed Known) : Type 
   pub carried : m.1 ≡ (0, held) ∷ []
   pub goes : GoesOn m.0.from m.0.to (events_of m.0.seen) held.events
   pub asked : IsAsAsked c held
-  pub number : word ≡ word_of held.course.history
+  pub number : word ≡ word_of (length held.events)
 
 -- whether a member has the turn
 abbrev pub IsMember : SharedConfig → Bool → ℕ → Me Ringed Known → Type 0
@@ -126,10 +126,11 @@ abbrev pub Finds : {A : Type 0} → (HeapState → A → Type 0) → MemberView 
 Finds look old None new = (old.turn ≡ None) × (new ≡ old)
 Finds look old (Some a) new = (r : Course) × (old.turn ≡ Some r) × look r.heap a × (new ≡ old)
 
--- What there is at a place of the history is told while the member has the turn; without it nothing is. Nothing changes.
-abbrev pub FindsEntry : ℕ → MemberView → Option (Result Entry NoEntry) → MemberView → Type 0
+-- What there is at a place of the log, as it is in the turn, is told while the member has the turn; without it nothing is.
+-- Nothing changes.
+abbrev pub FindsEntry : ℕ → MemberView → Option (Result Logged NoEntry) → MemberView → Type 0
 FindsEntry place old None new = (old.turn ≡ None) × (new ≡ old)
-FindsEntry place old (Some told) new = (r : Course) × (old.turn ≡ Some r) × TellsEntry old.ring r.history place told × (new ≡ old)
+FindsEntry place old (Some told) new = (old.turn ≢ None) × TellsEntry old.ring (events_up_to old) place told × (new ≡ old)
 
 -- A command of one of the member's mutators is one event of the heap with its history. Without the turn, or for another
 -- mutator, nothing is done.
@@ -140,12 +141,12 @@ Calls old m c (Ok reply) new = (r : Course) × (k : Course) × (old.turn ≡ Som
     × Does r (Command_done m c reply) k
     × (new ≡ record old { turn = Some k; did = old.did ++ Command_done m c reply ∷ [] })
 
--- The length of the history is told, as it wraps, where the member hasn't the turn: it has then seen that much of the log,
--- and that bears out all accounts that it has.
+-- The length of the log is told, as it wraps, where the member hasn't the turn: it has then seen that much, and that bears out
+-- all accounts that it has.
 abbrev pub Places : MemberView → Option ℕ → MemberView → Type 0
 Places old None new = (old.turn ≢ None) × (new ≡ old)
 Places old (Some n) new = (old.turn ≡ None) × BearsAll new.seen old
-    × (n ≡ length (history_by new.seen) % 9223372036854775808) × (new ≡ record old { seen = new.seen })
+    × (n ≡ length new.seen % 9223372036854775808) × (new ≡ record old { seen = new.seen })
 
 -- One more member of the same heap gets the mutators from this one on, and every other number, beginning with the next; it
 -- has seen the same. Nothing changes where the member has the turn, where that isn't one of its mutators nor the next, or

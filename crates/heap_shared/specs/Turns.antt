@@ -4,14 +4,13 @@ use Rattle.std.specs.List.{All}
 use mathlib.Core.Option as home
 use lib.ListN.{get_elem?}
 use Rattle.atomic_table.specs.Table.{State, Me, Step}
-use Rattle.graph_heap.specs.declared.command.Entry.{Entry}
 use Rattle.heap_model.specs.Event.{Event}
 use Rattle.heap_shared.specs.declared.deed.Deed.{Deed}
 use Rattle.heap_shared.specs.declared.rule.Account.{Account}
 use Rattle.heap_shared.specs.declared.rule.Known.{Known}
 use Rattle.heap_shared.specs.declared.rule.TheConstants.{TURN_WORD}
 use Rattle.heap_shared.specs.declared.shared_heap.SharedConfig.{SharedConfig}
-use Rattle.heap_shared.specs.Accounts.{Doer, Has, BearsOut, AreBelow, account_of, events_of, history_by, signed}
+use Rattle.heap_shared.specs.Accounts.{Doer, Has, BearsOut, AreBelow, account_of, events_of, signed}
 use Rattle.heap_shared.specs.Ring.{Ringed, IsAsAsked}
 
 -- who has seen nothing of the log, and has all mutators and all numbers
@@ -53,9 +52,9 @@ rejoined v w = record v { to = w.to; step = w.number - v.number }
 abbrev pub nobody : Known
 nobody = record { config = None; from = 0; to = 0; number = 1; step = 1; cut = 0; seen = []; learnt = []; inside = false }
 
--- the word at a history: twice its length, as it wraps
-abbrev pub word_of : List Entry → ℕ
-word_of history = (2 * length history) % 18446744073709551616
+-- the word after so many events: twice their number, as it wraps
+abbrev pub word_of : ℕ → ℕ
+word_of events = (2 * events) % 18446744073709551616
 
 -- nobody has the turn, and this heap lies in the slot; or the member of this number has it
 pub data Turn : Type 0 where
@@ -65,10 +64,10 @@ pub data Turn : Type 0 where
 -- What the table is at a log, by who has the turn. The heap in the slot is one to which just this log led. Nobody else is
 -- inside, and who is has seen the whole log.
 abbrev pub IsTurn : SharedConfig → State Ringed Known → List Deed → Turn → Type 0
-IsTurn c s log (free r) = (slice_index s.words TURN_WORD ≡ word_of (history_by log)) × (s.homes ≡ home.some r ∷ [])
+IsTurn c s log (free r) = (slice_index s.words TURN_WORD ≡ word_of (length log)) × (s.homes ≡ home.some r ∷ [])
     × (events_of log ≡ r.events) × IsAsAsked c r
     × ((k : ℕ) (v : Known) → get_elem? s.views k ≡ home.some v → v.inside ≡ false)
-IsTurn c s log (taken by) = (slice_index s.words TURN_WORD ≡ word_of (history_by log) + 1) × (s.homes ≡ home.none ∷ [])
+IsTurn c s log (taken by) = (slice_index s.words TURN_WORD ≡ word_of (length log) + 1) × (s.homes ≡ home.none ∷ [])
     × ((k : ℕ) (v : Known) → get_elem? s.views k ≡ home.some v → v.inside ≡ true → (k ≡ by) × (v.seen ≡ log))
 
 -- What the member of number k knows, at a log, where each mutator and each number belongs to one member or to none: its
@@ -109,7 +108,7 @@ pub record HasTurn (v : Known) (found : ℕ) (m : Me Ringed Known) : Type 0 wher
   pub told : Told log v
   pub events : events_of log ≡ held.events
   pub asked : (d : SharedConfig) → v.config ≡ Some d → IsAsAsked d held
-  pub word : found ≡ word_of (history_by log)
+  pub word : found ≡ word_of (length log)
 
 -- the turn was taken where the word was the number expected; else nothing has changed
 abbrev pub Entered : Step Ringed → Me Ringed Known → ℕ → Me Ringed Known → Type 0
@@ -128,10 +127,10 @@ seen_now m = m.0.seen ++ signed m.0.number (done_since m.0.seen m.1)
 abbrev pub Left : Step Ringed → Me Ringed Known → ℕ → Me Ringed Known → Type 0
 Left st m stored n = n ≡ (record m.0 { seen = seen_now m; inside = false }, [])
 
--- all of the log was seen, and the length of its history found, as it wraps
+-- all of the log was seen, and its length found, as it wraps
 abbrev pub Looked : Step Ringed → Me Ringed Known → ℕ → Me Ringed Known → Type 0
 Looked st m found n = (n ≡ (record m.0 { seen = n.0.seen }, m.1)) × Told n.0.seen m.0
-    × (found / 2 ≡ length (history_by n.0.seen) % 9223372036854775808)
+    × (found / 2 ≡ length n.0.seen % 9223372036854775808)
 
 -- the number expected is where the member's mutators are cut in two
 abbrev pub Cut : Step Ringed → Me Ringed Known → ℕ → Me Ringed Known → Type 0

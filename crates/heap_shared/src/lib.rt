@@ -1,12 +1,13 @@
 //! A heap that threads share where none of them waits in here: a member takes its turn where no other has it, does as many
-//! commands of its own mutators as it likes, and gives the turn back. The history of the heap exists in proofs alone, but for
-//! its last entries, where a ring for them is asked for.
+//! commands of its own mutators as it likes, and gives the turn back. The log of the heap exists in proofs alone, but for its
+//! last entries, where a ring for them is asked for.
 #![tactic(auto)]
 
 mod crossing;
 mod deed;
 mod fitting;
 mod laws;
+mod logged;
 mod member;
 mod past;
 mod ring;
@@ -16,6 +17,7 @@ mod shared_heap;
 pub use crossing::members_cross;
 pub use deed::{Deed, Happened};
 pub use laws::{histories_merge, logs_merge, no_event_is_hidden, nothing_is_done_between};
+pub use logged::Logged;
 pub use member::{Member, NoEntry, NoMember, NoTurn, NotDone};
 pub use past::Past;
 pub use ring::Ring;

@@ -8,12 +8,13 @@ ghost use Rattle.heap_shared.specs.Methods.{IsMethodOf};
 ghost use mathlib.Core.List.{IsPrefix};
 
 use crate::fitting::fitting_first;
+use crate::logged::Logged;
 use crate::rule::{
     Cut, Enter, Halve, Known, Learn, Leave, Look, Rejoin, Spare, TURN_WORD, TurnRule, WORDS,
 };
 use crate::shared_heap::{SharedConfig, SharedHeap};
 use atomic_table::{Refused, Seat, Table};
-use graph_heap::{Command, Entry, NoMemory, Reply};
+use graph_heap::{Command, NoMemory, Reply};
 use machine::{BudgetOutOfRange, Busy, Heap, Spent};
 use size_classes::Config;
 use std::alloc::Global;
@@ -40,7 +41,7 @@ pub struct Member {
 /// How many places there are until they begin anew.
 const PLACES: u64 = 9_223_372_036_854_775_808;
 
-/// How many entries there are from a place on, where the history has a length, as both wrap.
+/// How many entries there are from a place on, where the log has a length, as both wrap.
 fn entries_since(place: u64, length: u64) -> u64
     ensures since { (place + result) % 9223372036854775808 ≡ length % 9223372036854775808 }
     ensures wraps { result < 9223372036854775808 }
@@ -105,7 +106,7 @@ impl Model for Member {
 }
 
 impl Member {
-    /// The first member of a new heap, which calls for all mutators. Of the history no entry is kept. Refused only for lack
+    /// The first member of a new heap, which calls for all mutators. Of the log no entry is kept. Refused only for lack
     /// of memory.
     pub fn new(alloc: Global, config: &Config) -> Result<Member, NoMemory>
         ensures settings { IfOk result (λ m. (m.settings ≡ settings_by config.now) × (m.ring ≡ 0)) }
@@ -123,7 +124,7 @@ impl Member {
         )
     }
 
-    /// The same, of a heap that keeps the last entries of its history, as many as are asked for. All memory for them is
+    /// The same, of a heap that keeps the last entries of its log, as many as are asked for. All memory for them is
     /// taken here.
     pub fn with_ring(alloc: Global, asked: &SharedConfig) -> Result<Member, NoMemory>
         ensures settings { IfOk result (λ m. (m.settings ≡ settings_by asked.now.config) × (m.ring ≡ asked.now.ring)) }
@@ -245,7 +246,7 @@ impl Member {
         true
     }
 
-    /// The length of the history, as it wraps at 2^63, where the member hasn't the turn. It waits for nobody.
+    /// The place in the log behind its last event, as places wrap at 2^63, where the member hasn't the turn. It waits for nobody.
     pub fn place(&mut self) -> Option<u64>
         ensures places { Places self.old result self.new }
         ensures grows { IsPrefix self.old.seen self.new.seen }
@@ -297,6 +298,7 @@ impl Member {
         if !self.inside {
             return None;
         }
+        self.word = self.word.wrapping_add(2);
         Some(self.seat.slot_mut(&self.table.shared, 0).begin())
     }
 
@@ -307,6 +309,7 @@ impl Member {
         if !self.inside {
             return None;
         }
+        self.word = self.word.wrapping_add(2);
         Some(self.seat.slot_mut(&self.table.shared, 0).quantum(budget))
     }
 
@@ -321,8 +324,8 @@ impl Member {
         Some(self.seat.slot_mut(&self.table.shared, 0).inspect(look))
     }
 
-    /// The entry at a place of the history, where the member has the turn. Places count from 0, and wrap at 2^63.
-    pub fn entry(&mut self, place: u64) -> Option<Result<Entry, NoEntry>>
+    /// The event at a place of the log, where the member has the turn. Places count from 0, and wrap at 2^63.
+    pub fn entry(&mut self, place: u64) -> Option<Result<Logged, NoEntry>>
         ensures { FindsEntry place self.old result self.new }
     {
         if !self.inside {

@@ -1,14 +1,16 @@
-//! The last entries of a history.
+//! The last entries of a log.
 ghost use Rattle.std.specs.Prelude.{◌≡◌, ◌-◌, ◌<◌, ◌∷◌, ◌++◌, [], length, slice_get, IfOk, None, if◌then◌else◌, nat_le};
 ghost use Rattle.circular_buffer.specs.Buffer.{buffer, keep_last};
+ghost use Rattle.heap_shared.specs.declared.logged.Logged.TheVariants as logged;
 
+use crate::logged::Logged;
 use circular_buffer::HeapCircularBuffer;
-use graph_heap::{Command, Entry, NoMemory, Reply};
+use graph_heap::{Command, NoMemory, Reply};
 use std::alloc::Global;
 
-/// The last entries of a history, at most as many as its capacity. All its memory is taken when it is made.
+/// The last entries of a log, at most as many as its capacity. All its memory is taken when it is made.
 pub struct Ring {
-    entries: HeapCircularBuffer<Entry, Global>,
+    entries: HeapCircularBuffer<Logged, Global>,
 }
 
 impl Drop for Ring {
@@ -26,16 +28,27 @@ impl Ring {
         Ok(Ring { entries })
     }
 
-    /// A command was done, with this reply. Where the ring is full, its oldest entry goes.
+    /// An event was done. Where the ring is full, its oldest entry goes.
     #[inline(always)]
-    pub(crate) fn enter(&mut self, mutator: u32, command: Command, reply: Reply)
-        ensures { self.new.entries ≡ buffer
-            (keep_last self.old.entries.capacity
-            (self.old.entries.items ++ (record { mutator = mutator; command = command; reply = reply }) ∷ []))
+    pub(crate) fn enter(&mut self, event: Logged)
+        ensures { self.new.entries ≡ buffer (keep_last self.old.entries.capacity (self.old.entries.items ++ event ∷ []))
             self.old.entries.capacity }
     {
         if self.entries.capacity() != 0 {
-            self.push(Entry {
+            self.push(event);
+        }
+    }
+
+    /// The same of a command: it is made an event only where the ring has room for entries.
+    #[inline(always)]
+    pub(crate) fn enter_command(&mut self, mutator: u32, command: Command, reply: Reply)
+        ensures { self.new.entries ≡ buffer
+            (keep_last self.old.entries.capacity
+            (self.old.entries.items ++ logged.Command mutator command reply ∷ []))
+            self.old.entries.capacity }
+    {
+        if self.entries.capacity() != 0 {
+            self.push(Logged::Command {
                 mutator,
                 command,
                 reply,
@@ -45,15 +58,15 @@ impl Ring {
 
     /// The same, where the ring has room for entries.
     #[inline(never)]
-    fn push(&mut self, entry: Entry)
-        ensures { self.new.entries ≡ buffer (keep_last self.old.entries.capacity (self.old.entries.items ++ entry ∷ []))
+    fn push(&mut self, event: Logged)
+        ensures { self.new.entries ≡ buffer (keep_last self.old.entries.capacity (self.old.entries.items ++ event ∷ []))
             self.old.entries.capacity }
     {
-        self.entries.push_back(entry);
+        self.entries.push_back(event);
     }
 
     /// The entry that was entered so many entries ago, 1 for the last, where the ring has it.
-    pub(crate) fn entry_ago(&self, ago: usize) -> Option<Entry>
+    pub(crate) fn entry_ago(&self, ago: usize) -> Option<Logged>
         ensures entry { result ≡ (if nat_le ago (length self.now.entries.items)
             then slice_get self.now.entries.items (length self.now.entries.items - ago)
             else None) }

@@ -34,7 +34,7 @@ pub struct Known {
     pub inside: bool,
 }
 
-/// One word counts, and there is one slot. The word is twice the length of the history, as it wraps, and one more while a
+/// One word counts, and there is one slot. The word is twice the length of the log, as it wraps, and one more while a
 /// member has the turn; the heap lies in the slot while none has it, and just the log led to it. What each member has seen
 /// begins the log, which goes on with what others did.
 pub struct TurnRule;

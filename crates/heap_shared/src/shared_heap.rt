@@ -1,17 +1,20 @@
-//! The heap that members share, with its history, which exists in proofs alone.
+//! The heap that members share, with its log, which exists in proofs alone.
 ghost use Rattle.std.specs.Prelude.{◌≡◌, ◌+◌, ◌<◌, [], IfOk};
+ghost use Rattle.std.specs.Option.{option_map};
 ghost use Rattle.std.specs.Fn.{FnOnceReturnsAt, FnOnceReturnsAtMut};
 ghost use Rattle.heap_model.specs.Event as done;
 ghost use Rattle.machine.specs.Headline.{AlwaysHolds};
 ghost use Rattle.machine.specs.Recorded.{begin_done, quantum_done};
+ghost use Rattle.heap_shared.specs.Logged.{event_of};
 ghost use Rattle.heap_shared.specs.Methods.{IsMethodOf};
 ghost use Rattle.heap_shared.specs.Past.{IsLed};
 ghost use Rattle.heap_shared.specs.Ring.{IsAsAsked, GoesBy, entry_ago};
 
-use crate::past::{Past, begun, collected, entered, no_past};
+use crate::logged::Logged;
+use crate::past::{Past, no_past, went_on};
 use crate::ring::Ring;
 use ghosts::Ghost;
-use graph_heap::{Command, Entry, NoMemory, Reply};
+use graph_heap::{Command, NoMemory, Reply};
 use machine::{BudgetOutOfRange, Busy, Heap, Spent};
 use size_classes::Config;
 use std::alloc::Global;
@@ -24,8 +27,8 @@ pub struct SharedConfig {
     pub ring: usize,
 }
 
-/// A heap, and a ring of the last entries of its history. Contracts see it with the history of its commands, of which the
-/// ring is the end; with the events that led to it from a heap that was just made; and with the capacity of the ring.
+/// A heap, and a ring of the last entries of its log. Contracts see it with the history of its commands; with the events that
+/// led to it from a heap that was just made, of which the ring is the end; and with the capacity of the ring.
 pub struct SharedHeap {
     heap: Heap,
     past: Ghost<Past>,
@@ -44,9 +47,10 @@ impl Drop for SharedHeap {
 }
 
 impl Model for SharedHeap {
-    ghost use Rattle.std.specs.Prelude.{◌≡◌};
+    ghost use Rattle.std.specs.Prelude.{◌≡◌, map};
     ghost use Rattle.circular_buffer.specs.Buffer.{keep_last};
-    ghost use Rattle.heap_shared.specs.Past.{course_of, history_of, IsLed};
+    ghost use Rattle.heap_shared.specs.Logged.{event_of};
+    ghost use Rattle.heap_shared.specs.Past.{course_of, IsLed};
     ghost use Rattle.heap_shared.specs.Ring.{Ringed};
 
     ghost Value = { Ringed };
@@ -58,7 +62,7 @@ impl Model for SharedHeap {
     } };
 
     ghost invariant = { λ a. IsLed a.past.value.events (course_of a.heap a.past.value)
-        × (a.ring.entries.items ≡ keep_last a.ring.entries.capacity (history_of a.past.value.events)) };
+        × (map event_of a.ring.entries.items ≡ keep_last a.ring.entries.capacity a.past.value.events) };
 }
 
 impl SharedHeap {
@@ -89,15 +93,20 @@ impl SharedHeap {
         ensures { GoesBy self.old (done.Command_done mutator command result) self.new }
     {
         let reply = method(&mut self.heap);
-        self.past = entered(&self.past, mutator, command, reply);
-        self.ring.enter(mutator, command, reply);
+        let event = Logged::Command {
+            mutator,
+            command,
+            reply,
+        };
+        self.past = went_on(&self.past, event);
+        self.ring.enter_command(mutator, command, reply);
         reply
     }
 
-    /// The entry of the history that was entered so many entries ago, 1 for the last, where it is one of the last ones,
-    /// which the ring has room for.
-    pub fn entry_ago(&self, ago: usize) -> Option<Entry>
-        ensures entry { result ≡ entry_ago self.now.ring self.now.course.history ago }
+    /// The entry of the log that was entered so many entries ago, 1 for the last, where it is one of the last ones, which the
+    /// ring has room for.
+    pub fn entry_ago(&self, ago: usize) -> Option<Logged>
+        ensures entry { option_map event_of result ≡ entry_ago self.now.ring self.now.events ago }
         ensures within { self.now.ring < 9223372036854775808 }
     {
         self.ring.entry_ago(ago)
@@ -116,7 +125,9 @@ impl SharedHeap {
         ensures { GoesBy self.old (begin_done result) self.new }
     {
         let told = self.heap.begin();
-        self.past = begun(&self.past, told);
+        let event = Logged::from_begin(told);
+        self.past = went_on(&self.past, event);
+        self.ring.enter(event);
         told
     }
 
@@ -125,7 +136,9 @@ impl SharedHeap {
         ensures { GoesBy self.old (quantum_done budget result) self.new }
     {
         let told = self.heap.quantum(budget);
-        self.past = collected(&self.past, budget, told);
+        let event = Logged::from_quantum(budget, told);
+        self.past = went_on(&self.past, event);
+        self.ring.enter(event);
         told
     }
 

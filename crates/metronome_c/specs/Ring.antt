@@ -1,16 +1,21 @@
--- The last entries of a shared heap's history, as C sees them.
+-- The last events of a shared heap's log, as C sees them.
 use Rattle.std.specs.Prelude.{ℕ, slice_index, List, [], ◌∷◌, Option, Some, None, Result, Ok, Err}
 use Rattle.graph_heap.specs.declared.command.Command.{Command}
 use Rattle.graph_heap.specs.declared.command.Command.TheVariants as commands
-use Rattle.graph_heap.specs.declared.command.Entry.{Entry}
+use Rattle.graph_heap.specs.declared.command.Reply.{Reply}
+use Rattle.graph_heap.specs.declared.command.Reply.TheVariants.{Done}
+use Rattle.heap_model.specs.Event.{Event, Command_done, Cycle_begun, Begin_refused, Quantum_done, Quantum_refused}
+use Rattle.heap_shared.specs.declared.logged.Logged.{Logged}
 use Rattle.heap_shared.specs.declared.member.NoEntry.{NoEntry}
 use Rattle.heap_shared.specs.declared.member.NoEntry.TheVariants.{Gone, NotYet}
+use Rattle.heap_shared.specs.Logged.{event_of}
 use Rattle.metronome_c.specs.declared.answer.MetronomeShape.{MetronomeShape}
 use Rattle.metronome_c.specs.declared.seats.ring.MetronomeCommand.{MetronomeCommand}
 use Rattle.metronome_c.specs.declared.seats.ring.MetronomeEntry.{MetronomeEntry}
 use Rattle.metronome_c.specs.declared.status.Status.{Status}
-use Rattle.metronome_c.specs.declared.status.Status.TheVariants.{Outside}
-use Rattle.metronome_c.specs.Answer.{answer_of, sized, shape_of, shape_in}
+use Rattle.metronome_c.specs.declared.status.Status.TheVariants.{Outside, Busy, BudgetOutOfRange}
+use Rattle.metronome_c.specs.Answer.{answer_of, answered, sized, shape_of, shape_in}
+use Rattle.metronome_c.specs.Collecting.{phase_number}
 
 -- a command of this kind, with four numbers and two words
 abbrev pub asked : ℕ → List ℕ → List ℕ → MetronomeCommand
@@ -51,17 +56,23 @@ command_of (commands.Describe a) = plainly 13 (a ∷ [])
 command_of commands.Join = plainly 14 []
 command_of commands.Leave = plainly 15 []
 
--- an entry, as C sees it: the shape is the one that its reply tells, or a plain one without cells
-abbrev pub entry_of : Entry → MetronomeEntry
-entry_of e = record {
-  kind = 1;
-  mutator = e.mutator;
-  command = command_of e.command;
-  answer = answer_of e.reply;
-  shape = shape_in (sized 0 0 0) e.reply;
-}
+-- a command that was done, as C sees it: the shape is the one that its reply tells, or a plain one without cells
+abbrev done_by : ℕ → Command → Reply → MetronomeEntry
+done_by m c reply = record { kind = 1; mutator = m; command = command_of c; answer = answer_of reply; shape = shape_in (sized 0 0 0) reply }
 
--- no entry: all numbers are 0, but for the kind
+-- what the collector was asked to do, as C sees it: a command of this kind, with four numbers, and how it ended
+abbrev pub collected : ℕ → List ℕ → Result Reply Status → MetronomeEntry
+collected k ns told = record { kind = 1; mutator = 0; command = plainly k ns; answer = answered told; shape = sized 0 0 0 }
+
+-- an event, as C sees it; of a quantum the numbers are its budget, the units that it spent, and the phase behind it
+abbrev pub entry_of : Event → MetronomeEntry
+entry_of (Command_done m c reply) = done_by m c reply
+entry_of Cycle_begun = collected 16 [] (Ok Done)
+entry_of Begin_refused = collected 16 [] (Err Busy)
+entry_of (Quantum_done budget units phase) = collected 17 (budget ∷ units ∷ phase_number phase ∷ []) (Ok Done)
+entry_of (Quantum_refused budget) = collected 17 (budget ∷ []) (Err BudgetOutOfRange)
+
+-- no event: all numbers are 0, but for the kind
 abbrev none_there : ℕ → MetronomeEntry
 none_there k = record {
   kind = k;
@@ -71,13 +82,13 @@ none_there k = record {
   shape = sized 0 0 0;
 }
 
--- what there is at a place, as C sees it: an entry, or none any more, or none yet
-abbrev pub entry_found : Result Entry NoEntry → MetronomeEntry
-entry_found (Ok e) = entry_of e
+-- what there is at a place, as C sees it: an event, or none any more, or none yet
+abbrev pub entry_found : Result Logged NoEntry → MetronomeEntry
+entry_found (Ok e) = entry_of (event_of e)
 entry_found (Err Gone) = none_there 0
 entry_found (Err NotYet) = none_there 2
 
 -- what there is at a place, or the seat hasn't the turn
-abbrev pub entry_told : Option (Result Entry NoEntry) → Result MetronomeEntry Status
+abbrev pub entry_told : Option (Result Logged NoEntry) → Result MetronomeEntry Status
 entry_told (Some found) = Ok (entry_found found)
 entry_told None = Err Outside

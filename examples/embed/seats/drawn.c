@@ -1,8 +1,8 @@
 /*
  * drawn [ROUNDS]: four threads at one heap, each with two mutators and a seat, later a seat for each of the two; and a collector.
  * Each answer to a drawn command is compared with a model of the mutator's objects, and each thread does in between what it must
- * not do. In the end the history is as long as the answers are many. With -DMUTEX threads wait
- * at a mutex of the program, else at a gate.
+ * not do. In the end the log is as long as the calls were many, the collector's with them. With -DMUTEX threads wait at a mutex of
+ * the program, else at a gate.
  */
 #include "model.h"
 #include <pthread.h>
@@ -26,7 +26,7 @@ struct worker {
 
 static metronome_seat own = METRONOME_NO_SEAT, collector = METRONOME_NO_SEAT;
 static int is_over;            /* read and written in turns alone, as the next */
-static uint64_t turns, cycles;
+static uint64_t turns, cycles, asked;
 
 #ifdef MUTEX
 static pthread_mutex_t lock = PTHREAD_MUTEX_INITIALIZER;
@@ -141,6 +141,7 @@ static void *collect(void *argument) {
         over = is_over;
         if (metronome_seat_begin(&collector) == METRONOME_OK) cycles++;
         IS(METRONOME_OK, metronome_seat_quantum(&collector, 1000, &spent));
+        asked += 2;
         IS(METRONOME_OK, leave(&collector));
     }
     return NULL;
@@ -197,7 +198,7 @@ int main(int count, char **words) {
     metronome_seat_destroy(&collector);
     for (int n = 0; n < THREADS; n++) end(&workers[n], &commands, &wrong);
     IS(METRONOME_OK, metronome_seat_place(&own, &place));
-    need(self, place == commands, __LINE__);
+    need(self, place == commands + asked, __LINE__);
     metronome_seat_destroy(&own);
     for (int n = 0; n <= THREADS; n++) failed += workers[n].failed != 0;
     printf("%llu commands in %llu turns beside %llu cycles, %llu wrong ones\n", (unsigned long long)commands,

@@ -1,8 +1,8 @@
 /*
- * log [ROUNDS]: the log of a heap that threads share. First rings of several capacities: after each drawn command each place is
- * asked for. Then four threads of a mutator each do drawn commands, and note each with its answer, while another thread reads the
- * log; in the end the ring has all entries: of each mutator they are the commands that were noted, in their order, and what was
- * read meanwhile were the same ones.
+ * log [ROUNDS]: the log of a heap that threads share. First rings of several capacities: after each drawn call each place is asked
+ * for. Then four threads of a mutator each do drawn commands, begin cycles and spend quanta, and note in the turn each call with its
+ * answer behind those of all others, while another thread reads the log; in the end the ring has all entries, just those that were
+ * noted, and what was read meanwhile were the same ones.
  */
 #include "model.h"
 #include <pthread.h>
@@ -92,6 +92,52 @@ static metronome_entry note_drawn(metronome_seat *seat, struct model *model, uin
     return entry;
 }
 
+/* What the collector was asked to do, as the log has it. */
+static metronome_entry asked(metronome_command command, uint32_t status) {
+    metronome_entry entry;
+    memset(&entry, 0, sizeof entry);
+    entry.kind = METRONOME_ENTERED;
+    entry.command = command;
+    entry.answer.kind = status == METRONOME_OK ? METRONOME_DONE : METRONOME_REFUSED;
+    entry.answer.number = status;
+    return entry;
+}
+
+/* The phase of a heap, as the calls in turns tell it, and how many of them told something else than they should. */
+struct collector {
+    uint32_t phase;
+    uint64_t wrong;
+};
+
+/* Begins a cycle in the turn: it is refused just where one is running. */
+static metronome_entry note_begin(metronome_seat *seat, struct collector *collector) {
+    uint32_t status = metronome_seat_begin(seat);
+    collector->wrong += status != (uint32_t)(collector->phase == METRONOME_IDLE ? METRONOME_OK : METRONOME_BUSY);
+    if (status == METRONOME_OK) collector->phase = METRONOME_ROOTS;
+    return asked(numbered(METRONOME_BEGIN, 0, 0, 0, 0), status);
+}
+
+/* Spends a drawn budget in the turn: it is refused just where no quantum may have that, and without a cycle no unit is spent. */
+static metronome_entry note_quantum(metronome_seat *seat, struct collector *collector, uint64_t *seed) {
+    uint32_t budget = 250 + (uint32_t)(drawn(seed) % 64);
+    metronome_spent spent = { 0, 0 };
+    uint32_t status = metronome_seat_quantum(seat, budget, &spent);
+    collector->wrong += status != (uint32_t)(budget < 256 ? METRONOME_BAD_BUDGET : METRONOME_OK) || spent.units > budget;
+    if (status != METRONOME_OK) return asked(numbered(METRONOME_QUANTUM, budget, 0, 0, 0), status);
+    collector->wrong += collector->phase == METRONOME_IDLE && (spent.units != 0 || spent.phase != METRONOME_IDLE);
+    collector->phase = spent.phase;
+    return asked(numbered(METRONOME_QUANTUM, budget, spent.units, spent.phase, 0), status);
+}
+
+/* One call in the turn, mostly a command; it says what the log is to have of it. */
+static metronome_entry note_call(metronome_seat *seat, struct model *model, struct collector *collector, uint64_t *seed) {
+    switch (drawn(seed) % 8) {
+    case 0: return note_begin(seat, collector);
+    case 1: return note_quantum(seat, collector, seed);
+    default: return note_drawn(seat, model, seed);
+    }
+}
+
 /* Each place up to the one behind the next, and the same places once more, as they wrap. */
 static void check_places(metronome_seat *seat, const metronome_entry *noted, uint64_t count, uint64_t ring) {
     for (uint64_t place = 0; place <= count + 1; place++)
@@ -109,7 +155,7 @@ static void check_ring(uint64_t ring) {
     metronome_settings settings = METRONOME_SETTINGS(4, 2, SLOTS);
     metronome_seat seat = METRONOME_NO_SEAT;
     metronome_entry noted[SHORT + 1], entry;
-    metronome_spent spent = { 0, METRONOME_IDLE };
+    struct collector collector = { METRONOME_IDLE, 0 };
     struct model model;
     uint64_t seed = 88172645463325252u + ring;
     settings.statics = STATICS;
@@ -124,21 +170,18 @@ static void check_ring(uint64_t ring) {
     IS(METRONOME_OK, metronome_seat_enter(&seat));
     for (uint64_t count = 0; count <= SHORT; count++) {
         check_places(&seat, noted, count, ring);
-        noted[count] = note_drawn(&seat, &model, &seed);
-        /* what the collector does is no entry */
-        IS(spent.phase == METRONOME_IDLE ? METRONOME_OK : METRONOME_BUSY, metronome_seat_begin(&seat));
-        IS(METRONOME_OK, metronome_seat_quantum(&seat, 256, &spent));
+        noted[count] = note_call(&seat, &model, &collector, &seed);
     }
+    CHECK(collector.wrong == 0);
     metronome_seat_destroy(&seat);
     close_model(&model);
 }
 
-/* One thread: its mutator, and what it noted. */
+/* One thread, and its mutator. */
 struct worker {
     metronome_seat seat;
     struct model model;
-    metronome_entry *noted;
-    uint64_t count, seed;
+    uint64_t seed;
     uint32_t rounds;
     int refused;
 };
@@ -147,14 +190,18 @@ static metronome_seat own = METRONOME_NO_SEAT, reader = METRONOME_NO_SEAT;
 static metronome_gate gate = METRONOME_GATE;
 static metronome_entry *read_entries;
 static uint64_t read_count; /* by the reader alone, until it has ended */
-static int is_over;         /* read and written in turns alone */
+static int is_over;         /* this and the next are read and written in turns alone */
+static metronome_entry *noted;
+static uint64_t noted_count;
+static struct collector cycles = { METRONOME_IDLE, 0 };
 
 static void *work(void *argument) {
     struct worker *self = argument;
     for (uint32_t round = 0; round < self->rounds; round++) {
-        uint64_t commands = drawn(&self->seed) % AT_MOST;
+        uint64_t calls = drawn(&self->seed) % AT_MOST;
         self->refused |= metronome_gate_enter(&gate, &self->seat) != METRONOME_OK;
-        for (uint64_t n = 0; n < commands; n++) self->noted[self->count++] = note_drawn(&self->seat, &self->model, &self->seed);
+        for (uint64_t n = 0; n < calls; n++)
+            noted[noted_count++] = note_call(&self->seat, &self->model, &cycles, &self->seed);
         self->refused |= metronome_gate_leave(&gate, &self->seat) != METRONOME_OK;
     }
     return NULL;
@@ -175,23 +222,45 @@ static void *read_log(void *argument) {
     return argument;
 }
 
-static void check_threads(uint32_t rounds) {
-    static struct worker workers[THREADS];
+/* A seat for each worker and for the reader, and room for what is noted and read. */
+static void open_workers(struct worker *workers, uint32_t rounds) {
     const size_t most = (size_t)rounds * AT_MOST;
-    uint64_t told[THREADS] = { 0 }, all = 0, place = 0, wrong = 0;
-    pthread_t threads[THREADS + 1];
     metronome_settings settings = METRONOME_SETTINGS(256, THREADS, SLOTS);
     settings.statics = STATICS;
     IS(METRONOME_OK, metronome_seat_create_logged(&own, &settings, THREADS * most));
     IS(METRONOME_OK, metronome_seat_another(&own, &reader, THREADS));
     read_entries = calloc(THREADS * most + 1, sizeof *read_entries);
+    noted = calloc(THREADS * most, sizeof *noted);
+    CHECK(read_entries != NULL && noted != NULL);
     for (uint32_t m = THREADS; m-- > 0;) {
         workers[m].rounds = rounds;
         workers[m].seed = 88172645463325252u + m;
-        workers[m].noted = calloc(most, sizeof *workers[m].noted);
-        CHECK(read_entries != NULL && workers[m].noted != NULL && open_model(&workers[m].model, m, (uint32_t)most));
+        CHECK(open_model(&workers[m].model, m, (uint32_t)most));
         IS(METRONOME_OK, metronome_seat_another(&own, &workers[m].seat, m));
     }
+}
+
+/* In the end each place has just what was noted there, and was read meanwhile. */
+static void check_log(void) {
+    uint64_t place = 0, wrong = 0, asked_for = 0;
+    IS(METRONOME_OK, metronome_seat_place(&own, &place));
+    CHECK(place == noted_count && read_count == noted_count);
+    IS(METRONOME_OK, metronome_seat_enter(&own));
+    for (uint64_t at = 0; at < noted_count; at++) {
+        metronome_entry entry;
+        if (metronome_seat_entry(&own, at, &entry) != METRONOME_OK) abort();
+        wrong += !same_entry(&entry, &read_entries[at]) || !same_entry(&entry, &noted[at]);
+        asked_for += entry.command.kind >= METRONOME_BEGIN;
+    }
+    IS(METRONOME_OK, metronome_seat_leave(&own));
+    CHECK(wrong == 0 && cycles.wrong == 0 && asked_for > 0);
+    printf("%llu entries, %llu of them asked of the collector\n", (unsigned long long)noted_count, (unsigned long long)asked_for);
+}
+
+static void check_threads(uint32_t rounds) {
+    static struct worker workers[THREADS];
+    pthread_t threads[THREADS + 1];
+    open_workers(workers, rounds);
     for (int n = 0; n <= THREADS; n++)
         if (pthread_create(&threads[n], NULL, n < THREADS ? work : read_log, &workers[n % THREADS])) abort();
     for (int n = 0; n < THREADS; n++) pthread_join(threads[n], NULL);
@@ -199,26 +268,16 @@ static void check_threads(uint32_t rounds) {
     is_over = 1;
     IS(METRONOME_OK, metronome_gate_leave(&gate, &own));
     pthread_join(threads[THREADS], NULL);
-    for (int n = 0; n < THREADS; n++) all += workers[n].count;
-    IS(METRONOME_OK, metronome_seat_place(&own, &place));
-    CHECK(place == all && read_count == all);
-    IS(METRONOME_OK, metronome_seat_enter(&own));
-    for (uint64_t at = 0; at < all; at++) {
-        metronome_entry entry;
-        if (metronome_seat_entry(&own, at, &entry) != METRONOME_OK || entry.mutator >= THREADS) abort();
-        wrong += !same_entry(&entry, &read_entries[at]) || !same_entry(&entry, &workers[entry.mutator].noted[told[entry.mutator]++]);
-    }
-    CHECK(wrong == 0);
+    check_log();
     for (int n = 0; n < THREADS; n++) {
-        CHECK(!workers[n].refused && told[n] == workers[n].count);
+        CHECK(!workers[n].refused);
         metronome_seat_destroy(&workers[n].seat);
         close_model(&workers[n].model);
-        free(workers[n].noted);
     }
     metronome_seat_destroy(&reader);
     metronome_seat_destroy(&own);
     free(read_entries);
-    printf("%llu entries\n", (unsigned long long)all);
+    free(noted);
 }
 
 int main(int count, char **words) {

@@ -167,9 +167,10 @@ static void check_throwing() {
     } catch (const Refusal &refusal) {
         status = refusal.status();
     }
-    CHECK(status == METRONOME_NOT_YOURS && other.place() == 1);
+    const std::uint64_t before = other.place();
+    CHECK(status == METRONOME_NOT_YOURS && before > 4);
     CHECK(Turn(gate, other).call(metronome_seat_same, 2, 0, 1).number == 1);
-    CHECK(seat.place() == 2);
+    CHECK(seat.place() == before + 1);
     Seat logged(SETTINGS, 1);
     CHECK(Turn(gate, logged).entry(0).kind == METRONOME_NOT_YET);
 }

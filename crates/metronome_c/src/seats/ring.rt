@@ -1,27 +1,30 @@
-//! The last entries of the history of a heap that threads share: for a log, which a program reads in its turns.
+//! The end of the log of a heap that threads share, which a program reads in its turns.
 ghost use Rattle.std.specs.Prelude.{◌≡◌, ◌≢◌};
+ghost use Rattle.heap_shared.specs.Logged.{event_of};
 ghost use Rattle.heap_shared.specs.Members.{FindsEntry};
 ghost use Rattle.metronome_c.specs.declared.status.Status.TheVariants.{OtherVersion};
 ghost use Rattle.metronome_c.specs.Figures.{IsTold};
 ghost use Rattle.metronome_c.specs.Lifetime.{Creates};
 ghost use Rattle.metronome_c.specs.Opened.{seat_in};
-ghost use Rattle.metronome_c.specs.Ring.{asked, command_of, entry_of, entry_found, entry_told};
+ghost use Rattle.metronome_c.specs.Ring.{asked, command_of, collected, entry_of, entry_found, entry_told};
 ghost use Rattle.metronome_c.specs.Seats.{AsksSeat, IsNewSeat};
 ghost use Rattle.metronome_c.specs.Status.{status_number};
 
 use crate::answer::{Answer, MetronomeShape};
 use crate::figures::tell;
+use crate::phase::phase_number;
 use crate::seats::lifetime::create;
 use crate::seats::seat::MetronomeSeat;
 use crate::status::Status;
 use crate::text::VERSION;
-use graph_heap::{Command, Entry};
-use heap_shared::NoEntry;
+use graph_heap::{Command, Reply};
+use heap_shared::{Logged, NoEntry};
 use size_classes::Settings;
 
 /// A command: which one it is, by its place among the variants of `graph_heap::Command`, and its numbers and words in
 /// their order there, and 0 where it has no more. Of a shape the numbers are its kind, and how many cells of each kind it
-/// has.
+/// has. Behind these come what the collector is asked to do: to begin, and a quantum, whose numbers are its budget, the units
+/// that it spent, and the phase behind it.
 #[repr(C)]
 #[derive(Clone, Copy, Debug, PartialEq, Eq)]
 pub struct MetronomeCommand {
@@ -34,8 +37,9 @@ pub struct MetronomeCommand {
     pub second_word: u64,
 }
 
-/// What there is at a place of a history: of kind 1 an entry, of kind 0 none any more, of kind 2 none yet. An entry says whose
-/// command it was, the command, its answer, and the shape that this tells, or a plain one without cells.
+/// What there is at a place of a log: of kind 1 an event, of kind 0 none any more, of kind 2 none yet. An event says whose
+/// command it was, the command, its answer, and the shape that this tells, or a plain one without cells. Of what the collector
+/// is asked to do the mutator is 0.
 #[repr(C)]
 #[derive(Clone, Copy, Debug, PartialEq, Eq)]
 pub struct MetronomeEntry {
@@ -53,7 +57,7 @@ const NO_CELLS: MetronomeShape = MetronomeShape {
     words: 0,
 };
 
-/// No entry any more.
+/// No event any more.
 const NO_ENTRY: MetronomeEntry = MetronomeEntry {
     kind: 0,
     mutator: 0,
@@ -121,25 +125,58 @@ impl MetronomeCommand {
 }
 
 impl MetronomeEntry {
-    /// The entry, as C sees it.
-    fn from_entry(entry: Entry) -> MetronomeEntry
-        ensures { result ≡ entry_of entry }
+    /// What the collector was asked to do, as C sees it.
+    fn of_collector(kind: u32, numbers: [u32; 4], told: Result<Reply, Status>) -> MetronomeEntry
+        ensures { result ≡ collected kind numbers told }
     {
         MetronomeEntry {
             kind: 1,
-            mutator: entry.mutator,
-            command: MetronomeCommand::from_command(entry.command),
-            answer: Answer::from_outcome(Ok(entry.reply)),
-            shape: NO_CELLS.told_by(Ok(entry.reply)),
+            mutator: 0,
+            command: MetronomeCommand::of_kind(kind, numbers, [0; 2]),
+            answer: Answer::from_outcome(told),
+            shape: NO_CELLS,
+        }
+    }
+
+    /// An event, as C sees it.
+    fn from_event(event: Logged) -> MetronomeEntry
+        ensures { result ≡ entry_of (event_of event) }
+    {
+        match event {
+            Logged::Command {
+                mutator,
+                command,
+                reply,
+            } => MetronomeEntry {
+                kind: 1,
+                mutator,
+                command: MetronomeCommand::from_command(command),
+                answer: Answer::from_outcome(Ok(reply)),
+                shape: NO_CELLS.told_by(Ok(reply)),
+            },
+            Logged::Begun => MetronomeEntry::of_collector(16, [0; 4], Ok(Reply::Done)),
+            Logged::BeginRefused => MetronomeEntry::of_collector(16, [0; 4], Err(Status::Busy)),
+            Logged::Quantum {
+                budget,
+                units,
+                phase,
+            } => {
+                let numbers = [budget, units, phase_number(phase), 0];
+                MetronomeEntry::of_collector(17, numbers, Ok(Reply::Done))
+            }
+            Logged::QuantumRefused { budget } => {
+                let refused = Err(Status::BudgetOutOfRange);
+                MetronomeEntry::of_collector(17, [budget, 0, 0, 0], refused)
+            }
         }
     }
 
     /// What there is at a place, as C sees it.
-    fn from_found(found: Result<Entry, NoEntry>) -> MetronomeEntry
+    fn from_found(found: Result<Logged, NoEntry>) -> MetronomeEntry
         ensures { result ≡ entry_found found }
     {
         match found {
-            Ok(entry) => MetronomeEntry::from_entry(entry),
+            Ok(event) => MetronomeEntry::from_event(event),
             Err(NoEntry::Gone) => NO_ENTRY,
             Err(NoEntry::NotYet) => MetronomeEntry {
                 kind: 2,
@@ -150,7 +187,7 @@ impl MetronomeEntry {
 }
 
 /// Makes a heap of these settings and the first seat at it, as `metronome_seat_create_for` does, which keeps the last
-/// entries of its history, so many. All memory for them is taken here.
+/// events of its log, so many. All memory for them is taken here.
 #[unsafe(no_mangle)]
 pub extern "C" fn metronome_seat_create_logged_for(
     seat: &mut MetronomeSeat,
@@ -167,7 +204,7 @@ pub extern "C" fn metronome_seat_create_logged_for(
     create(seat, settings, ring)
 }
 
-/// Tells what there is at a place of the history, from 0, as it wraps at 2^63, in the turn of the seat.
+/// Tells what there is at a place of the log, from 0, as it wraps at 2^63, in the turn of the seat.
 #[unsafe(no_mangle)]
 pub extern "C" fn metronome_seat_entry(
     seat: &mut MetronomeSeat,

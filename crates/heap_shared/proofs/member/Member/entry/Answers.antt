@@ -1,7 +1,6 @@
 use Rattle.std.proofs.Common.{rules, ◌≡◌, ◌≢◌, true, Some, Err, subst, sym}
-use Rattle.std.specs.Prelude.{Option, ok_or}
-use Rattle.graph_heap.specs.declared.command.Entry.{Entry}
-use Rattle.heap_shared.specs.declared.member.NoEntry.TheVariants.{NotYet, Gone}
+use Rattle.std.specs.Prelude.{ok_or}
+use Rattle.heap_shared.specs.declared.member.NoEntry.TheVariants.{NotYet}
 use Rattle.heap_shared.specs.Members.{MemberView, FindsEntry}
 use Rattle.heap_shared.specs.Ring.{TellsEntry}
 use Rattle.heap_shared.proofs.Members.{none_yet, tells_so, word_now}
@@ -25,5 +24,5 @@ returns c =
     let now = c.slot_mut.result.now in
     let found = c.entry_ago-entry.ensures in
     tells_so _ _ _ _ _ _ has c.self.invariant.5 value _ c.self.view_is c.args.place _
-    (subst (TellsEntry now.ring now.course.history c.args.place) (sym c.ok_or.ensures.value) (subst (λ (o : Option Entry). TellsEntry now.ring now.course.history c.args.place (ok_or o Gone)) (sym found.entry)
-    (tells now.course.history c.args.place _ _ (word_now _ _ _ _ _ has c.self.invariant.5 value) since.since since.wraps _ found.within some)))
+    (subst (TellsEntry now.ring now.events c.args.place) (sym c.ok_or.ensures.value)
+    (tells now.events c.args.place _ _ (word_now _ _ _ _ _ has c.self.invariant.5 value) since.since since.wraps _ found.within some c.entry_ago-entry.result found.entry))

@@ -1,8 +1,11 @@
-use Rattle.std.proofs.Common.{refl, ◌∙◌, sym, ap, List}
-use Rattle.circular_buffer.specs.Buffer.{keep_last}
-use Rattle.graph_heap.specs.declared.command.Entry.{Entry}
+use Rattle.std.proofs.Common.{◌≡◌, ◌++◌, [], ◌∷◌, sym, ap, ◌∙◌, List}
+use Rattle.circular_buffer.specs.Buffer.{Buffer, keep_last}
+use Rattle.heap_model.specs.Event.{Event}
 use Rattle.machine.specs.Recorded.{quantum_done}
-use Rattle.heap_shared.proofs.Pasts.{quantum_goes, quantum_quiet, led_now, goes_by, history_still}
+use Rattle.heap_shared.specs.declared.logged.Logged.{Logged}
+use Rattle.heap_shared.specs.Past.{with_event}
+use Rattle.heap_shared.proofs.Rings.{kept_on}
+use Rattle.heap_shared.proofs.Pasts.{quantum_goes, led_now, goes_by, events_now}
 use Rattle.heap_shared.proofs.shared_heap.SharedHeap.quantum.Goals as goal
 
 pub invariant_of-self : goal.invariant_of-self
@@ -10,12 +13,15 @@ invariant_of-self c =
     let h = c.self.inside.heap in
     let p = c.self.inside.past.value in
     let a = c.quantum-told.result in
-    let now = c.collected-self-inside in
-    let e = quantum_done c.args.budget a in
-    let does = quantum_goes h p c.args.budget _ a c.quantum-told.ensures.spends in
-    let cap = c.self.inside.ring.entries.capacity in (
-      led_now h _ p now.result.value e now.ensures does c.self.invariant.0,
-      c.self.invariant.1 ∙ ap (λ (es : List Entry). keep_last cap es) (sym (history_still h _ p now.result.value e now.ensures does (quantum_quiet c.args.budget a))),
+    let event = c.from_quantum-event in
+    let now = c.went_on-self-inside in
+    let ring = c.enter.new.self.entries in
+    let is : now.result.value ≡ with_event p (quantum_done c.args.budget a) = now.ensures ∙ ap (with_event p) event.ensures in
+    let does = quantum_goes h p c.args.budget _ a c.quantum-told.ensures.spends in (
+      led_now h _ p now.result.value (quantum_done c.args.budget a) is does c.self.invariant.0,
+      kept_on c.self.inside.ring.entries ring p.events event.result c.enter.ensures c.self.invariant.1
+          ∙ (ap (λ (e : Event). keep_last ring.capacity (p.events ++ e ∷ [])) event.ensures
+          ∙ ap (λ (es : List Event). keep_last ring.capacity es) (sym (events_now h _ p now.result.value (quantum_done c.args.budget a) is does))),
     )
 
 pub returns : goal.returns
@@ -23,5 +29,6 @@ returns c =
     let h = c.self.inside.heap in
     let p = c.self.inside.past.value in
     let a = c.quantum-told.result in
-    let now = c.collected-self-inside in
-    goes_by h _ p now.result.value (quantum_done c.args.budget a) now.ensures (quantum_goes h p c.args.budget _ a c.quantum-told.ensures.spends) _ _ _ c.self.view_is refl
+    let now = c.went_on-self-inside in
+    let is : now.result.value ≡ with_event p (quantum_done c.args.budget a) = now.ensures ∙ ap (with_event p) c.from_quantum-event.ensures in
+    goes_by h _ p now.result.value (quantum_done c.args.budget a) is (quantum_goes h p c.args.budget _ a c.quantum-told.ensures.spends) _ _ _ c.self.view_is (ap (λ (b : Buffer Logged). b.capacity) c.enter.ensures)

@@ -1,4 +1,4 @@
-use Rattle.heap_shared.proofs.past.entered.Given as goal
+use Rattle.heap_shared.proofs.past.went_on.Given as goal
 
 -- the past that was given
 abbrev pub ghost-new : goal.ghost-new

@@ -1,5 +1,0 @@
-use Rattle.heap_shared.proofs.past.collected.Given as goal
-
--- the past that was given
-abbrev pub ghost-new : goal.ghost-new
-ghost-new g a = g.after

@@ -1,0 +1,12 @@
+-- Events as a log keeps them.
+use Rattle.heap_model.specs.Event.{Event, Command_done, Cycle_begun, Begin_refused, Quantum_done, Quantum_refused}
+use Rattle.heap_shared.specs.declared.logged.Logged.{Logged}
+use Rattle.heap_shared.specs.declared.logged.Logged.TheVariants as logged
+
+-- the event that a log keeps so
+abbrev pub event_of : Logged → Event
+event_of (logged.Command m c reply) = Command_done m c reply
+event_of logged.Begun = Cycle_begun
+event_of logged.BeginRefused = Begin_refused
+event_of (logged.Quantum budget units phase) = Quantum_done budget units phase
+event_of (logged.QuantumRefused budget) = Quantum_refused budget

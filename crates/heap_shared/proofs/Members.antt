@@ -28,7 +28,7 @@ use Rattle.heap_shared.specs.declared.logged.Logged.{Logged}
 use Rattle.heap_shared.specs.declared.member.NoEntry.{NoEntry}
 use Rattle.heap_shared.specs.declared.member.NoEntry.TheVariants.{NotYet}
 use Rattle.heap_shared.specs.Ring.{Ringed, IsAsAsked, GoesBy, TellsEntry}
-use Rattle.heap_shared.specs.Turns.{word_of, done_since, seen_now, Told, HasTurn}
+use Rattle.heap_shared.specs.Turns.{word_of, done_since, seen_now, put_back, Told, HasTurn}
 use Rattle.heap_shared.specs.Members.{MemberView, turn_of, shown_by, HasHeap, IsMember, events_up_to, BearsAll, Enters, Leaves, Places, DoesIn, DoesInTurn, FindsEntry, Calls, IsPromised}
 use Rattle.heap_shared.proofs.Accounts.{goes_none, goes_one}
 use Rattle.heap_shared.proofs.Pasts.{led_more, led_course, done_is}
@@ -97,6 +97,7 @@ module _ (c : SharedConfig) (b : Bool) (w : ℕ) (m : M) (now k : Ringed) (yes :
       led = subst (λ (es : List Event). IsLed es k.course) (sym d.events) (led_more now.events now.course k.course e asked_now.led d.does);
     };
     number = is_more ∙ (word_more now.events e w number_now ∙ ap (λ (es : List Event). word_of (length es)) (sym d.events));
+    still = λ same. absurd (let g = ap length goes_now.1 in let a = length-append (events_of m.0.seen) goes_now.0 in let l = length-map m.0.seen (λ (x : Deed). x.event) in let n = ap length d.events in let b = length-append now.events (e ∷ []) in omega (arith, same, g, a, l, n, b));
   })
 
   -- a command was done
@@ -137,17 +138,17 @@ shown_so P id new c was m v same shows p = subst (λ (x : MemberView). P x (show
 -- who has given the turn back
 pub left_none : (old : MemberView) (had : Bool) (new : MemberView) → Leaves old had new → new.turn ≡ None
 left_none old false new l = ap (λ (v : MemberView). v.turn) l.1 ∙ l.0
-left_none old true new l = ap (λ (v : MemberView). v.turn) l.2
+left_none old true new l = ap (λ (v : MemberView). v.turn) l.3
 
 -- who learns has the same turn
 pub learnt_still : (c : SharedConfig) (b : Bool) (w : ℕ) (m : M) (l : List Account) → IsMember c b w m → IsMember c b w (record m.0 { learnt = l }, m.1)
 learnt_still c false w m l is = is
-learnt_still c true w m l is = record { held = is.held; inside = is.inside; carried = is.carried; goes = is.goes; asked = is.asked; number = is.number }
+learnt_still c true w m l is = record { held = is.held; inside = is.inside; carried = is.carried; goes = is.goes; asked = is.asked; number = is.number; still = is.still }
 
 -- who has left has seen no less
 pub leaves_grow : (old : MemberView) (had : Bool) (new : MemberView) → Leaves old had new → IsPrefix old.seen new.seen
 leaves_grow old false new l = subst (λ (v : MemberView). IsPrefix old.seen v.seen) (sym l.1) ([], append-nil old.seen)
-leaves_grow old true new l = (signed old.number old.did, ap (λ (v : MemberView). v.seen) (sym l.2))
+leaves_grow old true new l = (signed old.number old.did, ap (λ (v : MemberView). v.seen) (sym l.3))
 
 -- the turn was taken
 module _ (c : SharedConfig) (v : Known) (found : ℕ) (m : M) (config : v.config ≡ Some c) (h : HasTurn v found m) where
@@ -162,6 +163,7 @@ module _ (c : SharedConfig) (v : Known) (found : ℕ) (m : M) (config : v.config
     goes = subst (GoesOn v.from v.to (events_of h.log)) h.events (goes_none v.from v.to (events_of h.log));
     asked = h.asked c config;
     number = is ∙ (h.word ∙ ap word_of length_is);
+    still = λ same. refl;
   })
 
 -- what a member is told, as it is shown
@@ -173,10 +175,11 @@ enters_so id c found b w old m isnt is config h = (
   h.log,
   h.held.course,
   no_turn c b w old isnt is,
-  ap (shown_by id c) h.has ∙ ap (λ (es : List Event). record (shown_by id c old) { seen = h.log; turn = Some h.held.course; did = es }) (done_is h.log [] h.held.events (append-nil (events_of h.log) ∙ h.events)),
+  ap (shown_by id c) h.has ∙ ap (λ (es : List Event). record (shown_by id c old) { seen = h.log; turn = Some h.held.course; did = es; last = Some (record { length = length h.log; heap = h.held.course }) }) (done_is h.log [] h.held.events (append-nil (events_of h.log) ∙ h.events)),
   bears_all id c old h.log config h.told,
   subst (λ (es : List Event). IsLed es h.held.course) (sym h.events) (h.asked c config).led,
   (h.asked c config).settings,
+  h.same,
 )
 
 -- nothing is done by who carries nothing
@@ -242,13 +245,14 @@ pub word_now : (c : SharedConfig) (b : Bool) (w : ℕ) (m : M) (now : Ringed) �
 word_now c b w m now has is at = number_now c b w m now now has is at
 
 -- the turn was given back
-pub leaves_so : (id : TableId) (c : SharedConfig) (b : Bool) (w : ℕ) (m new : M) → b ≡ true → IsMember c b w m → new ≡ (record m.0 { seen = seen_now m; inside = false }, []) → Leaves (shown_by id c m) true (shown_by id c new)
+pub leaves_so : (id : TableId) (c : SharedConfig) (b : Bool) (w : ℕ) (m new : M) → b ≡ true → IsMember c b w m → new ≡ (record m.0 { seen = seen_now m; inside = false; last = put_back (length (seen_now m)) m.0.last m.1 }, []) → Leaves (shown_by id c m) true (shown_by id c new)
 leaves_so id c b w m new has is did =
     let one = carries_one c b w m has is in
     let since : done_since m.0.seen m.1 ≡ one.goes.0 = ap (done_since m.0.seen) one.carried ∙ done_is m.0.seen one.goes.0 one.held.events one.goes.1 in (
-      (λ none. let z : Some one.held.course ≡ None = sym (ap turn_of one.carried) ∙ none in cc),
+      one.held.course,
+      ap turn_of one.carried,
       subst (All (IsAllowed m.0.from m.0.to)) (sym since) one.goes.2,
-      ap (shown_by id c) did,
+      ap (shown_by id c) did ∙ ap (λ (l : List (ℕ × Ringed)). record (shown_by id c m) { seen = seen_now m; turn = None; did = []; last = put_back (length (seen_now m)) m.0.last l }) one.carried,
     )
 
 -- what is promised in the turn

@@ -47,8 +47,8 @@ longer seen n did e is =
 pub no_do_and_leave : {A : Type 0} (event : A → Event) (old mid new : MemberView) (a : A) → DoesInTurn event old (Some a) mid → Leaves mid true new → Leaves old true new → ⊥
 no_do_and_leave event old mid new a d left claims =
     let one = did_one event old a mid old.turn d in
-    let was : new.seen ≡ mid.seen ++ signed mid.number mid.did = ap (λ (v : MemberView). v.seen) left.2 in
-    let is : new.seen ≡ old.seen ++ signed old.number old.did = ap (λ (v : MemberView). v.seen) claims.2 in
+    let was : new.seen ≡ mid.seen ++ signed mid.number mid.did = ap (λ (v : MemberView). v.seen) left.3 in
+    let is : new.seen ≡ old.seen ++ signed old.number old.did = ap (λ (v : MemberView). v.seen) claims.3 in
     longer old.seen old.number old.did (event a) ((λ i. sym one.1 i ++ signed (sym one.2 i) (sym one.0 i)) ∙ (sym was ∙ is))
 
 -- a turn of one's own before, with an event in it, is told by what is then seen: to enter it, do, leave and enter again isn't to enter
@@ -76,7 +76,7 @@ module _ {A : Type 0} (event : A → Event) (old m1 m2 m3 : MemberView) (a : A) 
       let number : m2.number ≡ old.number = one.2 ∙ ap (λ (v : MemberView). v.number) entered.3 in
       let none : m1.did ≡ [] = ap (λ (v : MemberView). v.did) entered.3 in
       let seen : m2.seen ≡ entered.0 = one.1 ∙ ap (λ (v : MemberView). v.seen) entered.3 in
-      ap (λ (v : MemberView). v.seen) left.2 ∙ (λ i. seen i ++ signed (number i) ((one.0 ∙ ap (λ (es : List Event). es ++ event a ∷ []) none) i))
+      ap (λ (v : MemberView). v.seen) left.3 ∙ (λ i. seen i ++ signed (number i) ((one.0 ∙ ap (λ (es : List Event). es ++ event a ∷ []) none) i))
 
   -- whatever log goes on from there doesn't bear out what the member had seen
   no_log : (log : List Deed) → (added : List Deed) → m3.seen ++ added ≡ log → BearsOut log (own_account old) → ⊥
@@ -104,7 +104,7 @@ no_work_by : (c : SharedConfig) (ws : List ℕ) (r : Ringed) (log : List Deed) (
 no_work_by c ws r log (free x) none is =
     let same : r ≡ x = some-injective r x (ap (λ (hs : List (home.Option Ringed)). get_or hs 0 home.none) is.1) in
     ap (λ (y : Ringed). y.events) same ∙ (sym is.2 ∙ ap events_of none)
-no_work_by c ws r log (taken k) none is = absurd (some-ne-none r (ap (λ (hs : List (home.Option Ringed)). get_or hs 0 home.none) is.1))
+no_work_by c ws r log (taken k found) none is = absurd (some-ne-none r (ap (λ (hs : List (home.Option Ringed)). get_or hs 0 home.none) is.1))
 
 pub no_work_before : (c : SharedConfig) (ws : List ℕ) (r : Ringed) → Keeps c (opening ws (r ∷ []) (newcomer c)) → r.events ≡ []
 no_work_before c ws r k =

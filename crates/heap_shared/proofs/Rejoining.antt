@@ -12,10 +12,10 @@ use Rattle.heap_shared.specs.declared.shared_heap.SharedConfig.{SharedConfig}
 use Rattle.heap_shared.specs.Accounts.{Doer, mutator_of, member_of, Has, IsOthers, BearsOut, account_of}
 use Rattle.heap_shared.specs.Members.{MemberView, shown_by, Adds, before_giving}
 use Rattle.heap_shared.specs.Ring.{Ringed}
-use Rattle.heap_shared.specs.Turns.{Turn, free, taken, rejoined, nobody, IsTurn, Knows, Keeps}
+use Rattle.heap_shared.specs.Turns.{Turn, free, taken, rejoined, nobody, heap_at, IsTurn, Knows, Remembers, Keeps}
 use Rattle.heap_shared.proofs.Owners.{given, given_within, given_other, given_same, one_of_two}
 use Rattle.heap_shared.proofs.Splitting.{others_same, nobody_knows, there_else}
-use Rattle.heap_shared.proofs.Turns.{both_ways}
+use Rattle.heap_shared.proofs.Turns.{both_ways, remembers_none}
 use Rattle.heap_shared.proofs.Views.{others_two}
 
 abbrev S : Type 0
@@ -92,7 +92,7 @@ module _ (c : SharedConfig) (log : List Deed) (owner : Doer → Option ℕ) (id 
 turn_rejoined : (c : SharedConfig) (s : S) (log : List Deed) (id other : ℕ) (v w : Known) → id ≢ other → get_elem? s.views id ≡ some v → (t : Turn) → IsTurn c s log t
     → IsTurn c (record { words = s.words; homes = s.homes; views = set (set s.views id (rejoined v w)) other nobody }) log t
 turn_rejoined c s log id other v w apart at (free r) is = (is.0, is.1, is.2, is.3, others_two (λ k u. u.inside ≡ false) s.views id other (rejoined v w) nobody (is.4 id v at) refl (λ k u off far e. is.4 k u e) apart)
-turn_rejoined c s log id other v w apart at (taken by) is = (
+turn_rejoined c s log id other v w apart at (taken by found) is = (
   is.0,
   is.1,
   others_two (λ k u. u.inside ≡ true → (k ≡ by) × (u.seen ≡ log)) s.views id other (rejoined v w) nobody (λ so. is.2 id v at so) (λ so. absurd (both_ways false refl so)) (λ k u off far e. is.2 k u e) apart,
@@ -116,6 +116,7 @@ rejoins c id v other w d config half st k at off there =
           (nobody_knows c k.log owner other)
           (λ j u off_id off_other e. rest_know c k.log k.owner id other v w half d config knows theirs j u off_other (k.known j u e))
           apart;
+      remembered = others_two (λ j u. Remembers k.log (heap_at k.turn) u) st.views id other (rejoined v w) nobody (k.remembered id v at) (remembers_none k.log (heap_at k.turn) nobody refl) (λ j u off_id off_other e. k.remembered j u e) apart;
       below = k.below;
     }
 

@@ -13,10 +13,10 @@ use Rattle.heap_shared.specs.declared.rule.Known.{Known}
 use Rattle.heap_shared.specs.declared.shared_heap.SharedConfig.{SharedConfig}
 use Rattle.heap_shared.specs.Accounts.{Doer, mutator_of, member_of, Has, BearsOut, account_of}
 use Rattle.heap_shared.specs.Ring.{Ringed}
-use Rattle.heap_shared.specs.Turns.{Turn, free, taken, before_cut, behind_cut, told_by, learning, nobody, IsTurn, Knows, Keeps}
+use Rattle.heap_shared.specs.Turns.{Turn, free, taken, before_cut, behind_cut, told_by, learning, nobody, heap_at, IsTurn, Knows, Remembers, Keeps}
 use Rattle.heap_shared.proofs.Accounts.{bears_fewer}
 use Rattle.heap_shared.proofs.Owners.{given, given_within, given_else, given_other, apart_some, low_number, high_number, not_both}
-use Rattle.heap_shared.proofs.Turns.{both_ways}
+use Rattle.heap_shared.proofs.Turns.{both_ways, remembers_none}
 use Rattle.heap_shared.proofs.Views.{below_there, others_and_new, others_two}
 
 abbrev S : Type 0
@@ -88,7 +88,7 @@ module _ (c : SharedConfig) (log : List Deed) (owner : Doer → Option ℕ) (id 
 turn_split : (c : SharedConfig) (s : S) (log : List Deed) (id : ℕ) (v : Known) → v.inside ≡ false → (t : Turn) → IsTurn c s log t
     → IsTurn c (record { words = s.words; homes = s.homes; views = set s.views id (before_cut v) ++ behind_cut v ∷ [] }) log t
 turn_split c s log id v out (free r) is = (is.0, is.1, is.2, is.3, others_and_new (λ k u. u.inside ≡ false) s.views id (before_cut v) (behind_cut v) out refl (λ k u apart below e. is.4 k u e))
-turn_split c s log id v out (taken by) is = (
+turn_split c s log id v out (taken by found) is = (
   is.0,
   is.1,
   others_and_new (λ k u. u.inside ≡ true → (k ≡ by) × (u.seen ≡ log)) s.views id (before_cut v) (behind_cut v) (λ so. absurd (both_ways v.inside out so)) (λ so. absurd (both_ways false refl so)) (λ k u apart below e. is.2 k u e),
@@ -111,6 +111,7 @@ splits c id v d config out low high s k at =
           (left_knows c k.log k.owner id new v fresh low high some_step knows)
           (right_knows c k.log k.owner id new v fresh low high some_step knows)
           (λ j u apart below e. rest_knows c k.log k.owner id new v fresh low high some_step knows j u apart (k.known j u e));
+      remembered = others_and_new (λ j u. Remembers k.log (heap_at k.turn) u) s.views id (before_cut v) (behind_cut v) (k.remembered id v at) (k.remembered id v at) (λ j u apart below e. k.remembered j u e);
       below = k.below;
     }
 
@@ -136,7 +137,7 @@ nobody_knows c log owner k = record {
 turn_spared : (c : SharedConfig) (s : S) (log : List Deed) (id : ℕ) (v : Known) → get_elem? s.views id ≡ some v → (t : Turn) → IsTurn c s log t
     → IsTurn c (record { words = s.words; homes = s.homes; views = set s.views id v ++ nobody ∷ [] }) log t
 turn_spared c s log id v at (free r) is = (is.0, is.1, is.2, is.3, others_and_new (λ k u. u.inside ≡ false) s.views id v nobody (is.4 id v at) refl (λ k u apart below e. is.4 k u e))
-turn_spared c s log id v at (taken by) is = (
+turn_spared c s log id v at (taken by found) is = (
   is.0,
   is.1,
   others_and_new (λ k u. u.inside ≡ true → (k ≡ by) × (u.seen ≡ log)) s.views id v nobody (is.2 id v at) (λ so. absurd (both_ways false refl so)) (λ k u apart below e. is.2 k u e),
@@ -151,6 +152,7 @@ spares c id v s k at = record {
   has_word = k.has_word;
   stands = turn_spared c s k.log id v at k.turn k.stands;
   known = others_and_new (Knows c k.log k.owner) s.views id v nobody (k.known id v at) (nobody_knows c k.log k.owner (length s.views)) (λ j u apart below e. k.known j u e);
+  remembered = others_and_new (λ j u. Remembers k.log (heap_at k.turn) u) s.views id v nobody (k.remembered id v at) (remembers_none k.log (heap_at k.turn) nobody refl) (λ j u apart below e. k.remembered j u e);
   below = k.below;
 }
 
@@ -189,7 +191,7 @@ module _ (c : SharedConfig) (log : List Deed) (owner : Doer → Option ℕ) (id 
 turn_learnt : (c : SharedConfig) (s : S) (log : List Deed) (id other : ℕ) (v w : Known) → id ≢ other → get_elem? s.views id ≡ some v → (t : Turn) → IsTurn c s log t
     → IsTurn c (record { words = s.words; homes = s.homes; views = set (set s.views id (learning v w)) other nobody }) log t
 turn_learnt c s log id other v w apart at (free r) is = (is.0, is.1, is.2, is.3, others_two (λ k u. u.inside ≡ false) s.views id other (learning v w) nobody (is.4 id v at) refl (λ k u off far e. is.4 k u e) apart)
-turn_learnt c s log id other v w apart at (taken by) is = (
+turn_learnt c s log id other v w apart at (taken by found) is = (
   is.0,
   is.1,
   others_two (λ k u. u.inside ≡ true → (k ≡ by) × (u.seen ≡ log)) s.views id other (learning v w) nobody (λ so. is.2 id v at so) (λ so. absurd (both_ways false refl so)) (λ k u off far e. is.2 k u e) apart,
@@ -220,5 +222,6 @@ learns c id v other w s k at off there =
           (nobody_knows c k.log (given (account_of w) none k.owner) other)
           (λ j u off_id off_other e. rest_still c k.log k.owner id other v w apart knows theirs j u off_other (k.known j u e))
           apart;
+      remembered = others_two (λ j u. Remembers k.log (heap_at k.turn) u) s.views id other (learning v w) nobody (k.remembered id v at) (remembers_none k.log (heap_at k.turn) nobody refl) (λ j u off_id off_other e. k.remembered j u e) apart;
       below = k.below;
     }

@@ -1,5 +1,6 @@
 -- Each step keeps the rule of the word.
-use Rattle.std.proofs.Common.{◌≡◌, ◌≢◌, ℕ, zero, suc, eq-eqb, ne_eqb, ◌+◌, ◌/◌, ◌%◌, ◌<◌, eqb, Bool, true, false, true≢false, List, [], ◌∷◌, ◌++◌, length, get_or, set, refl, sym, ap, ◌∙◌, subst, arith, Some}
+use Rattle.std.proofs.Common.{◌≡◌, ◌≢◌, ℕ, zero, suc, eq-eqb, ne_eqb, ◌+◌, ◌/◌, ◌%◌, ◌<◌, ◌≤◌, eqb, Bool, true, false, true≢false, List, [], ◌∷◌, ◌++◌, length, get_or, set, refl, sym, ap, ◌∙◌, subst, arith, Some, None, length-append}
+use Rattle.std.specs.Prelude.{Option as Maybe}
 use Rattle.std.specs.List.{All}
 use Rattle.std.proofs.lemmas.List.{length-map, set-get_or, get_or-set_same, length-set}
 use Rattle.std.proofs.lemmas.List.Elements.{All-append, All-map, All-nil}
@@ -10,15 +11,16 @@ use prog.Atomic.{either}
 use lib.ListN.{get_elem?}
 use Rattle.atomic_table.specs.Table.{State, Me, Act, step, keeps, takes, gives, stepped, opening, carried_after, Valid, Allows}
 use Rattle.atomic_table.proofs.Lists.{set_again}
-use Rattle.heap_model.specs.Event.{Event}
+use Rattle.heap_model.specs.Event.{Course, Event}
 use Rattle.heap_shared.specs.declared.deed.Deed.{Deed}
 use Rattle.heap_shared.specs.declared.rule.Account.{Account}
 use Rattle.heap_shared.specs.declared.rule.Known.{Known}
+use Rattle.heap_shared.specs.declared.rule.Last.{Last}
 use Rattle.heap_shared.specs.declared.rule.TheConstants.{TURN_WORD}
 use Rattle.heap_shared.specs.declared.shared_heap.SharedConfig.{SharedConfig}
 use Rattle.heap_shared.specs.Accounts.{Doer, Has, IsOthers, BearsOut, IsAllowed, GoesOn, AreBelow, account_of, events_of, signed}
 use Rattle.heap_shared.specs.Ring.{Ringed, IsAsAsked}
-use Rattle.heap_shared.specs.Turns.{Turn, free, taken, newcomer, word_of, IsTurn, Knows, Keeps, Told, HasTurn, Entered, seen_now, Left, Looked, Cut}
+use Rattle.heap_shared.specs.Turns.{Turn, free, taken, newcomer, word_of, heap_at, IsTurn, Knows, Remembers, Keeps, Told, HasTurn, Entered, seen_now, Left, Looked, Cut}
 use Rattle.heap_shared.proofs.Accounts.{bears_more, bears_all, not_theirs}
 use Rattle.heap_shared.proofs.Owners.{own_number}
 use Rattle.heap_shared.proofs.Pasts.{done_is, events_then}
@@ -53,8 +55,8 @@ unchanged c s id v carried k at =
     subst (Keeps c) (λ i. record { words = sym (same_word s.words) i; homes = s.homes; views = sym (set_again s.views id v at) i }) k
 
 -- who has seen the whole log knows the same else
-whole : (c : SharedConfig) (log : List Deed) (owner : Doer → Option ℕ) (k : ℕ) (v : Known) (inside : Bool) → Knows c log owner k v → Knows c log owner k (record v { seen = log; inside = inside })
-whole c log owner k v inside knows = record {
+whole : (c : SharedConfig) (log : List Deed) (owner : Doer → Option ℕ) (k : ℕ) (v : Known) (inside : Bool) (last : Maybe Last) → Knows c log owner k v → Knows c log owner k (record v { seen = log; inside = inside; last = last })
+whole c log owner k v inside last knows = record {
   config = knows.config;
   numbered = knows.numbered;
   range = knows.range;
@@ -98,6 +100,20 @@ first_knows : (c : SharedConfig) (k : ℕ) (v : Known) → get_elem? (newcomer c
 first_knows c zero v e = subst (Knows c [] alone 0) (some-injective _ _ e) (newcomer_knows c)
 first_knows c (suc k) v e = absurd (some-ne-none v (sym e))
 
+-- who has just found or put back a heap remembers it
+remembers_new : (log : List Deed) (heap : Course) (v : Known) → v.last ≡ Some (record { length = length log; heap = heap }) → Remembers log heap v
+remembers_new log heap v is x has =
+    let e : record { length = length log; heap = heap } ≡ x = (let z : Some (record { length = length log; heap = heap }) ≡ Some x = sym is ∙ has in cc) in
+    ((let l = ap (λ (y : Last). y.length) e in omega (arith, l)), λ _. sym (ap (λ (y : Last). y.heap) e))
+
+-- who has found none yet remembers none
+pub remembers_none : (log : List Deed) (heap : Course) (v : Known) → v.last ≡ None → Remembers log heap v
+remembers_none log heap v is x has = absurd (let z : None ≡ Some x = sym is ∙ has in cc)
+
+first_remembers : (c : SharedConfig) (heap : Course) (k : ℕ) (v : Known) → get_elem? (newcomer c ∷ []) k ≡ some v → Remembers [] heap v
+first_remembers c heap zero v e = remembers_none [] heap v (ap (λ (u : Known). u.last) (sym (some-injective _ _ e)))
+first_remembers c heap (suc k) v e = absurd (some-ne-none v (sym e))
+
 module _ (c : SharedConfig) where
   -- a new heap
   pub opens : (ws : List ℕ) (r : Ringed) → TURN_WORD < length ws → get_or ws TURN_WORD 0 ≡ 0 → r.events ≡ [] → IsAsAsked c r → Keeps c (opening ws (r ∷ []) (newcomer c))
@@ -108,6 +124,7 @@ module _ (c : SharedConfig) where
     has_word = there;
     stands = (number, refl, sym empty, asked, idle c);
     known = first_knows c;
+    remembered = first_remembers c r.course;
     below = All-nil (λ (d : Deed). IsAllowed 0 c.config.mutators d.event);
   }
 
@@ -116,18 +133,22 @@ module _ (c : SharedConfig) (slots : ℕ) where
   abbrev Takes : S → ℕ → ℕ → Known → Type 0
   Takes s n id v = (w : Known) × (a : Act Ringed) × Valid s.homes [] a × Keeps c (stepped s TURN_WORD (n + 1) id [] w a) × HasTurn v n (w, carried_after [] a)
 
-  take_turn : (s : S) (n id : ℕ) (v : Known) (kept : Keeps c s) (t : Turn) → IsTurn c s kept.log t → get_elem? s.views id ≡ some v → n % 2 ≡ 0 → get_or s.words TURN_WORD 0 ≡ n → Takes s n id v
-  take_turn s n id v kept (taken by) is at even here = absurd (odd (length kept.log) n (sym here ∙ is.0) even)
-  take_turn s n id v kept (free r) is at even here =
+  abbrev AllRemember : S → List Deed → Turn → Type 0
+  AllRemember s log t = (k : ℕ) (u : Known) → get_elem? s.views k ≡ some u → Remembers log (heap_at t) u
+
+  take_turn : (s : S) (n id : ℕ) (v : Known) (kept : Keeps c s) (t : Turn) → IsTurn c s kept.log t → AllRemember s kept.log t → get_elem? s.views id ≡ some v → n % 2 ≡ 0 → get_or s.words TURN_WORD 0 ≡ n → Takes s n id v
+  take_turn s n id v kept (taken by found) is rem at even here = absurd (odd (length kept.log) n (sym here ∙ is.0) even)
+  take_turn s n id v kept (free r) is rem at even here =
       let number : n ≡ word_of (length kept.log) = sym here ∙ is.0 in
       let log = kept.log in
-      let w : Known = record v { seen = log; inside = true } in (
+      let now : Last = record { length = length log; heap = r.course } in
+      let w : Known = record v { seen = log; inside = true; last = Some now } in (
         w,
         takes 0 r,
         ap (λ (hs : List (Option Ringed)). get_elem? hs 0) is.1,
         record {
           log = log;
-          turn = taken id;
+          turn = taken id r.course;
           owner = kept.owner;
           has_word = still_there s.words (n + 1) kept.has_word;
           stands = (
@@ -135,13 +156,15 @@ module _ (c : SharedConfig) (slots : ℕ) where
             ap (λ (hs : List (Option Ringed)). set hs 0 none) is.1,
             others (λ k u. u.inside ≡ true → (k ≡ id) × (u.seen ≡ log)) s.views id w (λ _. (refl, refl)) (λ k u apart e inside. absurd (both_ways u.inside (is.4 k u e) inside)),
           );
-          known = others (Knows c log kept.owner) s.views id w (whole c log kept.owner id v true (kept.known id v at)) (λ k u apart e. kept.known k u e);
+          known = others (Knows c log kept.owner) s.views id w (whole c log kept.owner id v true (Some now) (kept.known id v at)) (λ k u apart e. kept.known k u e);
+          remembered = others (λ k u. Remembers log r.course u) s.views id w (remembers_new log r.course w refl) (λ k u apart e. rem k u e);
           below = kept.below;
         },
         record {
           log = log;
           held = r;
           has = refl;
+          same = λ x has long. (rem id v at x has).1 long;
           told = told c s kept id v at;
           events = is.2;
           asked = λ d it_is. subst (λ (x : SharedConfig). IsAsAsked x r) (sym ((kept.known id v at).config d it_is)) is.3;
@@ -152,7 +175,7 @@ module _ (c : SharedConfig) (slots : ℕ) where
   -- a compare-exchange that takes the turn where the word is still the even number that was seen
   enters_from : (id n : ℕ) (v : Known) → n % 2 ≡ 0 → Allows (Keeps c) slots id (v, []) TURN_WORD (λ x. either (eqb x n) (n + 1) x) (Entered (step slots TURN_WORD n (n + 1) none) (v, []))
   enters_from id n v even s k wide at below = let x : ℕ = get_or s.words TURN_WORD 0 in dite (ℕ_discrete x n)
-      (λ hit. let t = take_turn s n id v k k.turn k.stands at even hit in (
+      (λ hit. let t = take_turn s n id v k k.turn k.stands k.remembered at even hit in (
         t.0,
         t.1,
         t.2,
@@ -188,8 +211,8 @@ module _ (c : SharedConfig) (slots : ℕ) where
   }
 
   -- and what it knows itself
-  knows_after : (log added : List Deed) (owner : Doer → Option ℕ) (id : ℕ) (v : Known) → Foreign owner id added → Knows c log owner id v → Knows c (log ++ added) owner id (record v { seen = log ++ added; inside = false })
-  knows_after log added owner id v foreign knows = record {
+  knows_after : (log added : List Deed) (owner : Doer → Option ℕ) (id : ℕ) (v : Known) → Foreign owner id added → Knows c log owner id v → (last : Maybe Last) → Knows c (log ++ added) owner id (record v { seen = log ++ added; inside = false; last = last })
+  knows_after log added owner id v foreign knows last = record {
     config = knows.config;
     numbered = knows.numbered;
     range = knows.range;
@@ -199,11 +222,32 @@ module _ (c : SharedConfig) (slots : ℕ) where
     gone = knows.gone;
   }
 
-  give_turn : (s : S) (new id : ℕ) (v : Known) (r : Ringed) (kept : Keeps c s) (t : Turn) → IsTurn c s kept.log t → get_elem? s.views id ≡ some v → v.inside ≡ true
-      → GoesOn v.from v.to (events_of v.seen) r.events → (d : SharedConfig) → v.config ≡ Some d → IsAsAsked d r → new ≡ word_of (length r.events)
-      → Keeps c (stepped s TURN_WORD new id ((0, r) ∷ []) (record v { seen = seen_now (v, (0, r) ∷ []); inside = false }) gives)
-  give_turn s new id v r kept (free was) is at inside goes d config asked number = absurd (both_ways v.inside (is.4 id v at) inside)
-  give_turn s new id v r kept (taken by) is at inside goes d config asked number =
+  -- where nothing was done yet, it is the heap that was found
+  abbrev Still : Known → Ringed → Type 0
+  Still v r = length r.events ≡ length v.seen → v.last ≡ Some (record { length = length v.seen; heap = r.course })
+
+  -- who put back that heap last
+  abbrev behind : Known → Ringed → Known
+  behind v r = record v { seen = seen_now (v, (0, r) ∷ []); inside = false; last = Some (record { length = length (seen_now (v, (0, r) ∷ [])); heap = r.course }) }
+
+  -- what others remember of the heap that was found is so of what was put back: it is the same, or the log went on
+  others_remember : (log now : List Deed) (id : ℕ) (v : Known) (r : Ringed) (found : Course) (did : List Event) → length now ≡ length log + length did → length r.events ≡ length v.seen + length did
+      → v.seen ≡ log → Still v r → Remembers log found v → (u : Known) → Remembers log found u → Remembers now r.course u
+  others_remember log now id v r found did long events saw still mine u theirs x has =
+      let was = theirs x has in (
+        (let l = was.0 in omega (arith, l, long)),
+        λ same.
+            let none : length did ≡ 0 = (let l = was.0 in omega (arith, l, long, same)) in
+            let first : v.last ≡ Some (record { length = length v.seen; heap = r.course }) = still (omega (arith, events, none)) in
+            let very : r.course ≡ found = (mine (record { length = length v.seen; heap = r.course }) first).1 (ap length saw) in
+            was.1 (omega (arith, same, long, none)) ∙ sym very,
+      )
+
+  give_turn : (s : S) (new id : ℕ) (v : Known) (r : Ringed) (kept : Keeps c s) (t : Turn) → IsTurn c s kept.log t → AllRemember s kept.log t → get_elem? s.views id ≡ some v → v.inside ≡ true
+      → GoesOn v.from v.to (events_of v.seen) r.events → (d : SharedConfig) → v.config ≡ Some d → IsAsAsked d r → new ≡ word_of (length r.events) → Still v r
+      → Keeps c (stepped s TURN_WORD new id ((0, r) ∷ []) (behind v r) gives)
+  give_turn s new id v r kept (free was) is rem at inside goes d config asked number still = absurd (both_ways v.inside (is.4 id v at) inside)
+  give_turn s new id v r kept (taken by found) is rem at inside goes d config asked number still =
       let mine = is.2 id v at inside in
       let log = kept.log in
       let did = goes.0 in
@@ -214,10 +258,13 @@ module _ (c : SharedConfig) (slots : ℕ) where
       let now : List Deed = seen_now (v, (0, r) ∷ []) in
       let since = done_is v.seen did r.events goes.1 in
       let grown : log ++ added ≡ now = λ i. sym mine.1 i ++ signed v.number (sym since i) in
-      let w : Known = record v { seen = now; inside = false } in
+      let w : Known = behind v r in
       let below_new : AreBelow c.config.mutators (log ++ added) = All-append (λ (x : Deed). IsAllowed 0 c.config.mutators x.event) log added kept.below
       (All-map (λ (x : Deed). IsAllowed 0 c.config.mutators x.event) (λ (e : Event). record { by = v.number; event = e }) did (λ k e lt m of. (let h = goes.2 k e lt m of in let top = knows.range in (omega arith, omega (arith, h.1, top))))) in
       let events : events_of now ≡ r.events = ap (λ (es : List Event). events_of (v.seen ++ signed v.number es)) since ∙ (events_then v.seen v.number did ∙ goes.1) in
+      let signs : length added ≡ length did = length-map did (λ (e : Event). record { by = v.number; event = e }) in
+      let more : length now ≡ length log + length did = sym (ap length grown) ∙ (length-append log added ∙ ap (λ (n : ℕ). length log + n) signs) in
+      let all : length r.events ≡ length v.seen + length did = (let g = ap length goes.1 in let a = length-append (events_of v.seen) did in let m = length-map v.seen (λ (x : Deed). x.event) in omega (arith, g, a, m)) in
       let long : length now ≡ length r.events = sym (length-map now (λ (x : Deed). x.event)) ∙ ap length events in
       record {
         log = now;
@@ -232,50 +279,53 @@ module _ (c : SharedConfig) (slots : ℕ) where
           others (λ k u. u.inside ≡ false) s.views id w refl (λ k u apart e. not_true u.inside (λ so. apart ((is.2 k u e so).0 ∙ sym mine.0))),
         );
         known = others (Knows c now kept.owner) s.views id w
-            (subst (λ (xs : List Deed). Knows c xs kept.owner id (record v { seen = xs; inside = false })) grown (knows_after log added kept.owner id v foreign knows))
+            (subst (λ (xs : List Deed). Knows c xs kept.owner id (record v { seen = xs; inside = false; last = w.last })) grown (knows_after log added kept.owner id v foreign knows w.last))
             (λ k u apart e. subst (λ (xs : List Deed). Knows c xs kept.owner k u) grown (others_know log added kept.owner id k u foreign apart (kept.known k u e)));
+        remembered = others (λ k u. Remembers now r.course u) s.views id w (remembers_new now r.course w refl)
+            (λ k u apart e. others_remember log now id v r found did more all mine.1 still (rem id v at) u (rem k u e));
         below = subst (AreBelow c.config.mutators) grown below_new;
       }
 
-  leaves_from : (id new : ℕ) (v : Known) (r : Ringed) → v.inside ≡ true → GoesOn v.from v.to (events_of v.seen) r.events → (d : SharedConfig) → v.config ≡ Some d → IsAsAsked d r → new ≡ word_of (length r.events)
+  leaves_from : (id new : ℕ) (v : Known) (r : Ringed) → v.inside ≡ true → GoesOn v.from v.to (events_of v.seen) r.events → (d : SharedConfig) → v.config ≡ Some d → IsAsAsked d r → new ≡ word_of (length r.events) → Still v r
       → Allows (Keeps c) slots id (v, (0, r) ∷ []) TURN_WORD (λ _. new) (λ _. Left (step slots TURN_WORD new 0 none) (v, (0, r) ∷ []) new)
-  leaves_from id new v r inside goes d config asked number s k wide at below =
-      (record v { seen = seen_now (v, (0, r) ∷ []); inside = false }, gives, tt, give_turn s new id v r k k.turn k.stands at inside goes d config asked number, refl)
+  leaves_from id new v r inside goes d config asked number still s k wide at below =
+      (behind v r, gives, tt, give_turn s new id v r k k.turn k.stands k.remembered at inside goes d config asked number still, refl)
 
   -- the turn is given back
-  pub leaves : (id new : ℕ) (m : Me Ringed Known) (r : Ringed) → m.1 ≡ (0, r) ∷ [] → m.0.inside ≡ true → GoesOn m.0.from m.0.to (events_of m.0.seen) r.events → (d : SharedConfig) → m.0.config ≡ Some d → IsAsAsked d r → new ≡ word_of (length r.events)
+  pub leaves : (id new : ℕ) (m : Me Ringed Known) (r : Ringed) → m.1 ≡ (0, r) ∷ [] → m.0.inside ≡ true → GoesOn m.0.from m.0.to (events_of m.0.seen) r.events → (d : SharedConfig) → m.0.config ≡ Some d → IsAsAsked d r → new ≡ word_of (length r.events) → Still m.0 r
       → Allows (Keeps c) slots id m TURN_WORD (λ _. new) (λ _. Left (step slots TURN_WORD new 0 none) m new)
-  leaves id new m r carried inside goes d config asked number =
-      subst (λ (y : Me Ringed Known). Allows (Keeps c) slots id y TURN_WORD (λ _. new) (λ _. Left (step slots TURN_WORD new 0 none) y new)) (λ i. (m.0, sym carried i)) (leaves_from id new m.0 r inside goes d config asked number)
+  leaves id new m r carried inside goes d config asked number still =
+      subst (λ (y : Me Ringed Known). Allows (Keeps c) slots id y TURN_WORD (λ _. new) (λ _. Left (step slots TURN_WORD new 0 none) y new)) (λ i. (m.0, sym carried i)) (leaves_from id new m.0 r inside goes d config asked number still)
 
   -- another view of a member that isn't inside leaves the turn as it is
   turn_stays : (s : S) (id : ℕ) (w : Known) (log : List Deed) (t : Turn) → IsTurn c s log t → w.inside ≡ false
       → IsTurn c (stepped s TURN_WORD (get_or s.words TURN_WORD 0) id [] w keeps) log t
   turn_stays s id w log (free r) is out =
       (ap (λ (ws : List ℕ). get_or ws TURN_WORD 0) (same_word s.words) ∙ is.0, is.1, is.2, is.3, others (λ k u. u.inside ≡ false) s.views id w out (λ k u apart e. is.4 k u e))
-  turn_stays s id w log (taken by) is out =
+  turn_stays s id w log (taken by found) is out =
       (ap (λ (ws : List ℕ). get_or ws TURN_WORD 0) (same_word s.words) ∙ is.0, is.1, others (λ k u. u.inside ≡ true → (k ≡ by) × (u.seen ≡ log)) s.views id w (λ so. absurd (both_ways w.inside out so)) (λ k u apart e. is.2 k u e))
 
-  view_changes : (s : S) (kept : Keeps c s) (id : ℕ) (w : Known) → w.inside ≡ false → Knows c kept.log kept.owner id w → Keeps c (stepped s TURN_WORD (get_or s.words TURN_WORD 0) id [] w keeps)
-  view_changes s kept id w out knows = record {
+  view_changes : (s : S) (kept : Keeps c s) (id : ℕ) (w : Known) → w.inside ≡ false → Knows c kept.log kept.owner id w → Remembers kept.log (heap_at kept.turn) w → Keeps c (stepped s TURN_WORD (get_or s.words TURN_WORD 0) id [] w keeps)
+  view_changes s kept id w out knows remembers = record {
     log = kept.log;
     turn = kept.turn;
     owner = kept.owner;
     has_word = still_there s.words _ kept.has_word;
     stands = turn_stays s id w kept.log kept.turn kept.stands out;
     known = others (Knows c kept.log kept.owner) s.views id w knows (λ k u apart e. kept.known k u e);
+    remembered = others (λ k u. Remembers kept.log (heap_at kept.turn) u) s.views id w remembers (λ k u apart e. kept.remembered k u e);
     below = kept.below;
   }
 
   number_is : (s : S) (log : List Deed) (t : Turn) → IsTurn c s log t → get_or s.words TURN_WORD 0 / 2 ≡ length log % 9223372036854775808
   number_is s log (free r) is = half (length log) _ is.0
-  number_is s log (taken by) is = half_odd (length log) _ is.0
+  number_is s log (taken by found) is = half_odd (length log) _ is.0
 
   looks_from : (id : ℕ) (v : Known) → v.inside ≡ false → Allows (Keeps c) slots id (v, []) TURN_WORD (λ n. n) (Looked (step slots TURN_WORD 0 0 none) (v, []))
   looks_from id v out s k wide at below =
       let w : Known = record v { seen = k.log } in
       let knows : Knows c k.log k.owner id w = record { config = (k.known id v at).config; numbered = (k.known id v at).numbered; range = (k.known id v at).range; own = bears_all k.log (account_of w) refl; owns = (k.known id v at).owns; learnt = (k.known id v at).learnt; gone = (k.known id v at).gone } in
-      (w, keeps, tt, view_changes s k id w out knows, (refl, told c s k id v at, number_is s k.log k.turn k.stands))
+      (w, keeps, tt, view_changes s k id w out knows (k.remembered id v at), (refl, told c s k id v at, number_is s k.log k.turn k.stands))
 
   -- the word is looked at
   pub looks : (id : ℕ) (m : Me Ringed Known) → m.1 ≡ [] → m.0.inside ≡ false → Allows (Keeps c) slots id m TURN_WORD (λ n. n) (Looked (step slots TURN_WORD 0 0 none) m)
@@ -290,7 +340,7 @@ module _ (c : SharedConfig) (slots : ℕ) where
       let w : Known = record v { cut = n } in
       let x : ℕ = get_or s.words TURN_WORD 0 in
       let knows : Knows c k.log k.owner id w = record { config = (k.known id v at).config; numbered = (k.known id v at).numbered; range = (k.known id v at).range; own = (k.known id v at).own; owns = (k.known id v at).owns; learnt = (k.known id v at).learnt; gone = (k.known id v at).gone } in
-      (w, keeps, tt, subst (λ y. Keeps c (stepped s TURN_WORD y id [] w keeps)) (sym (either_same x n)) (view_changes s k id w out knows), refl)
+      (w, keeps, tt, subst (λ y. Keeps c (stepped s TURN_WORD y id [] w keeps)) (sym (either_same x n)) (view_changes s k id w out knows (k.remembered id v at)), refl)
 
   -- a place is named at which the member's mutators are to be cut in two
   pub cuts : (id n : ℕ) (m : Me Ringed Known) → m.1 ≡ [] → m.0.inside ≡ false → Allows (Keeps c) slots id m TURN_WORD (λ x. either (eqb x n) n x) (Cut (step slots TURN_WORD n n none) m)

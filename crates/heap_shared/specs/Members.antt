@@ -15,6 +15,7 @@ use Rattle.heap_shared.specs.declared.deed.Deed.{Deed}
 use Rattle.heap_shared.specs.declared.logged.Logged.{Logged}
 use Rattle.heap_shared.specs.declared.rule.Account.{Account}
 use Rattle.heap_shared.specs.declared.rule.Known.{Known}
+use Rattle.heap_shared.specs.declared.rule.Last.{Last}
 use Rattle.heap_shared.specs.declared.member.NoTurn.{NoTurn}
 use Rattle.heap_shared.specs.declared.member.NoTurn.TheVariants as turns
 use Rattle.heap_shared.specs.declared.member.NoMember.{NoMember}
@@ -30,7 +31,8 @@ use Rattle.heap_shared.specs.Turns.{word_of, done_since}
 
 -- Which heap it is, its settings, and how many of the last entries it keeps; the member's own account: its mutators, its
 -- number and the step to the next one that it can give away, and what it has seen of the log up to its last turn or look;
--- the accounts that it has learnt; and while it has the turn the heap with its history, and what it did in this turn.
+-- the accounts that it has learnt; while it has the turn the heap with its history, and what it did in this turn; and the heap that it
+-- found or put back last, with the length of the log then.
 pub record MemberView : Type 0 where
   pub heap : TableId
   pub settings : HeapSettings
@@ -43,6 +45,7 @@ pub record MemberView : Type 0 where
   pub learnt : List Account
   pub turn : Option Course
   pub did : List Event
+  pub last : Option Last
 
 -- the heap that is carried
 abbrev pub turn_of : List (ℕ × Ringed) → Option Course
@@ -63,10 +66,11 @@ shown_by id c m = record {
   learnt = m.0.learnt;
   turn = turn_of m.1;
   did = done_since m.0.seen m.1;
+  last = m.0.last;
 }
 
 -- who has the turn at a heap that was asked for so carries it, led to by what it has seen and then by events that it may do;
--- the number is what the word gets when it gives the turn back
+-- the number is what the word gets when it gives the turn back. Where nothing was done yet it is the heap that was found.
 pub record HasHeap (c : SharedConfig) (word : ℕ) (m : Me Ringed Known) : Type 0 where
   pub held : Ringed
   pub inside : m.0.inside ≡ true
@@ -74,6 +78,7 @@ pub record HasHeap (c : SharedConfig) (word : ℕ) (m : Me Ringed Known) : Type 
   pub goes : GoesOn m.0.from m.0.to (events_of m.0.seen) held.events
   pub asked : IsAsAsked c held
   pub number : word ≡ word_of (length held.events)
+  pub still : length held.events ≡ length m.0.seen → m.0.last ≡ Some (record { length = length m.0.seen; heap = held.course })
 
 -- whether a member has the turn
 abbrev pub IsMember : SharedConfig → Bool → ℕ → Me Ringed Known → Type 0
@@ -95,20 +100,27 @@ pub record BearsAll (log : List Deed) (v : MemberView) : Type 0 where
   pub below : AreBelow v.settings.limits.mutators log
 
 -- A member that hasn't the turn asks for it: it has it, with a heap to which just that log led from one that was just made
--- which bears out all accounts that it has; or another has it, and nothing changes; or it has it already.
+-- which bears out all accounts that it has, and if nothing was done since it found or put back one, the very same; or another has it,
+-- and nothing changes; or it has it already.
 abbrev pub Enters : MemberView → Result (Unit {0}) NoTurn → MemberView → Type 0
 Enters old (Err turns.Inside) new = (old.turn ≢ None) × (new ≡ old)
 Enters old (Err turns.Taken) new = (old.turn ≡ None) × (new ≡ old)
 Enters old (Ok done) new = (log : List Deed) × (r : Course) × (old.turn ≡ None)
-    × (new ≡ record old { seen = log; turn = Some r; did = [] })
+    × (new ≡ record old { seen = log; turn = Some r; did = []; last = Some (record { length = length log; heap = r }) })
     × BearsAll log old × IsLed (events_of log) r × (settings_of r.heap ≡ old.settings)
+    × ((x : Last) → old.last ≡ Some x → x.length ≡ length log → x.heap ≡ r)
 
--- It gives the turn back, and has seen the log, which went on by what it did in the turn alone: commands of its own
+-- It gives the turn and the heap back, and has seen the log, which went on by what it did in the turn alone: commands of its own
 -- mutators, and what it asked of the collector; or it hasn't the turn, and nothing changes.
 abbrev pub Leaves : MemberView → Bool → MemberView → Type 0
 Leaves old false new = (old.turn ≡ None) × (new ≡ old)
-Leaves old true new = (old.turn ≢ None) × All (IsAllowed old.from old.to) old.did
-    × (new ≡ record old { seen = old.seen ++ signed old.number old.did; turn = None; did = [] })
+Leaves old true new = (r : Course) × (old.turn ≡ Some r) × All (IsAllowed old.from old.to) old.did
+    × (new ≡ record old {
+      seen = old.seen ++ signed old.number old.did;
+      turn = None;
+      did = [];
+      last = Some (record { length = length (old.seen ++ signed old.number old.did); heap = r });
+    })
 
 -- An event that is done while the member has the turn: what comes of it is one event of the heap with its history. Without
 -- the turn nothing is done.

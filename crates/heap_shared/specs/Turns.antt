@@ -4,10 +4,11 @@ use Rattle.std.specs.List.{All}
 use mathlib.Core.Option as home
 use lib.ListN.{get_elem?}
 use Rattle.atomic_table.specs.Table.{State, Me, Step}
-use Rattle.heap_model.specs.Event.{Event}
+use Rattle.heap_model.specs.Event.{Course, Event}
 use Rattle.heap_shared.specs.declared.deed.Deed.{Deed}
 use Rattle.heap_shared.specs.declared.rule.Account.{Account}
 use Rattle.heap_shared.specs.declared.rule.Known.{Known}
+use Rattle.heap_shared.specs.declared.rule.Last.{Last}
 use Rattle.heap_shared.specs.declared.rule.TheConstants.{TURN_WORD}
 use Rattle.heap_shared.specs.declared.shared_heap.SharedConfig.{SharedConfig}
 use Rattle.heap_shared.specs.Accounts.{Doer, Has, BearsOut, AreBelow, account_of, events_of, signed}
@@ -25,6 +26,7 @@ newcomer c = record {
   seen = [];
   learnt = [];
   inside = false;
+  last = None;
 }
 
 -- who keeps the mutators before the cut, and every other number, its own with them
@@ -50,16 +52,21 @@ rejoined v w = record v { to = w.to; step = w.number - v.number }
 
 -- who is no member, or no more: it has no mutator and no number, and can't say anything
 abbrev pub nobody : Known
-nobody = record { config = None; from = 0; to = 0; number = 1; step = 1; cut = 0; seen = []; learnt = []; inside = false }
+nobody = record { config = None; from = 0; to = 0; number = 1; step = 1; cut = 0; seen = []; learnt = []; inside = false; last = None }
 
 -- the word after so many events: twice their number, as it wraps
 abbrev pub word_of : ℕ → ℕ
 word_of events = (2 * events) % 18446744073709551616
 
--- nobody has the turn, and this heap lies in the slot; or the member of this number has it
+-- nobody has the turn, and this heap lies in the slot; or the member of this number has it, and found this heap there
 pub data Turn : Type 0 where
   free : Ringed → Turn
-  taken : ℕ → Turn
+  taken : ℕ → Course → Turn
+
+-- the heap to which just the log led
+abbrev pub heap_at : Turn → Course
+heap_at (free r) = r.course
+heap_at (taken by found) = found
 
 -- What the table is at a log, by who has the turn. The heap in the slot is one to which just this log led. Nobody else is
 -- inside, and who is has seen the whole log.
@@ -67,7 +74,7 @@ abbrev pub IsTurn : SharedConfig → State Ringed Known → List Deed → Turn �
 IsTurn c s log (free r) = (slice_index s.words TURN_WORD ≡ word_of (length log)) × (s.homes ≡ home.some r ∷ [])
     × (events_of log ≡ r.events) × IsAsAsked c r
     × ((k : ℕ) (v : Known) → get_elem? s.views k ≡ home.some v → v.inside ≡ false)
-IsTurn c s log (taken by) = (slice_index s.words TURN_WORD ≡ word_of (length log) + 1) × (s.homes ≡ home.none ∷ [])
+IsTurn c s log (taken by found) = (slice_index s.words TURN_WORD ≡ word_of (length log) + 1) × (s.homes ≡ home.none ∷ [])
     × ((k : ℕ) (v : Known) → get_elem? s.views k ≡ home.some v → v.inside ≡ true → (k ≡ by) × (v.seen ≡ log))
 
 -- What the member of number k knows, at a log, where each mutator and each number belongs to one member or to none: its
@@ -82,6 +89,10 @@ pub record Knows (c : SharedConfig) (log : List Deed) (owner : Doer → home.Opt
   pub learnt : All (BearsOut log) v.learnt
   pub gone : All (λ a. (x : Doer) → Has a x → owner x ≡ home.none) v.learnt
 
+-- what a member found or put back last is the heap that is there, unless the log went on since
+abbrev pub Remembers : List Deed → Course → Known → Type 0
+Remembers log heap v = (x : Last) → v.last ≡ Some x → (x.length ≤ length log) × (x.length ≡ length log → x.heap ≡ heap)
+
 -- The rule: there is one log, whose commands are of the heap's mutators; one member at most has the turn; and each knows
 -- what is so.
 pub record Keeps (c : SharedConfig) (s : State Ringed Known) : Type 0 where
@@ -91,6 +102,7 @@ pub record Keeps (c : SharedConfig) (s : State Ringed Known) : Type 0 where
   pub has_word : TURN_WORD < length s.words
   pub stands : IsTurn c s log turn
   pub known : (k : ℕ) (v : Known) → get_elem? s.views k ≡ home.some v → Knows c log owner k v
+  pub remembered : (k : ℕ) (v : Known) → get_elem? s.views k ≡ home.some v → Remembers log (heap_at turn) v
   pub below : AreBelow c.config.mutators log
 
 -- what a log tells a member that steps on the word: it bears out each account that the member has, its own too, and has
@@ -100,11 +112,13 @@ pub record Told (log : List Deed) (v : Known) : Type 0 where
   pub learnt : All (BearsOut log) v.learnt
   pub below : (d : SharedConfig) → v.config ≡ Some d → AreBelow d.config.mutators log
 
--- who had seen this has the turn, and the heap to which just that log led of which it is told
+-- Who had seen this has the turn, and the heap to which just that log led of which it is told: the very one that it found or
+-- put back last, if the log is as long as it was then.
 pub record HasTurn (v : Known) (found : ℕ) (m : Me Ringed Known) : Type 0 where
   pub log : List Deed
   pub held : Ringed
-  pub has : m ≡ (record v { seen = log; inside = true }, (0, held) ∷ [])
+  pub has : m ≡ (record v { seen = log; inside = true; last = Some (record { length = length log; heap = held.course }) }, (0, held) ∷ [])
+  pub same : (x : Last) → v.last ≡ Some x → x.length ≡ length log → x.heap ≡ held.course
   pub told : Told log v
   pub events : events_of log ≡ held.events
   pub asked : (d : SharedConfig) → v.config ≡ Some d → IsAsAsked d held
@@ -123,9 +137,14 @@ done_since seen (x ∷ xs) = drop (length seen) x.1.events
 abbrev pub seen_now : Me Ringed Known → List Deed
 seen_now m = m.0.seen ++ signed m.0.number (done_since m.0.seen m.1)
 
+-- the heap that is carried, put back at a log of this length; or what was remembered before
+abbrev pub put_back : ℕ → Option Last → List (ℕ × Ringed) → Option Last
+put_back n was [] = was
+put_back n was (x ∷ xs) = Some (record { length = n; heap = x.1.course })
+
 -- the turn was given back
 abbrev pub Left : Step Ringed → Me Ringed Known → ℕ → Me Ringed Known → Type 0
-Left st m stored n = n ≡ (record m.0 { seen = seen_now m; inside = false }, [])
+Left st m stored n = n ≡ (record m.0 { seen = seen_now m; inside = false; last = put_back (length (seen_now m)) m.0.last m.1 }, [])
 
 -- all of the log was seen, and its length found, as it wraps
 abbrev pub Looked : Step Ringed → Me Ringed Known → ℕ → Me Ringed Known → Type 0

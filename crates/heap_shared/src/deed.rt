@@ -1,5 +1,7 @@
 //! What is done at a shared heap, and by whom, for proofs alone.
 use crate::logged::Logged;
+use crate::past::Past;
+use machine::Heap;
 use std::marker::Model;
 
 /// An event of a heap, as contracts see it. None is ever made: proofs alone speak of it.
@@ -15,6 +17,22 @@ impl Model for Happened {
     ghost Value = { Event };
 
     ghost view = { λ h. event_of h.event };
+}
+
+/// A heap with its history, as contracts see it. None is ever made.
+#[derive(Drop)]
+pub struct Stood {
+    heap: Heap,
+    past: Past,
+}
+
+impl Model for Stood {
+    ghost use Rattle.heap_model.specs.Event.{Course};
+    ghost use Rattle.heap_shared.specs.Past.{course_of};
+
+    ghost Value = { Course };
+
+    ghost view = { λ s. course_of s.heap s.past };
 }
 
 /// An event, and the number of the member that did it. None is ever made.

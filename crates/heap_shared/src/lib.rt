@@ -15,11 +15,11 @@ mod rule;
 mod shared_heap;
 
 pub use crossing::members_cross;
-pub use deed::{Deed, Happened};
+pub use deed::{Deed, Happened, Stood};
 pub use laws::{histories_merge, logs_merge, no_event_is_hidden, nothing_is_done_between};
 pub use logged::Logged;
 pub use member::{Member, NoEntry, NoMember, NoTurn, NotDone};
 pub use past::Past;
 pub use ring::Ring;
-pub use rule::{Account, Known, TurnRule};
+pub use rule::{Account, Known, Last, TurnRule};
 pub use shared_heap::{SharedConfig, SharedHeap};

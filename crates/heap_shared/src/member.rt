@@ -114,6 +114,7 @@ impl Member {
         ensures numbers { IfOk result (λ m. (m.number ≡ 0) × (m.step ≡ 1)) }
         ensures seen { IfOk result (λ m. (m.seen ≡ []) × (m.learnt ≡ [])) }
         ensures turn { IfOk result (λ m. (m.turn ≡ None) × (m.did ≡ [])) }
+        ensures last { IfOk result (λ m. m.last ≡ None) }
     {
         Member::with_ring(
             alloc,
@@ -132,6 +133,7 @@ impl Member {
         ensures numbers { IfOk result (λ m. (m.number ≡ 0) × (m.step ≡ 1)) }
         ensures seen { IfOk result (λ m. (m.seen ≡ []) × (m.learnt ≡ [])) }
         ensures turn { IfOk result (λ m. (m.turn ≡ None) × (m.did ≡ [])) }
+        ensures last { IfOk result (λ m. m.last ≡ None) }
     {
         let heap = SharedHeap::new(alloc, asked)?;
         let mut slots = Vec::with_capacity(alloc, 1)?;

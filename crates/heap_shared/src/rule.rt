@@ -1,5 +1,5 @@
 //! The rule of the word by which members take turns, and what a step on it tells.
-use crate::deed::Deed;
+use crate::deed::{Deed, Stood};
 use crate::shared_heap::{SharedConfig, SharedHeap};
 use atomic_table::{Play, Split, TableRule};
 use std::collections::LinkedList;
@@ -20,8 +20,14 @@ pub struct Account {
     pub seen: LinkedList<Deed>,
 }
 
+/// A heap that a member found or put back, and how long the log was then. No value of it is made.
+pub struct Last {
+    pub length: u64,
+    pub heap: Stood,
+}
+
 /// What a member knows: what was asked of the heap; its account; where its mutators were cut last; the accounts of
-/// those that it has learnt from; and whether it has the turn. No value of it is made.
+/// those that it has learnt from; whether it has the turn; and the heap that it found or put back last. No value of it is made.
 pub struct Known {
     pub config: Option<SharedConfig>,
     pub from: u32,
@@ -32,6 +38,7 @@ pub struct Known {
     pub seen: LinkedList<Deed>,
     pub learnt: LinkedList<Account>,
     pub inside: bool,
+    pub last: Option<Last>,
 }
 
 /// One word counts, and there is one slot. The word is twice the length of the log, as it wraps, and one more while a

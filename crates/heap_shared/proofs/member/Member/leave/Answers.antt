@@ -18,7 +18,7 @@ store-requires c =
     let me = c.self.inside.seat.me in (
       c.self.invariant.0 ∙ sym (ap (λ t. t.shared.table_id) d),
       words,
-      leaves key _ id word me one.held one.carried one.inside one.goes held c.self.invariant.2 one.asked one.number,
+      leaves key _ id word me one.held one.carried one.inside one.goes held c.self.invariant.2 one.asked one.number one.still,
     )
 
 pub returns-clause-leaves : goal.returns-clause-leaves
@@ -30,4 +30,4 @@ returns-clause-leaves c =
     shown_so (λ v w. Leaves v true w) old.table_id new.table_id key old.me new.me _ c.store.ensures.0 c.self.view_is (leaves_so old.table_id key _ _ old.me new.me has c.self.invariant.5 c.store.ensures.2)
 
 pub returns-clause-grows : goal.returns-clause-grows
-returns-clause-grows c = leaves_grow _ true _ (returns-clause-leaves c)
+returns-clause-grows c = leaves_grow c.args.self.now true _ (returns-clause-leaves c)

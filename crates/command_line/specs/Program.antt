@@ -111,7 +111,8 @@ mmu = on_trace (codes "mmu") (numbers (codes "WINDOW") ∷ [])
 -- draws a picture
 abbrev pub draw : Shape
 draw = on_trace (codes "draw")
-    (needed (word (codes "as")) ∷ figure (codes "after") ∷ figure (codes "most") ∷ [])
+    (by_default (codes "page") (word (codes "as")) ∷ figure (codes "after") ∷ figure (codes "most")
+    ∷ long_figure (codes "live") ∷ [])
 
 -- tells how many pages suffice
 abbrev pub pages : Shape
@@ -120,7 +121,7 @@ pages = on_trace (codes "pages") (flag (codes "pace") ∷ flag (codes "plan") �
 -- tells how a heap would pace itself
 abbrev pub plan : Shape
 plan = on_config (codes "plan")
-    (needed (long_figure (codes "live")) ∷ figures (codes "classes") ∷ flag (codes "draw") ∷ [])
+    (needed (long_figure (codes "live")) ∷ figures (codes "classes") ∷ [])
 
 -- the program: it has a version, and wants a subcommand
 abbrev pub metronome : App

@@ -48,11 +48,12 @@ IsSizing pace plan Demand = (pace ≡ false) × (plan ≡ false)
 IsSizing pace plan Pace = (pace ≡ true) × (plan ≡ false)
 IsSizing pace plan By_plan = (pace ≡ false) × (plan ≡ true)
 
--- what is drawn, by the name of its picture
+-- what is drawn, by its name
 abbrev pub IsDrawn : List Row → Job → Type 0
-IsDrawn rows job = (after : Option ℕ) × (most : Option ℕ) × IsNumber 32 (one_of (codes "after") rows) after
-    × IsNumber 32 (one_of (codes "most") rows) most
-    × IsDrawing (unwrap_or (first_of (codes "as") rows) []) after most job
+IsDrawn rows job = (after : Option ℕ) × (most : Option ℕ) × (live : Option ℕ)
+    × IsNumber 32 (one_of (codes "after") rows) after
+    × IsNumber 32 (one_of (codes "most") rows) most × IsNumber 64 (one_of (codes "live") rows) live
+    × IsDrawing (unwrap_or (first_of (codes "as") rows) []) after most live job
 
 -- a subcommand and its arguments ask for a job
 abbrev pub Asks : Text → List Row → Job → Type 0
@@ -73,16 +74,15 @@ Asks name rows (Mmu windows) = (name ≡ codes "mmu")
 Asks name rows (Pages by) = (name ≡ codes "pages")
     × (pace : Bool) × IsFlag (one_of (codes "pace") rows) pace × (plan : Bool) × IsFlag (one_of (codes "plan") rows) plan
     × IsSizing pace plan by
-Asks name rows (Plan live classes draw) = (name ≡ codes "plan") × IsNumberOrZero 64 (one_of (codes "live") rows) live
+Asks name rows (Plan live classes) = (name ≡ codes "plan") × IsNumberOrZero 64 (one_of (codes "live") rows) live
     × AreClassesOf (all_of (codes "classes") rows) (option_map (λ c. c.items) classes)
-    × IsFlag (one_of (codes "draw") rows) draw
 Asks name rows drawing = (name ≡ codes "draw") × IsDrawn rows drawing
 
 -- the argument that has the name of a job's file, if the job has one
 abbrev pub file_argument : Job → Option Text
 file_argument Check = Some (codes "HISTORY")
 file_argument (Threads turns budget) = Some (codes "SCRIPTS")
-file_argument (Plan live classes draw) = None
+file_argument (Plan live classes) = None
 file_argument _ = Some (codes "TRACE")
 
 -- the file that an argument names; none where there is no such argument

@@ -90,12 +90,18 @@ fn mmu<'a>(alloc: Global) -> Result<Command<'a>, AllocError>
 fn draw<'a>(alloc: Global) -> Result<Command<'a>, AllocError>
     ensures { IfOk result (IsSubcommand words.draw) }
 {
-    let help = "The picture: events, graph, pages, time or utilisation";
+    let help = "What to write: page, data, events or graph";
     let most = "Draw at most N objects of a graph, 500 if not said";
-    on_trace(alloc, "draw", "Play a trace and draw a picture")?
-        .arg(needed(word(alloc, "as", "PICTURE", help)))?
-        .arg(after(alloc))?
-        .arg(figure(alloc, "most", "N", most))
+    let live = "Show the plans for N words of the blocks of live objects";
+    on_trace(
+        alloc,
+        "draw",
+        "Play a trace and write a page that shows its run",
+    )?
+    .arg(by_default(word(alloc, "as", "PICTURE", help), "page"))?
+    .arg(after(alloc))?
+    .arg(figure(alloc, "most", "N", most))?
+    .arg(long_figure(alloc, "live", "N", live))
 }
 
 fn pages<'a>(alloc: Global) -> Result<Command<'a>, AllocError>
@@ -116,8 +122,7 @@ fn plan<'a>(alloc: Global) -> Result<Command<'a>, AllocError>
     let sizes = "Words of a block of each size class that is asked for, all if not said";
     on_config(alloc, "plan", "Tell how a heap would pace itself")?
         .arg(needed(long_figure(alloc, "live", "N", help)))?
-        .arg(figures(alloc, "classes", "S", sizes))?
-        .arg(flag(alloc, "draw", "Draw the plans as a picture, in SVG"))
+        .arg(figures(alloc, "classes", "S", sizes))
 }
 
 /// A subcommand that works on a trace.

@@ -1,15 +1,13 @@
 //! What the words of a command line ask for.
 use size_classes::Class;
 
-/// Which picture of a heap is drawn.
+/// How the data of a run are written.
 #[derive(Clone, Copy, Debug, PartialEq, Eq)]
-pub enum Picture {
-    /// The map of its pages.
-    Pages,
-    /// The least utilisation of windows of some lengths.
-    Utilisation,
-    /// The quanta that took ticks, as events.
-    Events,
+pub enum Form {
+    /// As a page that a browser opens.
+    Page,
+    /// Alone, in JSON.
+    Data,
 }
 
 /// How a heap is reported.
@@ -57,9 +55,13 @@ pub enum Job {
     Mmu {
         windows: Vec<u64>,
     },
-    /// Play a trace, or its first event lines, and draw a picture.
-    Draw {
-        picture: Picture,
+    /// Play a trace, and write the data of its run; with the plans for this many words of live blocks, if it is said.
+    DrawRun {
+        form: Form,
+        live: Option<u64>,
+    },
+    /// Play a trace, or its first event lines, and write the quanta that took ticks, as events.
+    DrawEvents {
         after: Option<u32>,
     },
     /// Play a trace, or its first event lines, and draw the objects that can be reached, at most this many.
@@ -67,8 +69,6 @@ pub enum Job {
         after: Option<u32>,
         most: u32,
     },
-    /// Play a trace, and draw its heap over its events.
-    DrawTime,
     /// Play a trace, and tell of each cycle, with `csv` with commas between the figures.
     Cycles {
         csv: bool,
@@ -83,11 +83,10 @@ pub enum Job {
         by: Sizing,
     },
     /// Tell how a heap would pace itself with this many words of live blocks, on some numbers of pages, for a program
-    /// that asks for blocks of these size classes alone, or of all; or draw it. It has no other file.
+    /// that asks for blocks of these size classes alone, or of all. It has no other file.
     Plan {
         live: u64,
         classes: Option<Vec<Class>>,
-        draw: bool,
     },
 }
 

@@ -8,5 +8,5 @@ mod job;
 mod words;
 
 pub use fault::WordsFault;
-pub use job::{Job, Picture, Report, Request, Sizing};
+pub use job::{Form, Job, Report, Request, Sizing};
 pub use words::read_words;

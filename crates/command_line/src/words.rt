@@ -4,13 +4,13 @@ ghost use Rattle.std.specs.List.{All, Any};
 ghost use Rattle.std.specs.Prelude.{[], Some, codes, map, option_map, unwrap_or};
 ghost use Rattle.std.specs.List.{AllZip};
 ghost use Rattle.clap.specs.Words.{found_of, rows_of, first_of, one_of, kind_of};
-ghost use Rattle.command_line.specs.Job.{IsDrawing, IsInRange, IsWindow, picture_name, report_name};
+ghost use Rattle.command_line.specs.Job.{IsDrawing, IsInRange, IsWindow, form_name, report_name};
 ghost use Rattle.command_line.specs.Words.{Asks, AsksFor, file_argument, NamesFile, IsFlag, IsNumber, IsSizing, IsAskedFor, IsAskedForBy, HelpIsAskedFor, IsHelp};
 
 use crate::classes::classes_said;
 use crate::commands::program;
 use crate::fault::{Refusal, WordsFault};
-use crate::job::{Job, Picture, Report, Request, Sizing};
+use crate::job::{Form, Job, Report, Request, Sizing};
 use clap::ArgMatches;
 use clap::error::ErrorKind;
 use size_classes::{LEAST_BUDGET, MOST_BUDGET};
@@ -134,11 +134,7 @@ fn plan(alloc: Global, found: &ArgMatches) -> Result<Job, Refusal>
     let classes = classes_said(alloc, found.get_strs("classes"))?;
     // (clap has refused what is no such number)
     let live = long_number(found, "live").unwrap_or(0);
-    Ok(Job::Plan {
-        live,
-        classes,
-        draw: flag(found, "draw"),
-    })
+    Ok(Job::Plan { live, classes })
 }
 
 /// What a subcommand over a whole trace asks for.
@@ -181,8 +177,10 @@ fn heap_job(alloc: Global, name: &str, found: &ArgMatches) -> Result<Job, Refusa
             after,
         }),
         "draw" => {
-            let picture = word(found, "as").unwrap_or("");
-            drawing(alloc, picture, after, number(found, "most"))
+            // (clap gives `as` its default where it isn't named)
+            let name = word(found, "as").unwrap_or("");
+            let (most, live) = (number(found, "most"), long_number(found, "live"));
+            drawing(alloc, name, after, most, live)
         }
         _ => Err(refused(alloc, "a subcommand is missing")),
     }
@@ -220,28 +218,41 @@ fn report(alloc: Global, name: &str) -> Result<Report, Refusal>
     chosen(alloc, name, &reports, "--by <PART>", expected)
 }
 
-/// What draws the picture of a name. A picture over the events is of all of them, and objects are counted of a graph
-/// alone.
-fn drawing(alloc: Global, name: &str, after: Option<u32>, most: Option<u32>) -> Result<Job, Refusal>
+/// What draws what has a name. A run is drawn whole, plans are of a run alone, and objects are counted of a graph alone.
+fn drawing(
+    alloc: Global,
+    name: &str,
+    after: Option<u32>,
+    most: Option<u32>,
+    live: Option<u64>,
+) -> Result<Job, Refusal>
     ensures range { IfOk result IsInRange }
-    ensures named { IfOk result (IsDrawing name.now after most) }
+    ensures named { IfOk result (IsDrawing name.now after most live) }
 {
     if name == "graph" {
+        without(alloc, live, "--live <N>", name)?;
         let most = most.unwrap_or(500);
         within(alloc, "--most <N>", u64::from(most), 1, 4294967295)?;
         return Ok(Job::DrawGraph { after, most });
     }
-    without(alloc, most, "--most <N>", name)?;
-    if name == "time" {
-        without(alloc, after, "--after <N>", name)?;
-        return Ok(Job::DrawTime);
+    if name == "events" {
+        without(alloc, live, "--live <N>", name)?;
+        without(alloc, most, "--most <N>", name)?;
+        return Ok(Job::DrawEvents { after });
     }
-    let picture = picture(alloc, name)?;
-    Ok(Job::Draw { picture, after })
+    let form = form(alloc, name)?;
+    without(alloc, most, "--most <N>", name)?;
+    without(alloc, after, "--after <N>", name)?;
+    Ok(Job::DrawRun { form, live })
 }
 
-/// Refuses a number that isn't for the picture of a name, as `clap` does.
-fn without(alloc: Global, number: Option<u32>, argument: &str, name: &str) -> Result<(), Refusal>
+/// Refuses a number that isn't for what has a name, as `clap` does.
+fn without<T: Copy>(
+    alloc: Global,
+    number: Option<T>,
+    argument: &str,
+    name: &str,
+) -> Result<(), Refusal>
     ensures { OnOk result (number ≡ None) }
 {
     if number.is_none() {
@@ -263,17 +274,13 @@ fn sizing(alloc: Global, pace: bool, plan: bool) -> Result<Sizing, Refusal>
     }
 }
 
-/// The picture of a heap of a name.
-fn picture(alloc: Global, name: &str) -> Result<Picture, Refusal>
-    ensures { IfOk result (λ picture. name.now ≡ picture_name picture) }
+/// The form of a run's data of a name.
+fn form(alloc: Global, name: &str) -> Result<Form, Refusal>
+    ensures { IfOk result (λ form. name.now ≡ form_name form) }
 {
-    let pictures = [
-        ("pages", Picture::Pages),
-        ("utilisation", Picture::Utilisation),
-        ("events", Picture::Events),
-    ];
-    let expected = "none of events, graph, pages, time and utilisation";
-    chosen(alloc, name, &pictures, "--as <PICTURE>", expected)
+    let forms = [("page", Form::Page), ("data", Form::Data)];
+    let expected = "none of data, events, graph and page";
+    chosen(alloc, name, &forms, "--as <PICTURE>", expected)
 }
 
 /// The ticks of each window: there is at least one.

@@ -10,4 +10,4 @@ mod turn;
 
 pub use cycle::{Cycle, Cycles, Sweep};
 pub use log::Log;
-pub use text::{Layout, cycles_text};
+pub use text::{Layout, cycles_text, figures};

@@ -12,7 +12,7 @@ mod reporting;
 mod shapes;
 
 pub use by_size::report_sizes;
-pub use cycles::{Cycle, Cycles, Layout, Log, Sweep, cycles_text};
+pub use cycles::{Cycle, Cycles, Layout, Log, Sweep, cycles_text, figures};
 pub use fault::WriteFault;
 pub use reporting::report;
-pub use shapes::shapes_text;
+pub use shapes::{Cells, Counted, Held, count, shapes_text};

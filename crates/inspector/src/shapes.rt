@@ -3,4 +3,6 @@ mod counting;
 mod held;
 mod text;
 
+pub use counting::{Counted, count};
+pub use held::{Cells, Held};
 pub use text::shapes_text;

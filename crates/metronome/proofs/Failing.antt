@@ -18,6 +18,7 @@ use Rattle.trace.specs.declared.player.style.Style.TheVariants.{Nothing}
 use Rattle.trace.specs.Playing.{Session, session, StopsText, Played}
 use Rattle.trace.specs.Surveying.{NewRun, Surveyed}
 use Rattle.trace.proofs.Lines.{nothing_fails}
+use Rattle.pictures.specs.Data.{TellsData}
 use Rattle.pictures.specs.GraphDrawn.{GraphDrawn}
 use Rattle.inspector.specs.Taking.{TellsCycles}
 use Rattle.plans.specs.Live.{TellsMostLive}
@@ -146,4 +147,5 @@ pub answer_unwritten : (question : Question) (config : Settings) (given : Given)
 answer_unwritten questions.History config given answered w = of_answer _ w.0 answered w.2 (entries_unwritten config given w.0 w.1)
 answer_unwritten (questions.Cycles layout) config given answered w = of_answer _ w.0 answered w.2 (surveyed_unwritten TellsCycles config given w.0 w.1)
 answer_unwritten questions.Plan config given answered w = of_answer _ w.0 answered w.2 (surveyed_unwritten TellsMostLive config given w.0 w.1)
+answer_unwritten (questions.Run form live) config given answered w = of_answer _ w.0 answered w.2 (surveyed_unwritten TellsData config given w.0 w.1)
 answer_unwritten questions.Pace config given answered w = of_answer _ w.0 answered w.2 (surveyed_unwritten RunMeasured config given w.0 w.1)

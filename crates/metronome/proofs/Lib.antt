@@ -3,7 +3,6 @@ pub mod Writing
 pub mod Reading
 pub mod Telling
 mod MadeText
-pub mod Sharing
 pub mod Failing
 pub mod Below
 pub mod Alive

@@ -1,5 +1,5 @@
 -- What is answered about an input.
-use Rattle.std.specs.Prelude.{◌≡◌, ℕ, ◌⊎◌, List, [], ◌∷◌, ◌++◌, codes, decimal}
+use Rattle.std.specs.Prelude.{◌≡◌, ℕ, ◌⊎◌, List, [], ◌∷◌, ◌++◌, Option, codes, decimal}
 use Rattle.std.specs.Prelude.{Result, Ok, Err, String, string_bytes}
 use Rattle.std.specs.declared.alloc.AllocError.{AllocError}
 use Rattle.std.specs.declared.alloc.Global.{Global}
@@ -22,6 +22,11 @@ use Rattle.sizing.specs.Measured.{least_units, HasUnits}
 use Rattle.sizing.specs.Measuring.{TraceMeasured}
 use Rattle.plans.specs.declared.live.MostLive.{MostLive}
 use Rattle.plans.specs.Live.{MostLiveFound, IsRunPlans}
+use Rattle.plans.specs.Bars.{PlansTable}
+use Rattle.pictures.specs.Data.{DataTold}
+use Rattle.command_line.specs.declared.job.Form.{Form}
+use Rattle.command_line.specs.declared.job.Form.TheVariants as forms
+use Rattle.viewer.specs.declared.page.TheConstants.{HEAD, FOOT}
 use Rattle.metronome.specs.declared.answer_job.Answer.{Answer}
 use Rattle.metronome.specs.declared.answer_job.Question.{Question}
 use Rattle.metronome.specs.declared.answer_job.Question.TheVariants as questions
@@ -87,12 +92,33 @@ abbrev pub PlanTold : Config → Given → Result Answer PlayFault → Type 0
 PlanTold config given answered = (how : Result MostLive PlayFault) × MostLiveFound config given how
     × AnswerOf (λ live answer. IsRunPlans config live (string_bytes answer.text) × (answer.ending ≡ Done)) how answered
 
+-- the data of a run, with a text behind them
+abbrev pub data_before : List ℕ → List ℕ → List ℕ → List ℕ
+data_before behind plans run =
+    codes "{\n" ++ (plans ++ (run ++ (codes "\"format\":\"metronome heap\",\"version\":1}\n" ++ behind)))
+
+-- the data of a run in a form: alone, or in the page that shows them
+abbrev pub in_form : Form → List ℕ → List ℕ → List ℕ
+in_form forms.Data plans run = data_before [] plans run
+in_form forms.Page plans run = HEAD.now ++ data_before FOOT.now plans run
+
+-- the data of a run in a form, with the plans for this many live words
+abbrev pub IsRunText : Form → Option ℕ → Config → List ℕ → List ℕ → Type 0
+IsRunText form live config run text = (plans : List ℕ) × PlansTable config live plans × (text ≡ in_form form plans run)
+
+-- A trace was played on a new heap, and the data of the run are told in a form.
+abbrev pub RunTold : Form → Option ℕ → Config → Given → Result Answer PlayFault → Type 0
+RunTold form live config given answered = (how : Result (String Global) PlayFault) × DataTold config given how
+    × AnswerOf (λ run answer. IsRunText form live config (string_bytes run) (string_bytes answer.text)
+    × (answer.ending ≡ Done)) how answered
+
 -- the answer to a question about an input
 abbrev pub IsAnswer : Question → Config → Given → Result Answer PlayFault → Type 0
 IsAnswer questions.History config given answered = HistoryChecked config given answered
 IsAnswer (questions.Cycles layout) config given answered = CyclesTold layout config given answered
 IsAnswer questions.Pace config given answered = PaceTold config given answered
 IsAnswer questions.Plan config given answered = PlanTold config given answered
+IsAnswer (questions.Run form live) config given answered = RunTold form live config given answered
 
 -- an answer is written
 abbrev pub AnswerWritten : Answer → Taken → Result Ending RunFault → Type 0

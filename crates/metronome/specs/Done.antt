@@ -5,22 +5,23 @@ use Rattle.heap_model.specs.Event.{present_of}
 use Rattle.trace.specs.Streams.{Given, Taken}
 use Rattle.command_line.specs.declared.job.Job.{Job}
 use Rattle.command_line.specs.declared.job.Sizing.TheVariants.{Demand, Pace, Plan as By_plan}
-use Rattle.command_line.specs.declared.job.Job.TheVariants.{Play, Check, Threads, Inspect, Cycles, Path, Mmu, Draw, DrawGraph, DrawTime, Pages, Plan}
+use Rattle.command_line.specs.declared.job.Job.TheVariants.{Play, Check, Threads, Inspect, Cycles, Path, Mmu, DrawRun, DrawEvents, DrawGraph, Pages, Plan}
 use Rattle.trace.specs.declared.player.style.Style.{Style}
 use Rattle.trace.specs.declared.player.style.Style.TheVariants.{Replies, Entries}
 use Rattle.metronome.specs.declared.fault.Ending.{Ending}
+use Rattle.metronome.specs.declared.fault.Ending.TheVariants.{Done}
 use Rattle.metronome.specs.declared.fault.RunFault.{RunFault}
 use Rattle.metronome.specs.declared.answer_job.Question.TheVariants as questions
 use Rattle.metronome.specs.Jobs.{TracePlayed, ScriptsRun}
 use Rattle.inspector.specs.declared.cycles.text.Layout.{Layout}
 use Rattle.inspector.specs.declared.cycles.text.Layout.TheVariants.{Columns, Commas}
 use Rattle.metronome.specs.Answered.{Answered}
-use Rattle.metronome.specs.OverTime.{TimeDrawn}
-use Rattle.metronome.specs.Plans.{TellsPlans}
-use Rattle.metronome.specs.Told.{ReportTold}
+use Rattle.plans.specs.Report.{IsPlansReport}
+use Rattle.pictures.specs.Events.{events_picture}
+use Rattle.metronome.specs.Told.{ReportTold, TextWritten}
 use Rattle.metronome.specs.Demand.{DemandTold}
 use Rattle.metronome.specs.After.{AfterPlay}
-use Rattle.metronome.specs.Telling.{HeapReported, PictureDrawn, GraphTold, TellsWhy, WindowsTold}
+use Rattle.metronome.specs.Telling.{HeapReported, GraphTold, TellsWhy, WindowsTold}
 
 -- what is written of each command
 abbrev pub style_of : Bool → Style
@@ -41,11 +42,11 @@ JobDone (Cycles csv) config = Answered (questions.Cycles (layout_of csv)) config
 JobDone (Path id after) config =
     AfterPlay (λ p. ReportTold (TellsWhy id p.course.heap (present_of p.course))) after config
 JobDone (Mmu windows) config = AfterPlay (λ p. WindowsTold config p.timetable windows.items) None config
-JobDone (Draw picture after) config = AfterPlay (PictureDrawn picture config) after config
+JobDone (DrawRun form live) config = Answered (questions.Run form live) config
+JobDone (DrawEvents after) config = AfterPlay (λ p. TextWritten Done (events_picture p)) after config
 JobDone (DrawGraph after most) config = AfterPlay (λ p. GraphTold most (present_of p.course)) after config
-JobDone DrawTime config = TimeDrawn config
 JobDone (Pages Demand) config = DemandTold config
 JobDone (Pages Pace) config = Answered questions.Pace config
 JobDone (Pages By_plan) config = Answered questions.Plan config
-JobDone (Plan live classes draw) config =
-    λ given. ReportTold (TellsPlans draw (option_map (λ said. said.items) classes) config live)
+JobDone (Plan live classes) config =
+    λ given. ReportTold (IsPlansReport (option_map (λ said. said.items) classes) config live)

@@ -6,8 +6,6 @@ pub mod Windows
 pub mod Told
 pub mod After
 pub mod Telling
-pub mod OverTime
-pub mod Plans
 pub mod Progress
 pub mod Answered
 pub mod Texts

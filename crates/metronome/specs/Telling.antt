@@ -13,15 +13,10 @@ use Rattle.pictures.specs.PathText.{PathTold}
 use Rattle.inspector.specs.Filling.{sizes_told}
 use Rattle.inspector.specs.Report.{report_of}
 use Rattle.inspector.specs.Shapes.{ShapesTold}
-use Rattle.command_line.specs.declared.job.Picture.{Picture}
-use Rattle.command_line.specs.declared.job.Picture.TheVariants as pictures
 use Rattle.command_line.specs.declared.job.Report.{Report}
 use Rattle.command_line.specs.declared.job.Report.TheVariants as reports
-use Rattle.pictures.specs.declared.share.Share.{Share}
 use Rattle.pictures.specs.Events.{events_picture}
 use Rattle.pictures.specs.GraphDrawn.{GraphDrawn}
-use Rattle.pictures.specs.PageMap.{pages_picture}
-use Rattle.pictures.specs.Utilisation.{AreShares, utilisation_picture}
 use Rattle.metronome.specs.declared.after.Telling.{Telling}
 use Rattle.metronome.specs.declared.after.Telling.TheVariants as tellings
 use Rattle.metronome.specs.declared.fault.Ending.{Ending}
@@ -36,19 +31,6 @@ abbrev pub HeapReported : Report → HeapState → Taken → Result Ending RunFa
 HeapReported reports.Pages h taken result = TextWritten Done (report_of h) taken result
 HeapReported reports.Sizes h taken result = TextWritten Done (sizes_told h) taken result
 HeapReported reports.Shapes h taken result = ReportTold (ShapesTold h) taken result
-
--- the text of a picture of a player: of the pages of its heap, of the shares that its timetable left the mutators, or of
--- its quanta that took ticks, with their cycles and phases
-abbrev pub IsPicture : Picture → Config → PlayerState → List ℕ → Type 0
-IsPicture pictures.Pages config p text = text ≡ pages_picture p.course.heap
-IsPicture pictures.Utilisation config p text = (shares : List Share) × AreShares config p.timetable shares
-    × (text ≡ utilisation_picture shares)
-IsPicture pictures.Events config p text = text ≡ events_picture p
-
--- a picture of a player is drawn, or a part of it where a write failed
-abbrev pub PictureDrawn : Picture → Config → PlayerState → Taken → Result Ending RunFault → Type 0
-PictureDrawn picture config p taken result = (text : List ℕ) × IsPicture picture config p text
-    × TextWritten Done text taken result
 
 -- a job that is done where its drawing is
 abbrev pub drawn_as : Result (Unit {0}) PlayFault → Result Ending RunFault
@@ -72,7 +54,7 @@ WindowsTold config t windows taken (Err fault) = FirstTold config t windows faul
 -- what is reported, by its kind
 abbrev pub Tells : Telling → Config → PlayerState → Taken → Result Ending RunFault → Type 0
 Tells (tellings.Report by) config p taken result = HeapReported by p.course.heap taken result
-Tells (tellings.Picture picture) config p taken result = PictureDrawn picture config p taken result
+Tells tellings.Events config p taken result = TextWritten Done (events_picture p) taken result
 Tells (tellings.Graph most) config p taken result = GraphTold most (present_of p.course) taken result
 Tells (tellings.Path id) config p taken result =
     ReportTold (TellsWhy id p.course.heap (present_of p.course)) taken result

@@ -7,18 +7,18 @@ ghost use Rattle.metronome.specs.Faults.{failed_reads, failed_writes};
 ghost use Rattle.metronome.specs.After.{PlayerAfter, AfterPlay};
 ghost use Rattle.metronome.specs.Telling.{Tells};
 
+mod events;
 mod graph;
 mod path;
-mod picture;
 mod report;
 mod windows;
 
 use crate::fault::{Ending, RunFault};
-use command_line::{Picture, Report};
+use command_line::Report;
+use events::tell_events;
 use graph::tell_graph;
 use graph_heap::{NoMemory, Reference};
 use path::tell_path;
-use picture::tell_picture;
 use pictures::present;
 use report::tell_report;
 use size_classes::Config;
@@ -31,8 +31,8 @@ use windows::tell_windows;
 pub enum Telling<'a> {
     /// A report of the heap.
     Report(Report),
-    /// A picture of the player.
-    Picture(Picture),
+    /// The quanta that took ticks, as events.
+    Events,
     /// A picture of the objects that can be reached, at most this many, nearest to the roots first.
     Graph(u32),
     /// A shortest path from a root to an object; or that none leads to it, and whether blocks of it are still
@@ -85,7 +85,7 @@ fn tell<K: Sink>(
 {
     match telling {
         Telling::Report(by) => tell_report(alloc, player, by, sink),
-        Telling::Picture(picture) => tell_picture(config, player, picture, sink),
+        Telling::Events => tell_events(player, sink),
         Telling::Graph(most) => {
             let graph = graph_after(alloc, config, player)?;
             tell_graph(alloc, &graph, most, sink)

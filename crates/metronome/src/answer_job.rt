@@ -4,18 +4,21 @@ ghost use Rattle.trace.specs.LinesProcessed.{reads_failed};
 ghost use Rattle.trace.specs.Streams.{given_by, taken_by, Stays};
 ghost use Rattle.metronome.specs.Faults.{failed_reads, failed_writes};
 ghost use Rattle.metronome.specs.Told.{TextWritten};
-ghost use Rattle.metronome.specs.Answered.{EntriesTaken, verdict, told_of, TellsPace, Offers, IsAnswer, Answered};
+ghost use Rattle.metronome.specs.Answered.{EntriesTaken, verdict, told_of, TellsPace, Offers, in_form, IsRunText, IsAnswer, Answered};
 
 use crate::fault::{Ending, RunFault};
+use command_line::Form;
 use graph_heap::Reference;
 use inspector::pages_needed::pace_report;
 use inspector::{Layout, Log, cycles_text};
-use plans::{LiveMeter, run_plans};
+use pictures::run_data;
+use plans::{LiveMeter, plans_data, run_plans};
 use size_classes::Config;
 use sizing::{Measured, Meter};
 use std::alloc::{AllocError, Global};
 use trace::transcripts::{Checked, check_entries};
 use trace::{PlayFault, Sink, Source, survey_run, write_all};
+use viewer::{FOOT, HEAD};
 
 /// What is asked about an input.
 #[derive(Clone, Copy)]
@@ -29,6 +32,8 @@ pub enum Question {
     Pace,
     /// By which plans a heap paces itself, for the most words of blocks that live objects have in the run of a trace.
     Plan,
+    /// What the run of a trace was like, in this form, with the plans for this many live words.
+    Run(Form, Option<u64>),
 }
 
 /// A text that is written, and how the run then ends.
@@ -76,6 +81,31 @@ fn pace_text(alloc: Global, config: &Config, measured: &Measured) -> Result<Stri
     pace_report(alloc, &slow, &measured.pace)
 }
 
+/// The data of a run in a form: alone, or in the page that shows them.
+fn in_form(alloc: Global, form: Form, plans: &str, run: &str) -> Result<String, AllocError>
+    ensures { IfOk result (λ text. string_bytes text ≡ in_form form plans.now run.now) }
+{
+    let end = "\"format\":\"metronome heap\",\"version\":1}\n";
+    match form {
+        Form::Page => [HEAD, "{\n", plans, run, end, FOOT].concat(alloc),
+        Form::Data => ["{\n", plans, run, end].concat(alloc),
+    }
+}
+
+/// The data of a run in a form, with the plans for this many live words.
+fn run_text(
+    alloc: Global,
+    config: &Config,
+    run: &str,
+    form: Form,
+    live: Option<u64>,
+) -> Result<String, AllocError>
+    ensures { IfOk result (λ text. IsRunText form live config.now run.now (string_bytes text)) }
+{
+    let plans = plans_data(alloc, config, live)?;
+    in_form(alloc, form, plans.as_str(), run)
+}
+
 /// The answer with a text, if there was memory for it.
 fn offer(text: Result<String, AllocError>, ending: Ending) -> Result<Answer, PlayFault>
     ensures { Offers text ending result }
@@ -116,6 +146,13 @@ fn answer_to<S: Source>(
         Question::Plan => {
             let live = survey_run::<LiveMeter, S>(alloc, config, source)?;
             offer(run_plans(alloc, config, &live), Ending::Done)
+        }
+        Question::Run(form, live) => {
+            let run = run_data(alloc, config, source)?;
+            offer(
+                run_text(alloc, config, run.as_str(), form, live),
+                Ending::Done,
+            )
         }
     }
 }

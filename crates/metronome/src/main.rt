@@ -13,7 +13,6 @@ mod plan_job;
 mod progress;
 mod room;
 mod run;
-mod time_job;
 mod told;
 
 use fault::RunFault;

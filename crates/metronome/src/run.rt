@@ -19,7 +19,6 @@ use crate::files::{Opener, open_file, read_document};
 use crate::jobs::{play_job, threads_job};
 use crate::plan_job::plan_job;
 use crate::progress::ToldSource;
-use crate::time_job::time_job;
 use command_line::{Job, Request, Sizing, WordsFault, read_words};
 use documents::read_config;
 use inspector::Layout;
@@ -218,20 +217,18 @@ fn work<S: Source, K: Sink, O: Opener, T: Threads + Wait + Sync>(
             let telling = Telling::Windows(windows.as_slice());
             after_play(alloc, config, source, sink, None, telling)
         }
-        Job::Draw { picture, after } => {
-            let telling = Telling::Picture(*picture);
-            after_play(alloc, config, source, sink, *after, telling)
+        Job::DrawRun { form, live } => {
+            let question = Question::Run(*form, *live);
+            answer_job(alloc, config, source, sink, question)
+        }
+        Job::DrawEvents { after } => {
+            after_play(alloc, config, source, sink, *after, Telling::Events)
         }
         Job::DrawGraph { after, most } => {
             after_play(alloc, config, source, sink, *after, Telling::Graph(*most))
         }
-        Job::DrawTime => time_job(alloc, config, source, sink),
         Job::Pages { by } => pages_job(alloc, config, source, sink, *by),
-        Job::Plan {
-            live,
-            classes,
-            draw,
-        } => plan_job(alloc, config, *live, classes, *draw, sink),
+        Job::Plan { live, classes } => plan_job(alloc, config, *live, classes, sink),
     }
 }
 

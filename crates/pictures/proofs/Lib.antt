@@ -1,9 +1,11 @@
 pub mod Parts
 pub mod Lines
 pub mod EventLines
-pub mod SquareLemmas
 pub mod Shares
-pub mod Bars
-pub mod Samples
-pub mod Shown
+pub mod Allocating
+pub mod Along
+pub mod Pairs
+pub mod PageRows
+pub mod Texts
 pub mod CycleSpans
+pub mod Noting

@@ -3,7 +3,6 @@ use Rattle.std.proofs.Common.{◌≡◌, ℕ, ◌+◌, ◌<◌, List, [], ◌∷
 use Rattle.std.proofs.lemmas.Grind.{flat_map-append}
 use Rattle.std.proofs.lemmas.List.{drop_more, map-append}
 use Rattle.trace.specs.Lines.{text_of}
-use Rattle.pictures.specs.Elements.{element_line, svg_text}
 use Rattle.pictures.specs.Lines.{each_from, lines_text, present}
 use Rattle.pictures.specs.Statements.{statement_line, dot_text}
 use Rattle.pictures.proofs.Parts.{IsText}
@@ -14,9 +13,6 @@ lines_are line = record {
   both = λ a b. ap text_of (map-append line a b) ∙ flat_map-append (λ bytes. bytes ++ 10 ∷ []) (map line a) (map line b);
   empty = refl;
 }
-
-pub svg_is : IsText svg_text
-svg_is = lines_are element_line
 
 pub dot_is : IsText dot_text
 dot_is = lines_are statement_line

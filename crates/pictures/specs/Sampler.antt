@@ -1,11 +1,10 @@
 -- What a sampler holds along a run.
-use Rattle.std.specs.Prelude.{◌≡◌, ℕ, ◌+◌, ◌*◌, ◌/◌, ◌^◌, ◌<◌, ◌≤◌, List, ◌∷◌, ◌++◌, length, get_or}
+use Rattle.std.specs.Prelude.{◌≡◌, ℕ, ◌+◌, ◌*◌, ◌/◌, ◌^◌, ◌<◌, ◌≤◌, List, ◌++◌, length, get_or}
 use Rattle.pictures.specs.declared.sample.Sample.{Sample}
-use Rattle.pictures.specs.declared.over_time.TheConstants.{MOST_SAMPLES}
-use Rattle.pictures.specs.declared.timeline.sampler.Sampler.{Sampler}
-use Rattle.trace.specs.Observing.{Moment, moment, Run}
-use Rattle.pictures.specs.Joining.{joined}
-use Rattle.pictures.specs.Samples.{IsSampleOf, AreSamples}
+use Rattle.pictures.specs.declared.sample.TheConstants.{MOST_SAMPLES}
+use Rattle.pictures.specs.declared.sampler.Sampler.{Sampler}
+use Rattle.trace.specs.Observing.{Moment}
+use Rattle.pictures.specs.Samples.{joined, IsSampleOf, AreSamples}
 
 -- each sample is of the moments of two
 pub record ArePairs (old new : List Sample) : Type 0 where
@@ -32,7 +31,3 @@ pub record AreTaken (moments : List Moment) (samples : List Sample) (last : Samp
 -- a sampler along these moments
 abbrev pub IsAlong : List Moment → Sampler → Type 0
 IsAlong moments s = AreTaken moments s.samples.items.items s.last s.samples.stride s.since
-
--- a sampler that has seen a run: it is along the moment before the first line and those after lines of events
-abbrev pub HasSampled : Run → Sampler → Type 0
-HasSampled run = IsAlong (moment 0 run.first.heap ∷ run.moments)

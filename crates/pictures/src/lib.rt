@@ -1,36 +1,29 @@
-//! Pictures of a heap, as SVG documents in text.
+//! A run as data: what a page in a browser shows of it, as JSON; its events; the objects that can be reached, as a graph.
 #![tactic(auto)]
 
-mod axis;
-mod caption;
-mod colour;
+mod allocated;
 mod cycle_spans;
-mod each_page;
-mod element;
+mod data;
 mod events;
-mod frame;
 pub mod graph;
+mod json;
 pub mod laws;
-mod layers;
 mod measuring;
-mod over_time;
-mod page_map;
-mod plan_bars;
+mod quantum_log;
 mod reachability;
+mod refusals;
+mod run_log;
 mod sample;
+mod sampler;
 mod share;
-mod squares;
-pub mod timeline;
-mod utilisation;
+mod tables;
 mod writing;
 
+pub use data::run_data;
 pub use events::draw_events;
-pub use over_time::{MOST_SAMPLES, Scale, draw_time};
-pub use page_map::draw_pages;
-pub use plan_bars::{PlanBar, PlanFigures, draw_bars};
+pub use json::{JsonRow, row, table};
 pub use reachability::{
     Found, Holder, Route, Search, Standing, Step, path_text, present, search, shortest_path,
 };
-pub use sample::{Phases, Sample};
+pub use sample::{MOST_SAMPLES, Phases, Sample};
 pub use share::{Share, WINDOWS};
-pub use utilisation::draw_utilisation;

@@ -1,12 +1,12 @@
 //! The shares that the mutators had, and those that the schedule promises.
-ghost use Rattle.std.specs.Prelude.{◌≡◌, ◌<◌, ◌≤◌, ◌↔◌, ◌⊎◌, IsNone, IfSome, take, slice_index};
-ghost use Rattle.std.specs.List.{AllZip};
-ghost use Rattle.pictures.specs.Utilisation.{span_of, IsShare};
+ghost use Rattle.std.specs.Prelude.{◌≡◌, ◌<◌, ◌↔◌, ◌⊎◌, IsNone, IfOk, IfSome};
+ghost use Rattle.pictures.specs.Utilisation.{span_of, IsShare, AreShares};
 
 use crate::share::{Share, WINDOWS};
 use mmu_report::{bound, least_mutator, permille};
 use quanta::Schedule;
 use size_classes::Config;
+use std::alloc::{AllocError, Global};
 
 /// The shares of a window, or None where it is longer than the time that has passed, or has no tick.
 fn share_of(config: &Config, schedule: &Schedule, window: u64) -> Option<Share>
@@ -22,18 +22,20 @@ fn share_of(config: &Config, schedule: &Schedule, window: u64) -> Option<Share>
     })
 }
 
-/// Puts the shares of the windows that aren't longer than the time that has passed at the front of an
-/// array, the shortest window first, and answers how many there are.
-pub(crate) fn put_shares(config: &Config, schedule: &Schedule, shares: &mut [Share; 39]) -> usize
-    ensures within { result ≤ 39 }
-    ensures each { AllZip (IsShare config.now schedule.now) (take result WINDOWS) (take result shares.new) }
-    ensures next { result < 39 → span_of schedule.now < slice_index WINDOWS result }
+/// The shares of the windows that aren't longer than the time that has passed, the shortest window first.
+pub(crate) fn shares(
+    alloc: Global,
+    config: &Config,
+    schedule: &Schedule,
+) -> Result<Vec<Share>, AllocError>
+    ensures { IfOk result (λ shares. AreShares config.now schedule.now shares.items) }
 {
-    for (place, window) in WINDOWS.iter().enumerate() {
-        let Some(share) = share_of(config, schedule, *window) else {
-            return place;
+    let mut shares = Vec::new(alloc);
+    for window in WINDOWS {
+        let Some(share) = share_of(config, schedule, window) else {
+            return Ok(shares);
         };
-        shares[place] = share;
+        shares.push(share)?;
     }
-    WINDOWS.len()
+    Ok(shares)
 }

@@ -1,10 +1,14 @@
 //! What a heap is like at moments of a run.
-ghost use Rattle.std.specs.Prelude.{◌≡◌};
-ghost use Rattle.pictures.specs.Joining as joining;
-ghost use Rattle.pictures.specs.OverTime.{sample_of};
+ghost use Rattle.std.specs.Prelude.{◌≡◌, ℕ};
+ghost use Rattle.pictures.specs.Samples as samples;
+ghost use Rattle.pictures.specs.Samples.{sample_of, pages_used};
 
+use crate::allocated::blocks_of;
 use heap_model::phase::Phase;
 use machine::Heap;
+
+/// How many samples a run has at most.
+pub const MOST_SAMPLES: usize = 4096;
 
 /// Which phases of a cycle there are.
 #[derive(Clone, Copy, Debug, PartialEq, Eq)]
@@ -17,8 +21,8 @@ pub struct Phases {
 
 impl Phases {
     /// A phase alone; none is of a cycle where no cycle is running.
-    fn of(phase: Phase) -> Phases
-        ensures { result ≡ joining.phases_of phase }
+    pub(crate) fn of(phase: Phase) -> Phases
+        ensures { result ≡ samples.phases_of phase }
     {
         Phases {
             roots: matches!(phase, Phase::Roots { .. }),
@@ -30,7 +34,7 @@ impl Phases {
 
     /// The phases that are among these or those.
     pub(crate) fn with(self, those: Phases) -> Phases
-        ensures { result ≡ joining.all_phases self those }
+        ensures { result ≡ samples.all_phases self those }
     {
         Phases {
             roots: self.roots | those.roots,
@@ -38,6 +42,16 @@ impl Phases {
             sweeping: self.sweeping | those.sweeping,
             moving: self.moving | those.moving,
         }
+    }
+
+    /// Their number: 1 for the roots, 2 for marking, 4 for sweeping and 8 for moving, added up.
+    pub(crate) fn number(self) -> u64
+        ensures { result ≡ samples.phases_number self }
+    {
+        u64::from(self.roots)
+            + 2 * u64::from(self.marking)
+            + 4 * u64::from(self.sweeping)
+            + 8 * u64::from(self.moving)
     }
 }
 
@@ -52,41 +66,58 @@ pub struct Sample {
     pub least_pages: u64,
     /// The most pages in use.
     pub most_pages: u64,
-    /// How many objects there are, when they were counted first.
-    pub objects: Option<u64>,
+    /// The blocks that were allocated at the first moment, old copies too.
+    pub blocks: u64,
+    /// The words of these blocks.
+    pub words: u64,
+}
+
+/// How many pages are in use.
+fn pages_used(heap: &Heap) -> u64
+    ensures { result ≡ pages_used heap.now }
+{
+    heap.pages().saturating_sub(heap.free_pages()) as u64
 }
 
 impl Sample {
-    /// What a heap is like now, after this many lines. Its objects are counted where `counted` says so, which takes
-    /// time that is linear in the words of the arena.
-    pub fn from_heap(heap: &Heap, line: u64, counted: bool) -> Sample
-        ensures { result ≡ sample_of heap.now line counted }
+    /// What a heap is like now, after this many lines. It takes time that is linear in the pages.
+    pub fn from_heap(heap: &Heap, line: u64) -> Sample
+        ensures { result ≡ sample_of heap.now line }
     {
-        let objects = if counted {
-            Some(heap.copies().objects as u64)
-        } else {
-            None
-        };
-        let pages = heap.pages().saturating_sub(heap.free_pages()) as u64;
+        let pages = pages_used(heap);
+        let allocated = blocks_of(heap);
         Sample {
             line,
             phases: Phases::of(heap.phase()),
             least_pages: pages,
             most_pages: pages,
-            objects,
+            blocks: allocated.blocks,
+            words: allocated.words,
         }
     }
 
     /// One sample of these moments and of those of a later one.
     pub(crate) fn with(self, later: Sample) -> Sample
-        ensures { result ≡ joining.joined self later }
+        ensures { result ≡ samples.joined self later }
     {
         Sample {
-            line: self.line,
             phases: self.phases.with(later.phases),
             least_pages: self.least_pages.min(later.least_pages),
             most_pages: self.most_pages.max(later.most_pages),
-            objects: self.objects.or(later.objects),
+            ..self
+        }
+    }
+
+    /// One sample of these moments and of the present one of a heap.
+    pub(crate) fn with_now(self, heap: &Heap) -> Sample
+        ensures { (line : ℕ) → result ≡ samples.joined self (sample_of heap.now line) }
+    {
+        let pages = pages_used(heap);
+        Sample {
+            phases: self.phases.with(Phases::of(heap.phase())),
+            least_pages: self.least_pages.min(pages),
+            most_pages: self.most_pages.max(pages),
+            ..self
         }
     }
 }

@@ -1,11 +1,12 @@
--- The plans as bars of a picture.
-use Rattle.std.specs.Prelude.{◌≡◌, ℕ, ◌*◌, List, Bool, Option, Some, None}
+-- The plans as a table of a run's data.
+use Rattle.std.specs.Prelude.{◌≡◌, ℕ, ◌*◌, List, [], ◌∷◌, ◌++◌, Bool, Option, Some, None, codes, decimal}
 use Rattle.size_classes.specs.declared.config.Config.{Config}
 use Rattle.paced.specs.declared.plan.Plan.{Plan}
 use Rattle.paced.specs.Planning.{IsLeastPagesFor}
 use Rattle.paced.specs.Rooms.{made_of}
-use Rattle.pictures.specs.declared.plan_bars.PlanBar.{PlanBar}
-use Rattle.pictures.specs.declared.plan_bars.PlanFigures.{PlanFigures}
+use Rattle.pictures.specs.Json.{row_text, table_text}
+use Rattle.plans.specs.declared.bars.PlanBar.{PlanBar}
+use Rattle.plans.specs.declared.bars.PlanFigures.{PlanFigures}
 use Rattle.plans.specs.Order.{OneForEach}
 use Rattle.plans.specs.Report.{tenths_of, numbers_told, FastestOn}
 
@@ -32,3 +33,22 @@ pub record ArePlanBars (classes : Option (List ℕ)) (c : Config) (live : ℕ) (
   pub least : Option ℕ
   pub is_least : IsLeastPagesFor (made_of classes) c live least
   pub each : AreBars (made_of classes) c live (numbers_told c least) bars
+
+-- the figures of a plan behind the number of pages, or that there is none
+abbrev pub figures_row : ℕ → Option PlanFigures → List ℕ
+figures_row pages None = row_text pages (None ∷ None ∷ [])
+figures_row pages (Some plan) = row_text pages (Some plan.words ∷ Some plan.tenths ∷ [])
+
+-- the row of a number of pages: the words for a quantum and the tenths of a unit for each word, where there is a plan
+abbrev pub bar_row : PlanBar → List ℕ
+bar_row bar = figures_row bar.pages bar.plan
+
+-- the plans for this many live words
+abbrev pub plans_table : ℕ → List PlanBar → List ℕ
+plans_table live bars = table_text
+    (codes "\"live\":\"" ++ (decimal live ++ codes "\",\n\"plans\":[[\"pages\",\"words\",\"tenths\"]")) bar_row bars
+
+-- the plans for this many live words and all size classes, where it is said how many are live
+abbrev pub PlansTable : Config → Option ℕ → List ℕ → Type 0
+PlansTable c None text = text ≡ []
+PlansTable c (Some live) text = (bars : List PlanBar) × ArePlanBars None c live bars × (text ≡ plans_table live bars)

@@ -1,16 +1,48 @@
-//! The plans as bars of a picture.
-ghost use Rattle.std.specs.Prelude.{◌≡◌, ◌≤◌, IfOk, IfSome, option_map};
+//! The plans as a table of a run's data.
+ghost use Rattle.std.specs.Prelude.{◌≡◌, ◌≤◌, IfOk, IfSome, option_map, string_bytes};
 ghost use Rattle.size_classes.specs.declared.config.TheConstants.{MOST_HEAP_PAGES};
-ghost use Rattle.plans.specs.Bars.{figures_of, IsBar, AreBars, ArePlanBars};
+ghost use Rattle.plans.specs.Bars.{figures_of, IsBar, AreBars, ArePlanBars, bar_row, plans_table, PlansTable};
 ghost use Rattle.paced.specs.Rooms.{made_of};
 
 use crate::order::next_of;
 use crate::report::numbers_told;
 use crate::row::tenths;
 use paced::{Plan, least_pages, planned};
-use pictures::{PlanBar, PlanFigures};
+use pictures::{JsonRow, row, table};
 use size_classes::{Class, Config};
 use std::alloc::{AllocError, Global};
+
+/// The figures of a plan.
+#[derive(Clone, Copy, Debug, PartialEq, Eq)]
+pub struct PlanFigures {
+    /// How many words may be asked for at a quantum.
+    pub words: u64,
+    /// How many tenths of a unit the collector spends for each of them.
+    pub tenths: u64,
+}
+
+/// A number of pages, with the figures of the plan on them, if there is one.
+#[derive(Clone, Copy, Debug, PartialEq, Eq)]
+pub struct PlanBar {
+    pub pages: u32,
+    pub plan: Option<PlanFigures>,
+}
+
+impl JsonRow for PlanBar {
+    ghost told = { bar_row };
+
+    fn row(&self, alloc: Global) -> Result<String, AllocError> {
+        let pages = u64::from(self.pages);
+        match self.plan {
+            None => row(alloc, pages, &[None, None]),
+            Some(plan) => row(
+                alloc,
+                pages,
+                &[Some(u128::from(plan.words)), Some(u128::from(plan.tenths))],
+            ),
+        }
+    }
+}
 
 /// The figures of a configuration's plan, if there is one.
 fn figures(config: &Config, plan: Option<Plan>) -> Option<PlanFigures>
@@ -57,8 +89,8 @@ fn bars(
     Ok(bars)
 }
 
-/// The plans of which `plans_report` tells, as bars of a picture: one for each number of pages that has a line there.
-pub fn plan_bars(
+/// The plans of which `plans_report` tells: one for each number of pages that has a line there.
+fn plan_bars(
     alloc: Global,
     config: &Config,
     live_words: u64,
@@ -69,4 +101,28 @@ pub fn plan_bars(
     let least = least_pages(config, live_words, classes);
     let (numbers, count) = numbers_told(config, least);
     bars(alloc, config, live_words, classes, &numbers[..count])
+}
+
+/// The table of some plans, for this many live words.
+fn table_of(alloc: Global, live: u64, bars: &[PlanBar]) -> Result<String, AllocError>
+    ensures { IfOk result (λ text. string_bytes text ≡ plans_table live bars.now) }
+{
+    let head = format!(in alloc;
+        "\"live\":\"{live}\",\n\"plans\":[[\"pages\",\"words\",\"tenths\"]"
+    )?;
+    table(alloc, head.as_str(), bars)
+}
+
+/// The plans for this many live words, and for all size classes, as a member of a run's data; nothing where it isn't said
+/// how many are live.
+pub fn plans_data(alloc: Global, config: &Config, live: Option<u64>) -> Result<String, AllocError>
+    ensures { IfOk result (λ text. PlansTable config.now live (string_bytes text)) }
+{
+    match live {
+        None => Ok(String::new(alloc)),
+        Some(live) => {
+            let bars = plan_bars(alloc, config, live, None)?;
+            table_of(alloc, live, bars.as_slice())
+        }
+    }
 }

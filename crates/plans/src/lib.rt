@@ -12,7 +12,7 @@ mod runs;
 mod surveying;
 mod table;
 
-pub use bars::plan_bars;
+pub use bars::{PlanBar, PlanFigures, plans_data};
 pub use live::{LiveMeter, MostLive};
 pub use report::plans_report;
 pub use runs::run_plans;

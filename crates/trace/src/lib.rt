@@ -26,8 +26,8 @@ pub use line::{Line, is_skipped, read_line, read_numbered};
 pub use line_handler::{InputEnd, LineHandler, each_line};
 pub use line_reader::LineReader;
 pub use player::{
-    Mark, Observer, PhaseName, Player, QuantumStart, Style, Survey, TickFault, play, play_first,
-    play_up_to, plays_are_promised, survey_run,
+    Mark, Observed, Observer, PhaseName, Player, QuantumStart, Style, Survey, TickFault, observe,
+    play, play_first, play_up_to, plays_are_promised, survey_run,
 };
 pub use streams::{
     BufferedSink, FailAt, MemorySink, MemorySource, ReadFailed, ReadSource, Sink, Source,

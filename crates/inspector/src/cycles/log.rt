@@ -26,7 +26,7 @@ pub struct Log {
 
 impl Log {
     /// Before the first step.
-    pub(crate) fn new(alloc: Global) -> Log
+    pub fn new(alloc: Global) -> Log
         ensures { (now : Course) → IsLog [] now result }
     {
         Log {
@@ -87,7 +87,7 @@ impl Log {
     }
 
     /// The cycles of a run that ends at this heap; the last one is still running, or no other follows it.
-    pub(crate) fn cycles(mut self, heap: &Heap) -> Result<Cycles, NoMemory>
+    pub fn cycles(mut self, heap: &Heap) -> Result<Cycles, NoMemory>
         ensures { IfOk result (λ cycles. (steps : List Step) (now : Course) → IsLog steps now self → now.heap ≡ heap.now
             → AreCycles steps cycles.items.items) }
     {

@@ -57,7 +57,7 @@ fn figure(alloc: Global, layout: Layout, number: Option<u128>) -> Result<String,
 }
 
 /// The figures of a cycle but its line, in their order.
-fn figures(cycle: &Cycle) -> [Option<u128>; 10]
+pub fn figures(cycle: &Cycle) -> [Option<u128>; 10]
     ensures { result ≡ figures cycle.now }
 {
     let sweep = cycle.sweep;

@@ -15,7 +15,7 @@ use std::collections::BTreeMap;
 
 /// What is held in the blocks that were looked at.
 #[derive(Drop)]
-pub(crate) struct Counted {
+pub struct Counted {
     /// Of each shape, by its cells.
     pub each: BTreeMap<Cells, Held>,
     /// Of all shapes.
@@ -82,7 +82,7 @@ impl Counted {
 }
 
 /// What a heap holds of each shape, and of all of them.
-pub(crate) fn count(alloc: Global, heap: &Heap) -> Result<Counted, AllocError>
+pub fn count(alloc: Global, heap: &Heap) -> Result<Counted, AllocError>
     ensures rows { IfOk result (λ counted. AreRows heap.now.store counted.each.entries) }
     ensures all { IfOk result (λ counted. counted.all ≡ held_of any_shape heap.now.store) }
 {

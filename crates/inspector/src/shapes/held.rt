@@ -8,7 +8,7 @@ use nodes::BlockView;
 
 /// How many cells of each kind the objects of a shape have.
 #[derive(Clone, Copy, Debug, PartialEq, Eq, PartialOrd, Ord)]
-pub(crate) struct Cells {
+pub struct Cells {
     /// References.
     pub refs: u32,
     /// Words.
@@ -17,7 +17,7 @@ pub(crate) struct Cells {
 
 /// What is held of some objects. Old copies count nowhere.
 #[derive(Clone, Copy, Debug, PartialEq, Eq)]
-pub(crate) struct Held {
+pub struct Held {
     /// How many objects they are.
     pub objects: u64,
     /// How many parts they have.

@@ -11,5 +11,4 @@ returns-clause-asked c =
       refl,
       (c.long_number.result, c.long_number.ensures, c.unwrap_or-live.ensures),
       subst (λ (sizes : Option (List (List ℕ))). AreClassesOf sizes (option_map (λ classes. classes.items) c.in_ok-classes.classes)) said c.in_ok-classes.ensures,
-      c.flag.ensures,
     )

@@ -1,7 +1,7 @@
 use Rattle.std.proofs.Common.{ap}
 use Rattle.std.specs.Prelude.{option_map, Option}
-use Rattle.pictures.specs.declared.plan_bars.PlanBar.{PlanBar}
-use Rattle.pictures.specs.declared.plan_bars.PlanFigures.{PlanFigures}
+use Rattle.plans.specs.declared.bars.PlanBar.{PlanBar}
+use Rattle.plans.specs.declared.bars.PlanFigures.{PlanFigures}
 use Rattle.paced.specs.Rooms.{made_of}
 use Rattle.plans.proofs.Rows.{fastest_words}
 use Rattle.plans.proofs.bars.bar.Goals as goal

@@ -1,4 +1,0 @@
-use Rattle.pictures.proofs.timeline.observing.SamplerObserver.begins.Goals as goal
-
-pub returns-clause-seen : goal.returns-clause-seen
-returns-clause-seen c = λ s is run seen now. seen

@@ -1,0 +1,149 @@
+//! The tables of a run's data.
+ghost use Rattle.std.specs.Prelude.{◌≡◌, ◌+◌, IfOk, string_bytes};
+ghost use Rattle.pictures.specs.Tables as tables;
+ghost use Rattle.pictures.specs.Tables.{sample_row, quantum_row, cycle_row, share_row, refused_row, page_row, shape_row, pages_table, ShapesTable};
+
+use crate::json::{JsonRow, row};
+use crate::quantum_log::Quantum;
+use crate::refusals::Refused;
+use crate::sample::Sample;
+use crate::share::Share;
+use inspector::{Cells, Counted, Cycle, Held, count, figures};
+use machine::Heap;
+use std::alloc::{AllocError, Global};
+
+impl JsonRow for Sample {
+    ghost told = { sample_row };
+
+    fn row(&self, alloc: Global) -> Result<String, AllocError> {
+        row(
+            alloc,
+            self.line,
+            &[
+                Some(u128::from(self.least_pages)),
+                Some(u128::from(self.most_pages)),
+                Some(u128::from(self.phases.number())),
+                Some(u128::from(self.blocks)),
+                Some(u128::from(self.words)),
+            ],
+        )
+    }
+}
+
+impl JsonRow for Quantum {
+    ghost told = { quantum_row };
+
+    fn row(&self, alloc: Global) -> Result<String, AllocError> {
+        row(
+            alloc,
+            self.commands,
+            &[
+                Some(u128::from(self.units)),
+                Some(u128::from(self.budget)),
+                Some(u128::from(self.phase.number())),
+            ],
+        )
+    }
+}
+
+impl JsonRow for Cycle {
+    ghost told = { cycle_row };
+
+    fn row(&self, alloc: Global) -> Result<String, AllocError> {
+        row(alloc, self.line, &figures(self))
+    }
+}
+
+impl JsonRow for Share {
+    ghost told = { share_row };
+
+    fn row(&self, alloc: Global) -> Result<String, AllocError> {
+        row(
+            alloc,
+            self.window,
+            &[
+                Some(u128::from(self.measured)),
+                Some(u128::from(self.promised)),
+            ],
+        )
+    }
+}
+
+impl JsonRow for Refused {
+    ghost told = { refused_row };
+
+    fn row(&self, alloc: Global) -> Result<String, AllocError> {
+        row(
+            alloc,
+            u64::from(self.number),
+            &[Some(u128::from(self.count))],
+        )
+    }
+}
+
+/// The row of a page: the words of its blocks, how many of them are allocated, and its marks, 1 where it is evacuating and 2
+/// where it is a target, added up. A free page has zeros.
+fn page_row(alloc: Global, heap: &Heap, number: usize) -> Result<String, AllocError>
+    ensures { IfOk result (λ text. string_bytes text ≡ page_row heap.now.store.pages number) }
+{
+    match heap.page(number) {
+        None => row(alloc, 0, &[Some(0), Some(0)]),
+        Some(page) => row(
+            alloc,
+            u64::from(page.class.size()),
+            &[
+                Some(page.allocated as u128),
+                Some(u128::from(page.evacuating) + 2 * u128::from(page.is_target)),
+            ],
+        ),
+    }
+}
+
+/// The table of a heap's pages, in their order.
+pub(crate) fn pages_table(alloc: Global, heap: &Heap) -> Result<String, AllocError>
+    ensures { IfOk result (λ text. string_bytes text ≡ pages_table heap.now.store.pages) }
+{
+    let mut text = String::from_str(alloc, "\"pages\":[[\"size\",\"allocated\",\"marks\"]")?;
+    for number in 0..heap.pages() {
+        text.push_str(page_row(alloc, heap, number)?.as_str())?;
+    }
+    text.push_str("],\n")?;
+    Ok(text)
+}
+
+/// The row of a shape.
+fn shape_row(alloc: Global, cells: &Cells, held: &Held) -> Result<String, AllocError>
+    ensures { IfOk result (λ text. string_bytes text ≡ shape_row (cells.now, held.now)) }
+{
+    row(
+        alloc,
+        u64::from(cells.refs),
+        &[
+            Some(u128::from(cells.words)),
+            Some(u128::from(held.objects)),
+            Some(u128::from(held.parts)),
+            Some(u128::from(held.words)),
+        ],
+    )
+}
+
+/// The rows of what was counted.
+fn shape_rows(alloc: Global, counted: &Counted) -> Result<String, AllocError>
+    ensures { IfOk result (λ text. string_bytes text ≡ tables.shapes_table counted.now.each.entries) }
+{
+    let head = "\"shapes\":[[\"refs\",\"words\",\"objects\",\"parts\",\"block_words\"]";
+    let mut text = String::from_str(alloc, head)?;
+    for (cells, held) in &counted.each {
+        text.push_str(shape_row(alloc, cells, held)?.as_str())?;
+    }
+    text.push_str("],\n")?;
+    Ok(text)
+}
+
+/// The table of the shapes of which a heap holds a part, in rising order of references and then of words.
+pub(crate) fn shapes_table(alloc: Global, heap: &Heap) -> Result<String, AllocError>
+    ensures { IfOk result (λ text. ShapesTable heap.now (string_bytes text)) }
+{
+    let counted = count(alloc, heap)?;
+    shape_rows(alloc, &counted)
+}

@@ -1,0 +1,109 @@
+// The map of the pages at the end of the run, and what its block sizes have.
+const map = element("map");
+let grid = null, drawn = null;
+
+/** Pages a row, such that all stand within some height, each a square as large as may be. */
+function layOut(width) {
+  const margin = width < 560 ? 0 : 44, count = settings.pages;
+  let best = null;
+  for (const columns of [4, 8, 12, 16, 20, 24, 32, 48, 64, 80, 96, 112, 128]) {
+    const cell = clamp(Math.floor((width - margin) / columns), 3, 48);
+    const fits = Math.ceil(count / columns) * cell <= 560 && columns * cell <= width - margin;
+    if (!best || fits && (!best.fits || cell === best.cell && columns < count + 4)) best = { columns, cell, margin, fits };
+  }
+  return best;
+}
+
+function drawPages() {
+  const width = map.parentElement.clientWidth, focus = document.activeElement === map;
+  const key = [width, state.shade, state.page, focus, ink.panel].join();
+  if (key === drawn) return;
+  drawn = key;
+  grid = layOut(width);
+  const { columns, cell, margin } = grid, rows = Math.ceil(settings.pages / columns), gap = cell > 7 ? 1 : .5, inner = cell - gap;
+  const pen = surface(map, width, rows * cell + 2), band = cell > 24 ? 4 : cell > 10 ? 2.5 : 1.5;
+  const shades = Array.from({ length: 17 }, (_, i) => between(ink["shade-low"], ink["shade-high"], i / 16));
+  pen.textBaseline = "middle";
+  for (let page = 0; page < settings.pages; page++) {
+    const x = margin + page % columns * cell, y = Math.floor(page / columns) * cell, size = pages.size[page],
+      mark = pages.marks[page];
+    if (size) {
+      const part = state.shade === "size" ? Math.log2(size / 4) / 6 : pages.allocated[page] / blocksOf(size);
+      pen.fillStyle = shades[Math.ceil(16 * part)];
+      pen.fillRect(x, y, inner, inner);
+      if (cell >= 26) label(pen, size, x + inner / 2, y + inner / 2, part > .5 ? "shade-ink" : "text", "center");
+    }
+    const line = mark ? band : gap;
+    pen.strokeStyle = ink[mark & 1 ? "evacuating" : mark ? "target" : "line"];
+    pen.lineWidth = line;
+    if (!size || mark) pen.strokeRect(x + line / 2, y + line / 2, inner - line, inner - line);
+    if (!(mark & 1) || cell < 8) continue;
+    pen.fillStyle = ink.evacuating; // a corner besides, for who can't tell the colours
+    pen.beginPath(); pen.moveTo(x + cell * .55, y); pen.lineTo(x + inner, y); pen.lineTo(x + inner, y + cell * .45); pen.fill();
+  }
+  pen.strokeStyle = ink.accent;
+  pen.lineWidth = 3;
+  if (focus) pen.strokeRect(margin + state.page % columns * cell, Math.floor(state.page / columns) * cell + .5, inner, inner);
+  const every = Math.max(1, Math.ceil(15 / cell));
+  if (margin) for (let row = 0; row < rows; row += every) label(pen, number(row * columns), margin - 7, (row + .5) * cell, "soft", "right");
+  tellPages();
+}
+
+/** Of each block size its pages, the blocks allocated, and of how many; in rising order. */
+function bySize() {
+  const sizes = new Map();
+  pages.size.forEach((size, page) => {
+    if (!size) return;
+    const [count, held, blocks] = sizes.get(size) ?? [0, 0, 0];
+    sizes.set(size, [count + 1, held + pages.allocated[page], blocks + blocksOf(size)]);
+  });
+  return [...sizes].sort((a, b) => a[0] - b[0]);
+}
+
+function tellPages() {
+  const marked = bit => pages.marks.filter(mark => mark & bit).length, rows = bySize();
+  const moving = [[marked(1), "page being evacuated", "pages being evacuated"], [marked(2), "target of moves", "targets of moves"]];
+  const text = `At the end of the run: ${number(usedAtEnd)} of ${many(settings.pages, "page")} in use, ${
+    number(settings.pages - usedAtEnd)} free${moving.map(([count, one, more]) => count ? ", " + many(count, one, more) : "").join("")}.`;
+  element("pages-text").textContent = text;
+  map.ariaLabel = "Map of the pages. " + text;
+  const free = sum(rows.map(([size, [, held, blocks]]) => size * (blocks - held)));
+  const foot = rows.length ? `${number(free)} words in free blocks (${share(free, PAGE_WORDS * usedAtEnd)} of the pages in use)`
+    : "No page is in use.";
+  html("sizes", table(["Words", "Pages", "Blocks", "Filled"], rows.map(([size, [count, held, blocks]]) =>
+    [size, number(count), number(held), meter(held / blocks)])) + `<tfoot><tr><td colspan="4">${foot}</td></tr></tfoot>`);
+  const what = state.shade === "fill" ? "few to all blocks allocated" : "blocks of 4 to 256 words";
+  html("pages-legend", `<li><i class="scale"></i>${what}</li><li><i class="free"></i>free</li>${settings.defrag_pages
+    ? '<li><i class="evacuating"></i>evacuating</li><li><i class="target"></i>target of moves</li>' : ""}${
+    grid.cell >= 26 ? "<li>number: words of a block</li>" : ""}`);
+  pagesTable();
+}
+
+const pagesTable = tableIn("pages-table", ["Page", "Block size", "Allocated", "Of", "Marks"], () =>
+  [...pages.size.keys()].filter(page => pages.size[page]).map(page =>
+    [number(page), pages.size[page], pages.allocated[page], blocksOf(pages.size[page]), MARKS[pages.marks[page]]]));
+
+function setShade(shade) {
+  state.shade = shade;
+  press("shades", "shade", shade);
+  redraw(false);
+}
+
+function listenPages() {
+  map.addEventListener("pointermove", event => {
+    const box = map.getBoundingClientRect(), column = Math.floor((event.clientX - box.left - grid.margin) / grid.cell);
+    const page = Math.floor((event.clientY - box.top) / grid.cell) * grid.columns + column;
+    tip(column >= 0 && column < grid.columns && page < settings.pages ? pageText(page) : "", event);
+  });
+  map.addEventListener("pointerleave", event => tip("", event));
+  for (const kind of ["focus", "blur"]) map.addEventListener(kind, () => redraw(false));
+  map.addEventListener("keydown", event => {
+    const by = { ArrowRight: 1, ArrowLeft: -1, ArrowDown: grid.columns, ArrowUp: -grid.columns }[event.key];
+    if (!by) return;
+    event.preventDefault();
+    state.page = clamp(state.page + by, 0, settings.pages - 1);
+    element("page-told").textContent = pageText(state.page);
+    redraw(false);
+  });
+  for (const button of element("shades").children) button.onclick = () => setShade(button.dataset.shade);
+}

@@ -150,7 +150,7 @@ fn consider(nodes: &Nodes, class: Class, page: u32, best: Option<Candidate>) -> 
     if !nodes.is_choosable(class, page as usize) {
         return best;
     }
-    let allocated = nodes.held(page as usize) as u32;
+    let allocated = nodes.held(page as usize);
     Some(emptier(best, Candidate { page, allocated }))
 }
 
@@ -175,5 +175,5 @@ fn is_chosen(nodes: &Nodes, class: Class, candidate: Candidate) -> bool
     let elsewhere = nodes
         .free_blocks(class)
         .saturating_sub(nodes.free_on(class, page));
-    nodes.held(page) <= elsewhere
+    nodes.held(page) as usize <= elsewhere
 }

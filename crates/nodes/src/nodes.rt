@@ -203,7 +203,7 @@ impl Nodes {
     }
 
     /// How many blocks of a page are allocated.
-    pub fn held(&self, page: usize) -> usize
+    pub fn held(&self, page: usize) -> u32
         requires { page < length self.now.pages }
         ensures allocated { result ≡ allocated_on (page_at self.now.pages page) }
         ensures within { result ≤ 512 }

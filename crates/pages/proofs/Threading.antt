@@ -267,7 +267,7 @@ module _ (words : List ℕ) (page class first allocated size : ℕ) (low_page : 
     pub pop_within : (first - 1) + 3 < length words
     pop_within = let f = block_fits class head.index head.below in omega (arith, block_is, f, within, low_size)
 
-    pub pop_room : allocated + 1 < 2 ^ 64
+    pub pop_room : allocated + 1 < 2 ^ 32
     pop_room = let f = blocks_few class in omega (arith, some, f)
 
     pub pop_free : slice_get (flags_of words (2048 * page) class) ((first - 1 - 2048 * page) / size) ≡ Some false

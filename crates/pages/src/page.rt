@@ -10,7 +10,7 @@ use size_classes::Class;
 pub struct PageRow {
     pub class: Class,
     pub first: u64,
-    pub allocated: usize,
+    pub allocated: u32,
     pub evacuating: bool,
     pub is_target: bool,
 }
@@ -22,7 +22,7 @@ pub fn is_usable(class: Class, row: Option<PageRow>) -> bool
 {
     match row {
         None => false,
-        Some(r) => !r.evacuating && r.allocated < class.blocks_per_page() as usize,
+        Some(r) => !r.evacuating && r.allocated < class.blocks_per_page(),
     }
 }
 
@@ -34,7 +34,7 @@ pub fn free_on(class: Class, row: Option<PageRow>) -> usize
 {
     match row {
         Some(r) if r.class == class && !r.evacuating => {
-            (class.blocks_per_page() as usize).saturating_sub(r.allocated)
+            class.blocks_per_page().saturating_sub(r.allocated) as usize
         }
         _ => 0,
     }

@@ -194,7 +194,7 @@ impl PageTable {
         let number = class.number();
         let row = self.rows[page].as_mut().unwrap();
         let index = pop(arena, page, row);
-        let is_full = row.allocated == class.blocks_per_page() as usize;
+        let is_full = row.allocated == class.blocks_per_page();
         self.free_blocks[number] -= 1;
         if is_full {
             self.usable[number].set(page, false);

@@ -96,7 +96,7 @@ impl PageTable {
     }
 
     /// How many blocks of a page are allocated.
-    pub fn held(&self, page: usize) -> usize
+    pub fn held(&self, page: usize) -> u32
         requires { page < length self.now }
         ensures allocated { Tells self.now (λ pages. result ≡ allocated_on (page_at pages page)) }
         ensures within { Tells self.now (λ pages. result ≤ 512) }
@@ -118,7 +118,7 @@ impl PageTable {
         let row = self.row(page)?;
         Some(PageView {
             class: row.class,
-            allocated: row.allocated,
+            allocated: row.allocated as usize,
             evacuating: row.evacuating,
             is_target: row.is_target,
         })

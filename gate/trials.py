@@ -207,13 +207,15 @@ def first_fault(said):
     return next((it for it in lines if "error" in it), lines[-1])[:160]
 
 
-def of_named(trial, said):
-    """What the run came to over the functions that an edit says refuse it: they, or lemmas on which they rest, aren't proved; else,
-    where only a limit of the prover was met, or where the edited text can't be read, it is to be tried over the whole crate."""
-    edit = trial.edits[0]
-    kind, why, ground = verdicts.verdict(trial.asked, verdicts.told(said))
+def of_named(trial, said, beside=()):
+    """What the run came to over the functions that an edit says refuse it: they, or lemmas on which they rest, aren't proved, and
+    one of the functions beside them is. Else, as where only a limit of the prover was met, or where the edited text can't be read,
+    it is to be tried over the whole crate."""
+    edit, told = trial.edits[0], verdicts.told(said)
+    kind, why, ground = verdicts.verdict(trial.asked, told)
     lost = verdicts.refuted(said)
     reads = verdicts.ended(said) and not any(rt.unread(line, edit.texts) for line in said.split("\n"))
+    reads = reads and (not beside or any(it.stands for name, it in told.items() if name in beside))
     if reads and kind == verdicts.REFUSED:
         return [Result(edit, kind, why, ground)], [], []
     if reads and lost:
@@ -226,7 +228,8 @@ def tried(trial, threads=1):
     if trial.is_whole:
         return [whole(trial)], [], []
     if trial.is_named:
-        return of_named(trial, ask(trial, trial.asked, threads))
+        beside = functions.unturned(trial.crate, trial.asked)
+        return of_named(trial, ask(trial, [*trial.asked, *beside], threads), beside)
     said = ask(trial, [*trial.asked, *trial.controls, *functions.unturned(trial.crate, trial.asked), *trial.besides], threads)
     told = verdicts.told(said)
     others = {name: it for name, it in told.items() if not any(verdicts.is_within(name, path) for path in trial.asked)}

@@ -226,11 +226,15 @@ def judged(made):
 
 
 def stops(crate):
-    """Whether an edit that says what refuses it isn't told as refused where the prover met a limit of its own alone."""
+    """Whether an edit that says what refuses it isn't told as refused where the prover met a limit of its own alone, or where
+    nothing beside it is proved."""
     edit = edits.read(crate, f"{crate.folder}/{edits.FOLDER}/says_what_refuses_it.edit")
     trial = trials.Trial(crate, [edit], [edit.refused_by])
-    told = {text: [it.kind for it in trials.of_named(trial, text)[0]] for text in (STOPPED, ANSWER_STOPPED, NO_PROOF)}
-    return [told[STOPPED] == [], told[ANSWER_STOPPED] == [], told[NO_PROOF] == [REFUSED]]
+    # (where nothing is proved beside it, the refusal shows nothing)
+    alone = NO_PROOF.replace("told::seven: proved", "told::seven: no proof")
+    texts = (STOPPED, ANSWER_STOPPED, alone, NO_PROOF)
+    told = {text: [it.kind for it in trials.of_named(trial, text, ["told::seven"])[0]] for text in texts}
+    return [told[it] == [] for it in texts[:3]] + [told[NO_PROOF] == [REFUSED]]
 
 
 def keeps(crate):

@@ -3,9 +3,9 @@ use Rattle.std.specs.Prelude.{◌≡◌, ℕ, ◌+◌, ◌-◌, ◌*◌, ◌/◌
 use Rattle.graph_heap.specs.declared.command.Limits.{Limits}
 use Rattle.graph_heap.specs.Graph.{Graph, opening}
 use Rattle.graph_heap.specs.History.{after_entry}
-use Rattle.size_classes.specs.declared.class.TheConstants.{CLASSES, MOST_BLOCKS, PAGE_WORDS}
+use Rattle.size_classes.specs.declared.class.TheConstants.{CLASSES, PAGE_WORDS}
 use Rattle.size_classes.specs.Sizes.{size_of}
-use Rattle.size_classes.specs.declared.config.TheConstants.{LEAST_BUDGET}
+use Rattle.size_classes.specs.Cycle.{sweep_units, unmoved_quanta, quanta_for}
 use Rattle.heap_model.specs.State.{HeapState}
 use Rattle.heap_model.specs.Event.{Event, Command_done, Cycle_begun, Begin_refused, Quantum_done, Quantum_refused}
 use Rattle.space.specs.Demand.{LiveWithin, asked_for}
@@ -109,26 +109,17 @@ classes_made makes = class_sum (λ class. if makes class then 1 else 0) CLASSES
 abbrev pub live_most : Flow → ℕ
 live_most f = PAGE_WORDS * (f.live_words / LEAST_PAGE_FILL + 1)
 
--- the units that roots, marking and sweeping spend at most in a heap of so many root cells and pages, where marking
--- spends so many
-abbrev pub sweep_units : ℕ → ℕ → ℕ → ℕ
-sweep_units roots pages marking = roots + marking + (MOST_BLOCKS + 1) * pages + (MOST_BLOCKS + 4)
-
--- the quanta of at least k units that a cycle takes at most up to its sweep's end, where marking takes the words of all
--- pages
-abbrev pub full_quanta : ℕ → ℕ → ℕ → ℕ
-full_quanta roots pages k = sweep_units roots pages (PAGE_WORDS * pages) / k + 1
-
 -- The quanta of at least k units that a cycle takes at most up to its sweep's end, where marking takes the words of what
 -- is live and of what is made by then: a quantum spends k units, and each word that is made at it may be marked too.
 abbrev pub marked_quanta : Flow → ℕ → ℕ → ℕ → ℕ
 marked_quanta f roots pages k =
     sweep_units roots pages (live_most f + (f.quantum_words + f.burst)) / (k - f.quantum_words) + 1
 
--- the quanta of at least k units that a cycle takes at most up to its sweep's end
+-- the quanta of at least k units that a cycle takes at most up to its sweep's end: no more than where marking takes the words of
+-- all pages
 abbrev pub sweep_quanta : Flow → ℕ → ℕ → ℕ → ℕ
 sweep_quanta f roots pages k = if nat_lt f.quantum_words k
-    then min (full_quanta roots pages k) (marked_quanta f roots pages k) else full_quanta roots pages k
+    then min (unmoved_quanta roots pages k) (marked_quanta f roots pages k) else unmoved_quanta roots pages k
 
 -- The units that moving spends at most on so many pages: a look at every page for each class, and once more; and for each
 -- page either as many looks, if it is chosen, or the words that are moved to it. No more words are moved than what is live
@@ -141,7 +132,7 @@ flow_moving f pages = (CLASSES + 1 + pages) * pages
 -- moving, each of which may leave 255 units
 abbrev pub flow_quanta : Flow → ℕ → ℕ → ℕ → ℕ
 flow_quanta f roots pages k =
-    sweep_quanta f roots pages k + (flow_moving f pages / (k - (LEAST_BUDGET - 1)) + 1)
+    sweep_quanta f roots pages k + quanta_for (flow_moving f pages) k
 
 -- The pages that suffice, where a cycle takes at most so many quanta up to its sweep's end: those for what is live, for
 -- what is made from one cycle's beginning to the beginning of the second after it, and in that one up to the end of its

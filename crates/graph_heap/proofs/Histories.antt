@@ -36,10 +36,10 @@ admitted_told : (room : Bool) (g : Graph) (m : ℕ) (c : Command) → settled (a
 admitted_told room g m (commands.New dst shape) = made_told shape (slot_at g.limits m dst) (fitting shape) (next_identity g) room
 admitted_told room g m _ = refl
 
-abbrev let_in : Result Bool Refusal → Graph → ℕ → Command → Bool → Reply × Change
+abbrev let_in : Result (Unit {0}) Refusal → Graph → ℕ → Command → Bool → Reply × Change
 let_in a g m c room = settled (a >>= λ ok. admitted_effect room g m c)
 
-let_in_told : (a : Result Bool Refusal) (room : Bool) (g : Graph) (m : ℕ) (c : Command) → let_in a g m c (had_room (let_in a g m c room).0) ≡ let_in a g m c room
+let_in_told : (a : Result (Unit {0}) Refusal) (room : Bool) (g : Graph) (m : ℕ) (c : Command) → let_in a g m c (had_room (let_in a g m c room).0) ≡ let_in a g m c room
 let_in_told (Ok x) room g m c = admitted_told room g m c
 let_in_told (Err n) room g m c = refl
 

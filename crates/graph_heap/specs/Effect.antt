@@ -66,8 +66,8 @@ next_identity g = if nat_lt (length g.objects) g.limits.identities then Ok (leng
     else Err refusals.IdentitiesSpent
 
 -- the refusal for lack of space, where there is no room
-abbrev pub with_room : Bool → Result Bool Refusal
-with_room room = if room then Ok true else Err refusals.NoSpace
+abbrev pub with_room : Bool → Result (Unit {0}) Refusal
+with_room room = if room then Ok tt else Err refusals.NoSpace
 
 -- What a command of mutator m does once it is admitted: its reply, and what changes. The tests stand in
 -- the order in which refusals are looked for. `room` says whether there is room for what New asks for.
@@ -146,19 +146,19 @@ is_join commands.Join = true
 is_join _ = false
 
 -- a mutator that is live may ask for all but Join, and one that isn't for Join alone
-abbrev pub admits : Bool → Bool → Result Bool Refusal
+abbrev pub admits : Bool → Bool → Result (Unit {0}) Refusal
 admits true true = Err refusals.AlreadyLive
-admits true false = Ok true
-admits false true = Ok true
+admits true false = Ok tt
+admits false true = Ok tt
 admits false false = Err refusals.NotLive
 
 -- the admission of a mutator, for Join or for all else: there is such a mutator, and it is live or not
-abbrev pub admitted_to : Limits → List Bool → ℕ → Bool → Result Bool Refusal
+abbrev pub admitted_to : Limits → List Bool → ℕ → Bool → Result (Unit {0}) Refusal
 admitted_to l live m joins = if nat_lt m l.mutators then admits (slice_index_or live m false) joins
     else Err refusals.BadSlot
 
 -- the admission of a command, which is checked first
-abbrev pub admitted : Graph → ℕ → Command → Result Bool Refusal
+abbrev pub admitted : Graph → ℕ → Command → Result (Unit {0}) Refusal
 admitted g m c = admitted_to g.limits g.live m (is_join c)
 
 -- what a command of mutator m does: its admission stands before all else

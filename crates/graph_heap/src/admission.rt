@@ -1,5 +1,5 @@
 //! Which mutators are live, and the test of the mutator that stands in front of each command.
-ghost use Rattle.std.specs.Prelude.{◌≡◌, ◌<◌, ◌≤◌, length, slice_set, Err, IfOk};
+ghost use Rattle.std.specs.Prelude.{◌≡◌, ◌<◌, ◌≤◌, length, slice_set, Err, IfOk, OnOk};
 ghost use Rattle.graph_heap.specs.Graph.{live_first};
 ghost use Rattle.graph_heap.specs.Effect.{admits, admitted_to};
 
@@ -17,12 +17,12 @@ pub fn live_row(alloc: Global, limits: &Limits) -> Result<Vec<bool>, NoMemory>
     Ok(live)
 }
 
-/// Whether a mutator may ask: for Join (`joins`) it has to be one that isn't live, and for all else one
+/// Lets a mutator ask: for Join (`joins`) it has to be one that isn't live, and for all else one
 /// that is. Refused: BadSlot where there is no such mutator, NotLive, AlreadyLive, in this order.
-pub fn admit(limits: &Limits, live: &[bool], mutator: u32, joins: bool) -> Result<bool, Refusal>
+pub fn admit(limits: &Limits, live: &[bool], mutator: u32, joins: bool) -> Result<(), Refusal>
     requires { limits.now.mutators ≤ length live.now }
     ensures admitted { result ≡ admitted_to limits.now live.now mutator joins }
-    ensures below { IfOk result (λ ok. mutator < limits.now.mutators) }
+    ensures below { OnOk result (mutator < limits.now.mutators) }
 {
     if mutator < limits.mutators {
         admission_of(live[mutator as usize], joins)
@@ -32,11 +32,11 @@ pub fn admit(limits: &Limits, live: &[bool], mutator: u32, joins: bool) -> Resul
 }
 
 /// All but Join are for a mutator that is live.
-fn admission_of(live: bool, joins: bool) -> Result<bool, Refusal>
+fn admission_of(live: bool, joins: bool) -> Result<(), Refusal>
     ensures { result ≡ admits live joins }
 {
     if live != joins {
-        Ok(true)
+        Ok(())
     } else {
         Err(refusal_of(joins))
     }

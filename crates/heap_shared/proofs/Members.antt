@@ -25,8 +25,8 @@ use Rattle.heap_shared.specs.declared.shared_heap.SharedConfig.{SharedConfig}
 use Rattle.heap_shared.specs.Past.{IsLed}
 use Rattle.heap_shared.specs.Accounts.{IsWithin, IsAllowed, GoesOn, events_of, signed}
 use Rattle.heap_shared.specs.declared.logged.Logged.{Logged}
-use Rattle.heap_shared.specs.declared.member.NoEntry.{NoEntry}
-use Rattle.heap_shared.specs.declared.member.NoEntry.TheVariants.{NotYet}
+use Rattle.heap_shared.specs.declared.fault.NoEntry.{NoEntry}
+use Rattle.heap_shared.specs.declared.fault.NoEntry.TheVariants.{NotYet}
 use Rattle.heap_shared.specs.Ring.{Ringed, IsAsAsked, GoesBy, TellsEntry}
 use Rattle.heap_shared.specs.Turns.{word_of, done_since, seen_now, put_back, Told, HasTurn}
 use Rattle.heap_shared.specs.Members.{MemberView, turn_of, shown_by, HasHeap, IsMember, events_up_to, BearsAll, Enters, Leaves, Places, DoesIn, DoesInTurn, FindsEntry, Calls, IsPromised}

@@ -9,7 +9,7 @@ use Rattle.circular_buffer.specs.Buffer.{Buffer, buffer, keep_last}
 use Rattle.circular_buffer.proofs.Places.{slice_get-drop, slice_get-some}
 use Rattle.heap_model.specs.Event.{Event}
 use Rattle.heap_shared.specs.declared.logged.Logged.{Logged}
-use Rattle.heap_shared.specs.declared.member.NoEntry.TheVariants.{Gone}
+use Rattle.heap_shared.specs.declared.fault.NoEntry.TheVariants.{Gone}
 use Rattle.heap_shared.specs.Logged.{event_of}
 use Rattle.heap_shared.specs.Ring.{entry_ago, IsKeptAt, TellsEntry}
 use Rattle.heap_shared.specs.Turns.{word_of}

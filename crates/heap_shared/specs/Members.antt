@@ -16,13 +16,13 @@ use Rattle.heap_shared.specs.declared.logged.Logged.{Logged}
 use Rattle.heap_shared.specs.declared.rule.Account.{Account}
 use Rattle.heap_shared.specs.declared.rule.Known.{Known}
 use Rattle.heap_shared.specs.declared.rule.Last.{Last}
-use Rattle.heap_shared.specs.declared.member.NoTurn.{NoTurn}
-use Rattle.heap_shared.specs.declared.member.NoTurn.TheVariants as turns
-use Rattle.heap_shared.specs.declared.member.NoMember.{NoMember}
-use Rattle.heap_shared.specs.declared.member.NoMember.TheVariants as members
-use Rattle.heap_shared.specs.declared.member.NotDone.{NotDone}
-use Rattle.heap_shared.specs.declared.member.NotDone.TheVariants as undone
-use Rattle.heap_shared.specs.declared.member.NoEntry.{NoEntry}
+use Rattle.heap_shared.specs.declared.fault.NoTurn.{NoTurn}
+use Rattle.heap_shared.specs.declared.fault.NoTurn.TheVariants as turns
+use Rattle.heap_shared.specs.declared.fault.NoMember.{NoMember}
+use Rattle.heap_shared.specs.declared.fault.NoMember.TheVariants as members
+use Rattle.heap_shared.specs.declared.fault.NotDone.{NotDone}
+use Rattle.heap_shared.specs.declared.fault.NotDone.TheVariants as undone
+use Rattle.heap_shared.specs.declared.fault.NoEntry.{NoEntry}
 use Rattle.heap_shared.specs.declared.shared_heap.SharedConfig.{SharedConfig}
 use Rattle.heap_shared.specs.Past.{IsLed}
 use Rattle.heap_shared.specs.Accounts.{IsWithin, BearsOut, GoesOn, AreBelow, IsAllowed, events_of, signed}

@@ -4,8 +4,8 @@ use Rattle.circular_buffer.specs.Buffer.{keep_last}
 use Rattle.heap_model.specs.Event.{Course, Event, Does}
 use Rattle.heap_model.specs.Settings.{settings_of, settings_by}
 use Rattle.heap_shared.specs.declared.logged.Logged.{Logged}
-use Rattle.heap_shared.specs.declared.member.NoEntry.{NoEntry}
-use Rattle.heap_shared.specs.declared.member.NoEntry.TheVariants.{NotYet, Gone}
+use Rattle.heap_shared.specs.declared.fault.NoEntry.{NoEntry}
+use Rattle.heap_shared.specs.declared.fault.NoEntry.TheVariants.{NotYet, Gone}
 use Rattle.heap_shared.specs.declared.shared_heap.SharedConfig.{SharedConfig}
 use Rattle.heap_shared.specs.Logged.{event_of}
 use Rattle.heap_shared.specs.Past.{IsLed}

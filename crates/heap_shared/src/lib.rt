@@ -5,6 +5,7 @@
 
 mod crossing;
 mod deed;
+mod fault;
 mod fitting;
 mod laws;
 mod logged;
@@ -16,9 +17,10 @@ mod shared_heap;
 
 pub use crossing::members_cross;
 pub use deed::{Deed, Happened, Stood};
+pub use fault::{NoEntry, NoMember, NoTurn, NotDone};
 pub use laws::{histories_merge, logs_merge, no_event_is_hidden, nothing_is_done_between};
 pub use logged::Logged;
-pub use member::{Member, NoEntry, NoMember, NoTurn, NotDone};
+pub use member::Member;
 pub use past::Past;
 pub use ring::Ring;
 pub use rule::{Account, Known, Last, TurnRule};

@@ -7,6 +7,7 @@ ghost use Rattle.heap_shared.specs.Members.{Enters, Leaves, Places, Calls, DoesI
 ghost use Rattle.heap_shared.specs.Methods.{IsMethodOf};
 ghost use mathlib.Core.List.{IsPrefix};
 
+use crate::fault::{NoEntry, NoMember, NoTurn, NotDone};
 use crate::fitting::fitting_first;
 use crate::logged::Logged;
 use crate::rule::{
@@ -51,43 +52,6 @@ fn entries_since(place: u64, length: u64) -> u64
 
 /// Memory that is never written, as long as two cache lines.
 type Apart = [u64; 16];
-
-/// Why a member doesn't get the turn.
-#[derive(Clone, Copy, Debug, PartialEq, Eq)]
-pub enum NoTurn {
-    /// Another member has it.
-    Taken,
-    /// It has it already.
-    Inside,
-}
-
-/// Why a command isn't done.
-#[derive(Clone, Copy, Debug, PartialEq, Eq)]
-pub enum NotDone {
-    /// The member hasn't the turn.
-    Outside,
-    /// The mutator isn't one of the member's.
-    NotYours,
-}
-
-/// Why there is no entry at a place.
-#[derive(Clone, Copy, Debug, PartialEq, Eq)]
-pub enum NoEntry {
-    /// It is the place behind the last entry.
-    NotYet,
-    /// The entry there isn't one of the last ones, that the ring has room for.
-    Gone,
-}
-
-/// Why there is no other member.
-#[derive(Clone, Copy, Debug, PartialEq, Eq)]
-pub enum NoMember {
-    /// The member has the turn.
-    Inside,
-    /// The mutators aren't the member's.
-    NotYours,
-    NoMemory,
-}
 
 impl Model for Member {
     ghost use Rattle.std.specs.Prelude.{◌≡◌, ◌<◌, Some};

@@ -30,8 +30,8 @@ module _ (h : HeapState) (g : Graph) (a : Agrees h g) (m : ℕ) (c : Command) wh
   same_admission : admitted g m c ≡ admitted_to h.limits h.live m (is_join c)
   same_admission = ap (λ (l : Limits). admitted_to l g.live m (is_join c)) (sym a.limits) ∙ ap (λ z. admitted_to h.limits z m (is_join c)) (sym a.live)
 
-  pub effect_is : (r : Result Bool Refusal) → r ≡ admitted_to h.limits h.live m (is_join c) → effect_of (room_for h c) g m c ≡ (r >>= λ ok. admitted_effect (room_for h c) g m c)
-  effect_is r is = ap (λ (x : Result Bool Refusal). x >>= λ ok. admitted_effect (room_for h c) g m c) (same_admission ∙ sym is)
+  pub effect_is : (r : Result (Unit {0}) Refusal) → r ≡ admitted_to h.limits h.live m (is_join c) → effect_of (room_for h c) g m c ≡ (r >>= λ ok. admitted_effect (room_for h c) g m c)
+  effect_is r is = ap (λ (x : Result (Unit {0}) Refusal). x >>= λ ok. admitted_effect (room_for h c) g m c) (same_admission ∙ sym is)
 
 -- what a root that gets null does
 null_does : (h after : HeapState) (g : Graph) (cell id : ℕ) → id ≡ 0 → Agrees h g → DoesChange h g (changes.Root cell id) after → (k : HeapState) × Records h (get_or h.roots cell 0) k × (after ≡ record k { roots = set k.roots cell 0 })

@@ -36,10 +36,10 @@ cells_by o cells p e w = subst (λ x. IfSome x (λ y. y ≡ cells)) e w
 pub room_by : (pages : List (Option Page)) (shape : Shape) (parts : ℕ) → parts ≡ cells_of shape → has_room pages (blocks_needed parts (parts_in parts)) ≡ has_room pages (needed shape)
 room_by pages shape parts e = ap (λ n. has_room pages (blocks_needed n (parts_in n))) e
 
-abbrev chain : Shape → Result ℕ Refusal → Result Shape Refusal → Result ℕ Refusal → Result Bool Refusal → Result (Reply × Change) Refusal
+abbrev chain : Shape → Result ℕ Refusal → Result Shape Refusal → Result ℕ Refusal → Result (Unit {0}) Refusal → Result (Reply × Change) Refusal
 chain shape a b i r = a >>= λ d. b >>= λ ok. i >>= λ id. r >>= λ has. Ok (replies.Made id, changes.New d id shape)
 
-chained : (shape : Shape) (a a' : Result ℕ Refusal) (b b' : Result Shape Refusal) (i i' : Result ℕ Refusal) (r r' : Result Bool Refusal) → a ≡ a' → b ≡ b' → i ≡ i' → r ≡ r' → chain shape a b i r ≡ chain shape a' b' i' r'
+chained : (shape : Shape) (a a' : Result ℕ Refusal) (b b' : Result Shape Refusal) (i i' : Result ℕ Refusal) (r r' : Result (Unit {0}) Refusal) → a ≡ a' → b ≡ b' → i ≡ i' → r ≡ r' → chain shape a b i r ≡ chain shape a' b' i' r'
 chained shape a a' b b' i i' r r' ea eb ei er = ap (λ x. chain shape x b i r) ea ∙ ap (λ x. chain shape a' x i r) eb ∙ ap (λ x. chain shape a' b' x r) ei ∙ ap (chain shape a' b' i') er
 
 module _ (h : HeapState) (g : Graph) (a : Agrees h g) (m dst root : ℕ) (shape : Shape) (slot : slot_at h.limits m dst ≡ Ok root) (fit : fits shape ≡ true) where

@@ -47,18 +47,18 @@ refused_each h m c e refuses =
     steps_by h m c (replies.Refused e) h (λ g a. subst (λ (d : Result (Reply × Change) Refusal). Commits h g d (replies.Refused e) h) (sym (refuses g a)) (commits_err h e g (Err e) a refl))
 
 -- a command is settled as the mutator is admitted; the test is of the fields f, which are seen as the value h
-module _ (f h : HeapState) (seen_as : f ≡ h) (m : ℕ) (c : Command) (joins : Bool) (join : joins ≡ is_join c) (r : Result Bool Refusal) (told : r ≡ admitted_to f.limits f.live m joins) where
+module _ (f h : HeapState) (seen_as : f ≡ h) (m : ℕ) (c : Command) (joins : Bool) (join : joins ≡ is_join c) (r : Result (Unit {0}) Refusal) (told : r ≡ admitted_to f.limits f.live m joins) where
   told_here : r ≡ admitted_to h.limits h.live m (is_join c)
   told_here = subst (λ (x : HeapState). r ≡ admitted_to x.limits x.live m (is_join c)) seen_as (told ∙ ap (admitted_to f.limits f.live m) join)
 
-  effect_by : (g : Graph) → Agrees h g → (x : Result Bool Refusal) → r ≡ x → effect_of (room_for h c) g m c ≡ (x >>= λ b. admitted_effect (room_for h c) g m c)
-  effect_by g a x e = effect_is h g a m c r told_here ∙ ap (λ (y : Result Bool Refusal). y >>= λ b. admitted_effect (room_for h c) g m c) e
+  effect_by : (g : Graph) → Agrees h g → (x : Result (Unit {0}) Refusal) → r ≡ x → effect_of (room_for h c) g m c ≡ (x >>= λ b. admitted_effect (room_for h c) g m c)
+  effect_by g a x e = effect_is h g a m c r told_here ∙ ap (λ (y : Result (Unit {0}) Refusal). y >>= λ b. admitted_effect (room_for h c) g m c) e
 
-  pub admitted_steps : (ok : Bool) → r ≡ Ok ok → (planned : Result Planned Refusal) → IsPlan h m c planned → (reply : Reply) (after : HeapState) → CommitsEach h planned reply after → Steps h m c reply after
+  pub admitted_steps : (ok : Unit {0}) → r ≡ Ok ok → (planned : Result Planned Refusal) → IsPlan h m c planned → (reply : Reply) (after : HeapState) → CommitsEach h planned reply after → Steps h m c reply after
   admitted_steps ok e planned plans reply after each =
       steps_by h m c reply after (λ g a. subst (λ (d : Result (Reply × Change) Refusal). Commits h g d reply after) (sym (effect_by g a (Ok ok) e)) (each g (admitted_effect (room_for h c) g m c) a (plans g a)))
 
-  pub admitted_reply : (ok : Bool) → r ≡ Ok ok → (planned : Result Planned Refusal) → IsPlan h m c planned → (g : Graph) → Agrees h g → planned_reply planned ≡ reply_of (room_for h c) g m c
+  pub admitted_reply : (ok : Unit {0}) → r ≡ Ok ok → (planned : Result Planned Refusal) → IsPlan h m c planned → (g : Graph) → Agrees h g → planned_reply planned ≡ reply_of (room_for h c) g m c
   unfolding reply_of
   admitted_reply ok e planned plans g a =
       reply_planned h g (admitted_effect (room_for h c) g m c) planned (plans g a) ∙ sym (ap (λ (d : Result (Reply × Change) Refusal). (settled d).0) (effect_by g a (Ok ok) e))

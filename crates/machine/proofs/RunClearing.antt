@@ -59,7 +59,7 @@ slot_behind l m s root n e below =
     slot_there l m (s + n) p.0 below ∙ ap Ok sum
 
 -- a slot of a mutator that may ask is cleared
-clears_one : (h : HeapState) → IsHeap h → (m slot cell : ℕ) (ok : Bool) → admitted_to h.limits h.live m false ≡ Ok ok → slot_at h.limits m slot ≡ Ok cell → cell < length h.roots
+clears_one : (h : HeapState) → IsHeap h → (m slot cell : ℕ) (ok : Unit {0}) → admitted_to h.limits h.live m false ≡ Ok ok → slot_at h.limits m slot ≡ Ok cell → cell < length h.roots
     → (after : HeapState) → DoesEach h (writes.Root cell 0) after → Steps h m (commands.Clear slot) replies.Done after
 clears_one h w m slot cell ok admitted place below after does =
     let p : Planned = record { reply = replies.Done; write = writes.Root cell 0 } in
@@ -68,7 +68,7 @@ clears_one h w m slot cell ok admitted place below after does =
     replies.Done after
     (commits_ok h p after (performs h h refl w (writes.Root cell 0) after does))
 
-module _ (h : HeapState) (w : IsHeap h) (m s root : ℕ) (ok : Bool) (admitted : admitted_to h.limits h.live m false ≡ Ok ok) (place : slot_at h.limits m s ≡ Ok root) where
+module _ (h : HeapState) (w : IsHeap h) (m s root : ℕ) (ok : Unit {0}) (admitted : admitted_to h.limits h.live m false ≡ Ok ok) (place : slot_at h.limits m s ≡ Ok root) where
   clears_from : (n : ℕ) (k : HeapState) → Clears h root n k → s + n ≤ h.limits.slots → IsHeap k × StepsEach h m (λ i. commands.Clear (s + i)) (λ i. replies.Done) n k
   clears_from zero k Clears_none l = (w, refl)
   clears_from (suc n) k (Clears_next n0 j k0 c r) l =
@@ -95,7 +95,7 @@ module _ (h : HeapState) (w : IsHeap h) (m s root : ℕ) (ok : Bool) (admitted :
   clears_each n k c l = (clears_from n k c l).1
 
 -- where the first slot can't be cleared
-cut_short : {A B : Type 0} (x : Result Bool Refusal) (y : Result ℕ Refusal) (f : ℕ → A) (k : ℕ → B) (e : Refusal) → (x >>= λ ok. y >>= λ r. Ok (f r)) ≡ Err e → (x >>= λ ok. y >>= λ r. Ok (k r)) ≡ Err e
+cut_short : {A B : Type 0} (x : Result (Unit {0}) Refusal) (y : Result ℕ Refusal) (f : ℕ → A) (k : ℕ → B) (e : Refusal) → (x >>= λ ok. y >>= λ r. Ok (f r)) ≡ Err e → (x >>= λ ok. y >>= λ r. Ok (k r)) ≡ Err e
 cut_short (Ok ok) (Ok r) f k e is = absurd (cc)
 cut_short (Ok ok) (Err why) f k e is = let same : why ≡ e = cc in ap Err same
 cut_short (Err why) y f k e is = let same : why ≡ e = cc in ap Err same
@@ -114,11 +114,11 @@ clears_refused h m first result y e is same none =
         (subst (λ (l : Limits). slot_run l g.live m first ≡ Err e) a.limits (subst (λ (z : List Bool). slot_run h.limits z m first ≡ Err e) a.live none))
 
 pub not_admitted : (l : Limits) (live : List Bool) (m first : ℕ) (e : Refusal) → admitted_to l live m false ≡ Err e → slot_run l live m first ≡ Err e
-not_admitted l live m first e is = ap (λ (x : Result Bool Refusal). x >>= λ ok. slot_at l m first >>= λ r. Ok (l.slots - first)) is
+not_admitted l live m first e is = ap (λ (x : Result (Unit {0}) Refusal). x >>= λ ok. slot_at l m first >>= λ r. Ok (l.slots - first)) is
 
-pub no_slot : (l : Limits) (live : List Bool) (m first : ℕ) (ok : Bool) (e : Refusal) → admitted_to l live m false ≡ Ok ok → slot_at l m first ≡ Err e → slot_run l live m first ≡ Err e
+pub no_slot : (l : Limits) (live : List Bool) (m first : ℕ) (ok : Unit {0}) (e : Refusal) → admitted_to l live m false ≡ Ok ok → slot_at l m first ≡ Err e → slot_run l live m first ≡ Err e
 no_slot l live m first ok e admitted none =
-    ap (λ (x : Result Bool Refusal). x >>= λ b. slot_at l m first >>= λ r. Ok (l.slots - first)) admitted
+    ap (λ (x : Result (Unit {0}) Refusal). x >>= λ b. slot_at l m first >>= λ r. Ok (l.slots - first)) admitted
     ∙ ap (λ (x : Result ℕ Refusal). x >>= λ r. Ok (l.slots - first)) none
 
 -- no more slots are cleared than there are
@@ -126,7 +126,7 @@ row_within : (l : Limits) (m s root n : ℕ) → slot_at l m s ≡ Ok root → n
 row_within l m s root n place few = let p = slot_parts l m s root place in let small = p.1 in omega (arith, small, few)
 
 -- as many slots are cleared as were wanted, of the heap that is seen as the value t
-pub row_clears : (h t : HeapState) → h ≡ t → IsHeap h → (m s root : ℕ) (ok : Bool) → admitted_to h.limits h.live m false ≡ Ok ok → slot_at h.limits m s ≡ Ok root
+pub row_clears : (h t : HeapState) → h ≡ t → IsHeap h → (m s root : ℕ) (ok : Unit {0}) → admitted_to h.limits h.live m false ≡ Ok ok → slot_at h.limits m s ≡ Ok root
     → (n : ℕ) → n ≤ h.limits.slots - s → (k : HeapState) → Clears h root n k → StepsEach t m (λ i. commands.Clear (s + i)) (λ i. replies.Done) n k
 row_clears h t is w m s root ok admitted place n few k c =
     subst (λ (x : HeapState). StepsEach x m (λ i. commands.Clear (s + i)) (λ i. replies.Done) n k) is

@@ -1,5 +1,5 @@
 -- A run of words, from the cell that was found.
-use Rattle.std.proofs.Common.{◌≡◌, ℕ, ◌+◌, ◌-◌, ◌<◌, ◌≤◌, Bool, true, false, List, get_or, Result, Ok, Err, ap, ◌∙◌, sym, subst, arith}
+use Rattle.std.proofs.Common.{◌≡◌, ℕ, ◌+◌, ◌-◌, ◌<◌, ◌≤◌, true, false, List, get_or, Result, Ok, Err, ap, ◌∙◌, sym, subst, arith}
 use Rattle.graph_heap.specs.declared.command.Refusal.{Refusal}
 use Rattle.graph_heap.specs.declared.command.Command.TheVariants as commands
 use Rattle.graph_heap.specs.declared.command.Reply.{Reply}
@@ -29,7 +29,7 @@ use Rattle.machine.proofs.Replying.{refused_each}
 use Rattle.machine.proofs.Runs.{takes_here, row_shape, row_length, row_cell, row_alike}
 
 -- where no run is, the same refusal stands for each command that begins with the same tests
-cut_short : {A B : Type 0} (x : Result Bool Refusal) (y : Result ℕ Refusal) (z : ℕ → Result ℕ Refusal) (f : ℕ → A) (k : ℕ → ℕ → B) (e : Refusal)
+cut_short : {A B : Type 0} (x : Result (Unit {0}) Refusal) (y : Result ℕ Refusal) (z : ℕ → Result ℕ Refusal) (f : ℕ → A) (k : ℕ → ℕ → B) (e : Refusal)
     → (x >>= λ ok. y >>= λ r. z r >>= λ v. Ok (f r)) ≡ Err e → (x >>= λ ok. y >>= λ r. z r >>= λ v. Ok (k r v)) ≡ Err e
 cut_short (Ok ok) (Ok r) z f k e is = by_last (z r) is
   where
@@ -81,14 +81,14 @@ few_part : (shape : Shape) → fits shape ≡ true → (p : ℕ) → part_cells 
 few_part shape f p = let n = cells_of shape in count_small n (pieces_of n) (spines_of n) (pieces_are n) (spines_are n) p (few_pieces n (few_cells shape f))
 
 -- mutator m may ask, by the fields h that are seen as the value t
-module _ (h t : HeapState) (is : h ≡ t) (w : IsHeap h) (m obj first root : ℕ) (ok : Bool) (admitted : admitted_to h.limits h.live m false ≡ Ok ok) (place : Ok root ≡ slot_at h.limits m obj) where
+module _ (h t : HeapState) (is : h ≡ t) (w : IsHeap h) (m obj first root : ℕ) (ok : Unit {0}) (admitted : admitted_to h.limits h.live m false ≡ Ok ok) (place : Ok root ≡ slot_at h.limits m obj) where
   -- the run by what the word is
   run_by : (g : Graph) → Agrees h g → (word : Result ℕ Refusal) → word_at g.objects (get_or g.roots root 0) first ≡ word
       → word_run g m obj first ≡ (word >>= λ v. Ok (words_from (object_of g.objects (get_or g.roots root 0)).shape first))
   run_by g a word e =
       ap (λ (l : Limits). admitted_to l g.live m false >>= λ b. slot_at l m obj >>= λ r. word_at g.objects (get_or g.roots r 0) first >>= λ v. Ok (words_from (object_of g.objects (get_or g.roots r 0)).shape first)) (sym a.limits)
       ∙ ap (λ z. admitted_to h.limits z m false >>= λ b. slot_at h.limits m obj >>= λ r. word_at g.objects (get_or g.roots r 0) first >>= λ v. Ok (words_from (object_of g.objects (get_or g.roots r 0)).shape first)) (sym a.live)
-      ∙ ap (λ z. z >>= λ (b : Bool). slot_at h.limits m obj >>= λ r. word_at g.objects (get_or g.roots r 0) first >>= λ v. Ok (words_from (object_of g.objects (get_or g.roots r 0)).shape first)) admitted
+      ∙ ap (λ z. z >>= λ (b : Unit {0}). slot_at h.limits m obj >>= λ r. word_at g.objects (get_or g.roots r 0) first >>= λ v. Ok (words_from (object_of g.objects (get_or g.roots r 0)).shape first)) admitted
       ∙ ap (λ z. z >>= λ r. word_at g.objects (get_or g.roots r 0) first >>= λ v. Ok (words_from (object_of g.objects (get_or g.roots r 0)).shape first)) (sym place)
       ∙ ap (λ z. z >>= λ v. Ok (words_from (object_of g.objects (get_or g.roots root 0)).shape first)) e
 
@@ -136,7 +136,6 @@ module _ (h t : HeapState) (is : h ≡ t) (w : IsHeap h) (m obj first root : ℕ
         let below : first < word_cells (object_of g.objects k).shape = subst (λ n. first < n) (a.given k there.1.0).cells.words there.1.1.below in
         let many_here = count_is g a in
         record {
-          ok = ok;
           admitted = admitted;
           root = root;
           place = place;

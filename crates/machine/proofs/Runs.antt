@@ -181,7 +181,7 @@ module _ (h : HeapState) (w : IsHeap h) (m obj first : ℕ) (run : Run) (has : H
     pub run_gets : (word : ℕ) → word ≡ get_or (record_of h.store run.at.block).cells (run.at.index + j) 0 → Steps h m (commands.Get obj (first + j)) (replies.Word word) h
     run_gets word e =
         let p : Planned = record { reply = replies.Word word; write = writes.Nothing } in
-        admitted_steps h h refl m (commands.Get obj (first + j)) false refl (admitted_to h.limits h.live m false) refl has.ok has.admitted (Ok p)
+        admitted_steps h h refl m (commands.Get obj (first + j)) false refl (admitted_to h.limits h.live m false) refl tt has.admitted (Ok p)
         (λ g a. let there = run_finds g a j l in
         reply_plans h g m (commands.Get obj (first + j)) (replies.Word word) p refl
         (get_effect h g a m obj (first + j) has.root word (cell_behind run.at j) has.place there
@@ -197,7 +197,7 @@ module _ (h : HeapState) (w : IsHeap h) (m obj first : ℕ) (run : Run) (has : H
       pub run_puts : (after : HeapState) → DoesEach h (writes.Word (cell_behind run.at j) word) after → Steps h m (commands.Put obj (first + j) word) replies.Done after
       run_puts after does =
           let p : Planned = record { reply = replies.Done; write = writes.Word (cell_behind run.at j) word } in
-          admitted_steps h h refl m (commands.Put obj (first + j) word) false refl (admitted_to h.limits h.live m false) refl has.ok has.admitted (Ok p)
+          admitted_steps h h refl m (commands.Put obj (first + j) word) false refl (admitted_to h.limits h.live m false) refl tt has.admitted (Ok p)
           (λ g a. let there = run_finds g a j l in
           word_plans h g m (commands.Put obj (first + j) word) replies.Done (get_or g.roots has.root 0) (first + j) word (cell_behind run.at j)
           (put_effect h g a m obj (first + j) word has.root (cell_behind run.at j) has.place there) there)
@@ -251,7 +251,6 @@ module _ (h : HeapState) (w : IsHeap h) (m obj first : ℕ) (run : Run) (has : H
               cells = λ k b. cell_still o (object_of (changed w.present change).objects id) k (first + k) shape words (here.cells k b);
             } in
             record {
-              ok = has.ok;
               admitted = has.admitted;
               root = has.root;
               place = has.place;

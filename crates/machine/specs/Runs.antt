@@ -75,8 +75,7 @@ pub record IsWordRow (h : HeapState) (g : Graph) (id first : ℕ) (run : Run) : 
 
 -- mutator m may ask for words of the object in a slot, which stand in a row
 pub record HasRun (h : HeapState) (m obj first : ℕ) (run : Run) : Type 0 where
-  pub ok : Bool
-  pub admitted : admitted_to h.limits h.live m false ≡ Ok ok
+  pub admitted : admitted_to h.limits h.live m false ≡ Ok tt
   pub root : ℕ
   pub place : Ok root ≡ slot_at h.limits m obj
   pub row : (g : Graph) → Agrees h g → IsWordRow h g (slice_index g.roots root) first run

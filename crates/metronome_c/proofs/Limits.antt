@@ -1,15 +1,14 @@
 -- The limit of a configuration is that of the heaps that are made of it.
-use Rattle.std.proofs.Common.{◌≡◌, ℕ, ◌+◌, ◌-◌, ◌*◌, ◌/◌, length, ap, ◌∙◌, sym, subst, refl}
+use Rattle.std.proofs.Common.{◌≡◌, ℕ, ◌+◌, ◌-◌, ◌*◌, length, ap, ◌∙◌, sym, subst, refl}
 use Rattle.std.specs.Prelude.{Option, Some, None}
 use Rattle.std.proofs.lemmas.List.{length-replicate}
 use Rattle.graph_heap.specs.Graph.{root_cells}
-use Rattle.size_classes.specs.declared.class.TheConstants.{CLASSES, PAGE_WORDS}
-use Rattle.size_classes.specs.declared.config.TheConstants.{LEAST_BUDGET}
 use Rattle.size_classes.specs.declared.config.Config.{Config}
 use Rattle.size_classes.specs.declared.fault.ConfigFault.{ConfigFault}
 use Rattle.size_classes.specs.declared.settings.Settings.{Settings}
 use Rattle.size_classes.specs.declared.ranges.Ranges.TheVariants.{Library}
 use Rattle.size_classes.specs.Config.{cycle_limit_of, fault_of, IsOf}
+use Rattle.size_classes.specs.Cycle.{cycle_units, quanta_for}
 use Rattle.heap_model.specs.State.{HeapState}
 use Rattle.heap_model.specs.Settings.{HeapSettings, settings_of, settings_by}
 use Rattle.heap_model.specs.Opening.{IsOpening}
@@ -21,21 +20,17 @@ use Rattle.metronome_c.specs.declared.status.Status.TheVariants.{Done}
 use Rattle.metronome_c.specs.Limit.{limit_of, quanta_of, LimitsUnless, TellsLimit}
 use Rattle.metronome_c.specs.Status.{status_number, fault_status}
 
-limit_by : (roots pages defrag : ℕ) (c : Config) → roots ≡ c.mutators * c.slots + c.statics → pages ≡ c.pages → defrag ≡ c.defrag_pages
-    → roots + 3 * (PAGE_WORDS * pages) + (defrag + CLASSES) * pages + 4 ≡ cycle_limit_of c
-limit_by roots pages defrag c r p d = ap (λ z. z + 3 * (PAGE_WORDS * pages) + (defrag + CLASSES) * pages + 4) r
-    ∙ ap (λ z. c.mutators * c.slots + c.statics + 3 * (PAGE_WORDS * z) + (defrag + CLASSES) * z + 4) p
-    ∙ ap (λ z. c.mutators * c.slots + c.statics + 3 * (PAGE_WORDS * c.pages) + (z + CLASSES) * c.pages + 4) d
-
 module _ (c : Config) (h : HeapState) (o : IsOpening h) (same : settings_of h ≡ settings_by c) where
   roots : length h.roots ≡ c.mutators * c.slots + c.statics
   roots = ap length o.roots ∙ length-replicate (root_cells h.limits) 0 ∙ ap (λ (s : HeapSettings). root_cells s.limits) same
 
   pub same_units : cycle_limit_of c ≡ cycle_limit h
-  same_units = sym (limit_by (length h.roots) (length h.store.pages) h.defrag_pages c roots (configured.pages c h o same) (configured.defrag c h o same))
+  same_units = sym (ap (λ z. cycle_units z (length h.store.pages) h.defrag_pages) roots
+      ∙ ap (λ z. cycle_units (c.mutators * c.slots + c.statics) z h.defrag_pages) (configured.pages c h o same)
+      ∙ ap (cycle_units (c.mutators * c.slots + c.statics) c.pages) (configured.defrag c h o same))
 
   pub same_quanta : quanta_of c ≡ most_quanta h (c.collector_ticks * c.rate)
-  same_quanta = ap (λ z. z / (c.collector_ticks * c.rate - (LEAST_BUDGET - 1)) + 1) same_units
+  same_quanta = ap (λ z. quanta_for z (c.collector_ticks * c.rate)) same_units
 
 -- C is told the limit, or the first fault of the settings
 pub limit_told : (s : Settings) (c : Config) (before after : CycleLimit) (n : ℕ) → None ≡ fault_of Library s → IsOf s c → after ≡ limit_of c → n ≡ status_number Done → TellsLimit s before after n

@@ -3,7 +3,7 @@ use Rattle.std.proofs.Common.{◌≡◌, ◌==◌, ◌∙◌, ℕ, true, false, 
 use Rattle.std.specs.Prelude.{Option, Some, None, Result, Ok, Err}
 use Rattle.std.specs.Option.{is_some}
 use Rattle.heap_model.specs.State.{HeapState}
-use Rattle.heap_shared.specs.declared.member.NoMember.{NoMember}
+use Rattle.heap_shared.specs.declared.fault.NoMember.{NoMember}
 use Rattle.heap_shared.specs.Members.{MemberView, Finds, Adds}
 use Rattle.metronome_c.specs.declared.status.Status.{Status}
 use Rattle.metronome_c.specs.declared.status.Status.TheVariants.{Done, Open, Closed, BadHandle, Outside}

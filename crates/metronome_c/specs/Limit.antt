@@ -1,18 +1,18 @@
 -- What a cycle takes at most.
-use Rattle.std.specs.Prelude.{◌≡◌, ℕ, ◌+◌, ◌-◌, ◌*◌, ◌/◌, Option, Some, None}
+use Rattle.std.specs.Prelude.{◌≡◌, ℕ, ◌*◌, Option, Some, None}
 use Rattle.size_classes.specs.declared.settings.Settings.{Settings}
 use Rattle.size_classes.specs.declared.config.Config.{Config}
-use Rattle.size_classes.specs.declared.config.TheConstants.{LEAST_BUDGET}
 use Rattle.size_classes.specs.declared.fault.ConfigFault.{ConfigFault}
 use Rattle.size_classes.specs.declared.ranges.Ranges.TheVariants.{Library}
 use Rattle.size_classes.specs.Config.{fault_of, IsOf, cycle_limit_of}
+use Rattle.size_classes.specs.Cycle.{quanta_for}
 use Rattle.metronome_c.specs.declared.limit.CycleLimit.{CycleLimit}
 use Rattle.metronome_c.specs.declared.status.Status.TheVariants.{Done}
 use Rattle.metronome_c.specs.Status.{status_number, fault_status}
 
--- the quanta of a configuration's schedule that a cycle takes at most: each may leave 255 units of its budget
+-- the quanta of a configuration's schedule that a cycle takes at most
 abbrev pub quanta_of : Config → ℕ
-quanta_of c = cycle_limit_of c / (c.collector_ticks * c.rate - (LEAST_BUDGET - 1)) + 1
+quanta_of c = quanta_for (cycle_limit_of c) (c.collector_ticks * c.rate)
 
 -- the units that a cycle takes at most in a heap of a configuration, and the quanta of its schedule
 abbrev pub limit_of : Config → CycleLimit

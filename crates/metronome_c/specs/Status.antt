@@ -9,12 +9,12 @@ use Rattle.size_classes.specs.declared.key.TheConstants.Key.{ALL}
 use Rattle.size_classes.specs.Keys.{name_of}
 use Rattle.size_classes.specs.declared.fault.ConfigFault.{ConfigFault}
 use Rattle.size_classes.specs.declared.fault.ConfigFault.TheVariants as faults
-use Rattle.heap_shared.specs.declared.member.NoTurn.{NoTurn}
-use Rattle.heap_shared.specs.declared.member.NoTurn.TheVariants as turns
-use Rattle.heap_shared.specs.declared.member.NotDone.{NotDone}
-use Rattle.heap_shared.specs.declared.member.NotDone.TheVariants as undone
-use Rattle.heap_shared.specs.declared.member.NoMember.{NoMember}
-use Rattle.heap_shared.specs.declared.member.NoMember.TheVariants as members
+use Rattle.heap_shared.specs.declared.fault.NoTurn.{NoTurn}
+use Rattle.heap_shared.specs.declared.fault.NoTurn.TheVariants as turns
+use Rattle.heap_shared.specs.declared.fault.NotDone.{NotDone}
+use Rattle.heap_shared.specs.declared.fault.NotDone.TheVariants as undone
+use Rattle.heap_shared.specs.declared.fault.NoMember.{NoMember}
+use Rattle.heap_shared.specs.declared.fault.NoMember.TheVariants as members
 use Rattle.metronome_c.specs.declared.status.Status.{Status}
 use Rattle.metronome_c.specs.declared.status.Status.TheVariants as statuses
 use Rattle.metronome_c.specs.declared.status.TheConstants.Status.{BEFORE_SETTINGS, BEHIND_SETTINGS}

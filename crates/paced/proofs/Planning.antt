@@ -6,7 +6,8 @@ use Rattle.std.proofs.Math.Nat.{div-mul-le_self, mul-le-mul_left, mul-le-mul_rig
 use Rattle.size_classes.specs.declared.class.TheConstants.{PAGE_WORDS}
 use Rattle.size_classes.specs.declared.config.Config.{Config}
 use Rattle.fragmentation.specs.declared.flow.TheConstants.{LEAST_PAGE_FILL, PARTLY_FILLED_PAGES}
-use Rattle.fragmentation.specs.Flow.{Flow, classes_made, live_most, sweep_units, full_quanta, marked_quanta, sweep_quanta, flow_moving, flow_quanta, FlowFitsOn}
+use Rattle.size_classes.specs.Cycle.{sweep_units, unmoved_quanta}
+use Rattle.fragmentation.specs.Flow.{Flow, classes_made, live_most, marked_quanta, sweep_quanta, flow_moving, flow_quanta, FlowFitsOn}
 use Rattle.fragmentation.specs.Configured.{roots_in}
 use Rattle.paced.specs.declared.plan.Plan.{Plan}
 use Rattle.paced.specs.Rooms.{flow_for}
@@ -155,7 +156,7 @@ module _ (makes : ℕ → Bool) (classes : ℕ) (made : classes_made makes ≡ c
           both : (a b : ℕ) → 1 ≤ a → 1 ≤ b → 1 * 1 ≤ a * b
           both a b l m = let x = mul-le-mul_right b l in omega (arith, x, m)
 
-          least : (b : Bool) → 1 ≤ (if b then min (full_quanta (roots_in c) pages k) (marked_quanta (flow_for makes live plan) (roots_in c) pages k) else full_quanta (roots_in c) pages k)
+          least : (b : Bool) → 1 ≤ (if b then min (unmoved_quanta (roots_in c) pages k) (marked_quanta (flow_for makes live plan) (roots_in c) pages k) else unmoved_quanta (roots_in c) pages k)
           least true = le-min (omega arith) (omega arith)
           least false = omega arith
 

@@ -3,7 +3,8 @@ ghost use Rattle.std.specs.Prelude.{◌≡◌, ℕ, ◌+◌, ◌*◌, ◌/◌, �
 ghost use Rattle.size_classes.specs.declared.config.TheConstants.{MOST_HEAP_PAGES};
 ghost use Rattle.size_classes.specs.declared.class.TheConstants.{PAGE_WORDS};
 ghost use Rattle.fragmentation.specs.declared.flow.TheConstants.{LEAST_PAGE_FILL};
-ghost use Rattle.fragmentation.specs.Flow.{sweep_units, sweep_quanta, flow_moving};
+ghost use Rattle.size_classes.specs.Cycle.{sweep_units};
+ghost use Rattle.fragmentation.specs.Flow.{sweep_quanta, flow_moving};
 ghost use Rattle.fragmentation.specs.Configured.{roots_in};
 ghost use Rattle.paced.specs.declared.plan.Plan.{Plan as PlanView};
 ghost use Rattle.paced.specs.Rooms.{flow_for};

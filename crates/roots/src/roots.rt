@@ -1,5 +1,5 @@
 //! Slots and statics in one row.
-ghost use Rattle.std.specs.Prelude.{◌≡◌, ◌<◌, ◌≤◌, ◌^◌, length, replicate, slice_index, slice_set, IfOk};
+ghost use Rattle.std.specs.Prelude.{◌≡◌, ◌<◌, ◌≤◌, ◌^◌, length, replicate, slice_index, slice_set, IfOk, OnOk};
 ghost use Rattle.graph_heap.specs.Graph.{root_cells, live_first};
 ghost use Rattle.graph_heap.specs.Effect.{slot_at, static_at, admitted_to};
 ghost use Rattle.size_classes.specs.Config.{limits_of};
@@ -58,9 +58,9 @@ impl Roots {
     /// Whether a mutator may ask: for Join (`joins`) it has to be one that isn't live, and for all else
     /// one that is. Refused: BadSlot where there is no such mutator, NotLive, AlreadyLive, in this order.
     #[inline(always)]
-    pub fn admit(&self, mutator: u32, joins: bool) -> Result<bool, Refusal>
+    pub fn admit(&self, mutator: u32, joins: bool) -> Result<(), Refusal>
         ensures admitted { result ≡ admitted_to self.now.limits self.now.live mutator joins }
-        ensures below { IfOk result (λ ok. mutator < self.now.limits.mutators) }
+        ensures below { OnOk result (mutator < self.now.limits.mutators) }
     {
         admit(&self.limits, self.live.as_slice(), mutator, joins)
     }

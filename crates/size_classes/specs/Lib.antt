@@ -3,3 +3,4 @@ pub mod Parts
 pub mod Need
 pub mod Keys
 pub mod Config
+pub mod Cycle

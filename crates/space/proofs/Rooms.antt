@@ -114,11 +114,11 @@ others_roomless : (room : Bool) (g : Graph) (m : ℕ) (c : Command) → (IsNew c
 others_roomless room g m c n = bind_roomless (admitted g m c) (λ ok. admitted_effect room g m c) (admitted_other g m c) (λ ok. admitted_roomless room g m c n)
 
 -- a new object's reply, with and without room
-abbrev pub new_effect : Result Bool Refusal → Result ℕ Refusal → Result Shape Refusal → Result ℕ Refusal → Shape → Bool → Result (Reply × Change) Refusal
+abbrev pub new_effect : Result (Unit {0}) Refusal → Result ℕ Refusal → Result Shape Refusal → Result ℕ Refusal → Shape → Bool → Result (Reply × Change) Refusal
 new_effect a s f n shape room = a >>= λ ok. s >>= λ d. f >>= λ fit. n >>= λ id. with_room room >>= λ has. Ok (replies.Made id, changes.New d id shape)
 
 -- a new object asks for no more than its shape needs
-new_asks : (l : Result Bool Refusal) (s : Result ℕ Refusal) (f : Result Shape Refusal) (i : Result ℕ Refusal) (shape : Shape) (k : ℕ) → asked_by (settled (new_effect l s f i shape true)).1 k ≤ needed shape k
+new_asks : (l : Result (Unit {0}) Refusal) (s : Result ℕ Refusal) (f : Result Shape Refusal) (i : Result ℕ Refusal) (shape : Shape) (k : ℕ) → asked_by (settled (new_effect l s f i shape true)).1 k ≤ needed shape k
 new_asks (Err e) s f i shape k = omega arith
 new_asks (Ok l) (Err e) f i shape k = omega arith
 new_asks (Ok l) (Ok d) (Err e) i shape k = omega arith
@@ -128,7 +128,7 @@ new_asks (Ok l) (Ok d) (Ok o) (Ok id) shape k = omega arith
 none_asked : (g : Graph) (m : ℕ) (c : Command) (k : ℕ) → (IsNew c → ⊥) → asked_for g m c k ≤ 0
 none_asked g m c k n = let z = (others_roomless true g m c n).1 k in omega (arith, z)
 
-none_asks : (l : Result Bool Refusal) (s : Result ℕ Refusal) (i : Result ℕ Refusal) (shape : Shape) (k : ℕ) → asked_by (settled (new_effect l s (Err refusals.TooLarge) i shape true)).1 k ≤ 0
+none_asks : (l : Result (Unit {0}) Refusal) (s : Result ℕ Refusal) (i : Result ℕ Refusal) (shape : Shape) (k : ℕ) → asked_by (settled (new_effect l s (Err refusals.TooLarge) i shape true)).1 k ≤ 0
 none_asks (Err e) s i shape k = omega arith
 none_asks (Ok l) (Err e) i shape k = omega arith
 none_asks (Ok l) (Ok d) i shape k = omega arith

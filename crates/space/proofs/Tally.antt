@@ -107,7 +107,7 @@ pub change_count : (h after : HeapState) (g : Graph) (c : Change) → DoesChange
 change_count h after g c does = ap (λ (s : HeapSettings). s.pages) (change_settings h after g c does)
 
 -- with room for what it needs, a new object isn't refused for lack of space
-pub new_has_room : (l : Result Bool Refusal) (s : Result ℕ Refusal) (f : Result Shape Refusal) (n : Result ℕ Refusal) (shape : Shape) → IsOther l → IsOther s → IsOther f → IsOther n → (room : Bool)
+pub new_has_room : (l : Result (Unit {0}) Refusal) (s : Result ℕ Refusal) (f : Result Shape Refusal) (n : Result ℕ Refusal) (shape : Shape) → IsOther l → IsOther s → IsOther f → IsOther n → (room : Bool)
     → (((k : ℕ) → asked_by (settled (new_effect l s f n shape true)).1 k ≡ needed shape k) → room ≡ true)
     → (had_room (settled (new_effect l s f n shape room)).0 ≡ true) × ((settled (new_effect l s f n shape room)).1 ≡ (settled (new_effect l s f n shape true)).1)
 new_has_room (Err e) s f n shape z a b c room h = (z, refl)

@@ -1,9 +1,8 @@
 -- Whether a configuration has enough pages.
-use Rattle.std.specs.Prelude.{◌≡◌, ℕ, ◌+◌, ◌-◌, ◌*◌, ◌/◌, ◌<◌, ◌≤◌, Bool, ◌==◌, nat_le, if◌then◌else◌, slice_index, Option, Some, None}
-use Rattle.size_classes.specs.declared.class.TheConstants.{CLASSES, PAGE_WORDS}
+use Rattle.std.specs.Prelude.{◌≡◌, ℕ, ◌+◌, ◌*◌, ◌<◌, ◌≤◌, Bool, ◌==◌, nat_le, if◌then◌else◌, slice_index, Option, Some, None}
 use Rattle.size_classes.specs.declared.config.Config.{Config}
-use Rattle.size_classes.specs.declared.config.TheConstants.{LEAST_BUDGET, MOST_PAGES}
-use Rattle.size_classes.specs.Sizes.{blocks_in}
+use Rattle.size_classes.specs.declared.config.TheConstants.{MOST_PAGES}
+use Rattle.size_classes.specs.Cycle.{moved_quanta, unmoved_quanta}
 use Rattle.space.specs.declared.fitting.Needs.{Needs}
 use Rattle.space.specs.declared.pace.Pace.{Pace as PaceTable}
 use Rattle.space.specs.Demand.{Demand}
@@ -26,34 +25,14 @@ Fits c d = space_for d (spare_in c) ≤ c.pages
 abbrev pub below_in : Config → ℕ
 below_in c = if c.defrag_pages == 0 then 0 else c.defrag_below
 
--- the units that roots, marking and sweeping spend at most, in a heap of a configuration with this many pages: one for
--- each root cell and each word; for each page as many as one of the smallest class has blocks, and one; as many blocks
--- once more, and four where phases change
-abbrev pub swept_at : Config → ℕ → ℕ
-swept_at c pages =
-    c.mutators * c.slots + c.statics + PAGE_WORDS * pages + (blocks_in 0 + 1) * pages + (blocks_in 0 + 4)
-
--- the units that moving spends at most on this many pages, of which a cycle may empty so many: a look at every page for
--- each class and each page that may be chosen, the words of all pages, and one more
-abbrev pub moving_at : ℕ → ℕ → ℕ
-moving_at pages emptied = (emptied + CLASSES) * pages + PAGE_WORDS * pages + 1
-
--- of a cycle on this many pages, of which it may empty so many, the quanta that end in moving, at most
-abbrev pub ended_at : Config → ℕ → ℕ → ℕ
-ended_at c pages emptied = moving_at pages emptied / (c.collector_ticks * c.rate - (LEAST_BUDGET - 1)) + 1
-
--- the quanta of its schedule that a cycle takes at most on this many pages, of which it may empty so many: those that end
--- in moving may leave 255 units of their budgets
+-- the quanta of its schedule that a cycle takes at most on this many pages, of which it may empty so many
 abbrev pub moved_quanta_at : Config → ℕ → ℕ → ℕ
 moved_quanta_at c pages emptied =
-    (swept_at c pages + moving_at pages emptied + (LEAST_BUDGET - 1) * ended_at c pages emptied)
-    / (c.collector_ticks * c.rate)
-    + 1
+    moved_quanta (c.mutators * c.slots + c.statics) pages emptied (c.collector_ticks * c.rate)
 
--- the quanta that a cycle takes at most where moving never begins: each action costs one unit, so that a quantum
--- spends its whole budget
+-- the quanta of its schedule that a cycle takes at most on this many pages where moving never begins
 abbrev pub unmoved_quanta_at : Config → ℕ → ℕ
-unmoved_quanta_at c pages = swept_at c pages / (c.collector_ticks * c.rate) + 1
+unmoved_quanta_at c pages = unmoved_quanta (c.mutators * c.slots + c.statics) pages (c.collector_ticks * c.rate)
 
 -- the pages that a pace takes in a heap that has this many, with those that moving may leave sparse
 abbrev pub moved_pages : Config → Pace → ℕ → ℕ

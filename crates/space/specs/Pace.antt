@@ -1,13 +1,13 @@
 -- A pace: how many blocks are asked for while the collector does a quantum's work.
-use Rattle.std.specs.Prelude.{ℕ, ◌+◌, ◌-◌, ◌*◌, ◌/◌, ◌<◌, ◌≤◌, Bool, true, false, if◌then◌else◌, List, [], ◌∷◌, length}
+use Rattle.std.specs.Prelude.{ℕ, ◌+◌, ◌*◌, ◌<◌, ◌≤◌, Bool, true, false, if◌then◌else◌, List, [], ◌∷◌, length}
 use Rattle.graph_heap.specs.declared.command.Limits.{Limits}
 use Rattle.graph_heap.specs.Graph.{Graph, opening}
 use Rattle.graph_heap.specs.History.{after_entry}
 use Rattle.size_classes.specs.declared.class.TheConstants.{CLASSES}
+use Rattle.size_classes.specs.Cycle as cycle
 use Rattle.heap_model.specs.declared.phase.Phase.{Phase}
 use Rattle.heap_model.specs.declared.phase.Phase.TheVariants as phases
 use Rattle.heap_model.specs.State.{HeapState}
-use Rattle.heap_model.specs.Spent.{arena_words, swept_units}
 use Rattle.heap_model.specs.Event.{Event, Command_done, Cycle_begun, Begin_refused, Quantum_done, Quantum_refused}
 use Rattle.space.specs.Demand.{Demand, LiveWithin, asked_for}
 
@@ -62,20 +62,17 @@ abbrev pub AllKeepPace : Pace → ℕ → Beat → List Event → Type 0
 AllKeepPace p k b [] = Unit {0}
 AllKeepPace p k b (e ∷ es) = KeepsPace p k b e × AllKeepPace p k (next_beat b e) es
 
--- the units that moving spends at most: a look at every page for each class and each page that may be chosen, and the
--- words of the arena
+-- the units that moving spends at most
 abbrev pub moving_units : HeapState → ℕ
-moving_units h = (h.defrag_pages + CLASSES) * length h.store.pages + arena_words h + 1
+moving_units h = cycle.moving_units (length h.store.pages) h.defrag_pages
 
--- The quanta of budgets of at least k that a cycle takes at most. Only one that ends in moving may leave a part of its
--- budget, 255 units at most, and no more of them end there than moving takes, and one.
+-- the quanta of budgets of at least k that a cycle takes at most
 abbrev pub moved_quanta : HeapState → ℕ → ℕ
-moved_quanta h k = (swept_units h + moving_units h + 255 * (moving_units h / (k - 255) + 1)) / k + 1
+moved_quanta h = cycle.moved_quanta (length h.roots) (length h.store.pages) h.defrag_pages
 
--- the quanta of budgets of at least k that a cycle takes at most where moving never begins: each action costs one unit,
--- so that a quantum spends its whole budget
+-- the quanta of budgets of at least k that a cycle takes at most where moving never begins
 abbrev pub unmoved_quanta : HeapState → ℕ → ℕ
-unmoved_quanta h k = swept_units h / k + 1
+unmoved_quanta h = cycle.unmoved_quanta (length h.roots) (length h.store.pages)
 
 -- the demand of a pace where a cycle takes at most this many quanta: that of two cycles, and of the time
 -- between them

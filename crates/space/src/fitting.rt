@@ -1,13 +1,14 @@
 //! Whether a configuration has enough pages, so that no new object is refused for lack of space.
-ghost use Rattle.std.specs.Prelude.{◌≡◌, ◌+◌, ◌≤◌, ◌↔◌, IsTrue};
-ghost use Rattle.space.specs.Fitting.{pace_in, spare_in, below_in, swept_at, moving_at, moved_quanta_at, unmoved_quanta_at};
+ghost use Rattle.std.specs.Prelude.{◌≡◌, ◌+◌, ◌*◌, ◌≤◌, ◌↔◌, IsTrue};
+ghost use Rattle.size_classes.specs.Cycle.{swept_units, moving_units};
+ghost use Rattle.space.specs.Fitting.{pace_in, spare_in, below_in, moved_quanta_at, unmoved_quanta_at};
 ghost use Rattle.space.specs.Fitting.{IsNeeded, FitsIn, IsLeast};
 ghost use Rattle.space.specs.Pace.{demand_of};
 ghost use Rattle.space.specs.Space.{space_for};
 ghost use Rattle.size_classes.specs.declared.config.TheConstants.{MOST_HEAP_PAGES};
 
 use crate::pace::{MOST_QUANTA, MOST_UNMOVED_QUANTA, Pace};
-use size_classes::{CLASSES, Class, Config, LEAST_BUDGET, MOST_PAGES, PAGE_WORDS};
+use size_classes::{CLASSES, Config, LEAST_BUDGET, MOST_BLOCKS, MOST_PAGES, PAGE_WORDS};
 
 /// How many pages may be left sparse: as many as a cycle may empty, and none where blocks are never moved.
 pub fn spare(config: &Config) -> u32
@@ -34,13 +35,13 @@ pub fn below(config: &Config) -> u32
 /// The units that roots, marking and sweeping spend at most, in a heap of the configuration with this many pages.
 fn swept(config: &Config, pages: u32) -> u64
     requires { pages ≤ MOST_HEAP_PAGES }
-    ensures swept { result ≡ swept_at config.now pages }
+    ensures swept { result ≡ swept_units (config.now.mutators * config.now.slots + config.now.statics) pages }
     ensures within { result ≤ 2_700_000_000 }
 {
     let count = u64::from(pages);
     let roots = u64::from(config.root_cells());
     let arena = u64::from(PAGE_WORDS) * count;
-    let most = u64::from(Class::new(0).blocks_per_page());
+    let most = u64::from(MOST_BLOCKS);
     roots + arena + (most + 1) * count + (most + 4)
 }
 
@@ -48,7 +49,7 @@ fn swept(config: &Config, pages: u32) -> u64
 fn moving(pages: u32, emptied: u32) -> u64
     requires pages { pages ≤ MOST_HEAP_PAGES }
     requires emptied { emptied ≤ MOST_HEAP_PAGES }
-    ensures moving { result ≡ moving_at pages emptied }
+    ensures moving { result ≡ moving_units pages emptied }
     ensures within { result ≤ 1_102_000_000_000 }
 {
     let count = u64::from(pages);

@@ -15,7 +15,8 @@ use Rattle.heap_model.specs.Phases.{awaits_sweep_end}
 use Rattle.space.specs.Placement.{IsTidy}
 use Rattle.space.proofs.Paces.Spending.{same_swept, swept_kept, few_quanta}
 use Rattle.fragmentation.specs.Season.{Season, Lives, made_since}
-use Rattle.fragmentation.specs.Flow.{words_of, Flow, FlowMeter, allowed_words, traced_words, live_most, sweep_units, full_quanta, marked_quanta, sweep_quanta}
+use Rattle.size_classes.specs.Cycle.{sweep_units, unmoved_quanta}
+use Rattle.fragmentation.specs.Flow.{words_of, Flow, FlowMeter, allowed_words, traced_words, live_most, marked_quanta, sweep_quanta}
 use Rattle.fragmentation.proofs.Flows.Kept.{FitsFlow, IsFlowing}
 use Rattle.fragmentation.proofs.Flows.Marking.{marking_few}
 use Rattle.fragmentation.proofs.Flows.Spending.{live_few, same_roots, swept_few}
@@ -82,7 +83,7 @@ module _ (h : HeapState) (f : Flow) (k : ℕ) (great : 0 < k) (live : Lives) (li
         at : awaits_sweep_end r.heap.phase ≡ true
         at = sym i.awaiting_sweep_end ∙ on
 
-        all_pages : t.quanta + 1 ≤ full_quanta (length h.roots) (length h.store.pages) k
+        all_pages : t.quanta + 1 ≤ unmoved_quanta (length h.roots) (length h.store.pages) k
         all_pages =
             let l = swept_kept r.heap (present_of r) (snapshot_of r) w.course.represents at in
             let same = same_swept h r.heap i.limit i.settings in
@@ -98,7 +99,7 @@ module _ (h : HeapState) (f : Flow) (k : ℕ) (great : 0 < k) (live : Lives) (li
             let d = le-div t.quanta (sweep_units (length h.roots) (length h.store.pages) (live_most f + (f.quantum_words + f.burst))) (k - f.quantum_words) (omega (arith, less)) (omega (arith, u, l, p, e, n)) in
             omega (arith, d)
 
-        by_less : (b : Bool) → nat_lt f.quantum_words k ≡ b → t.quanta + 1 ≤ (if b then min (full_quanta (length h.roots) (length h.store.pages) k) (marked_quanta f (length h.roots) (length h.store.pages) k) else full_quanta (length h.roots) (length h.store.pages) k)
+        by_less : (b : Bool) → nat_lt f.quantum_words k ≡ b → t.quanta + 1 ≤ (if b then min (unmoved_quanta (length h.roots) (length h.store.pages) k) (marked_quanta f (length h.roots) (length h.store.pages) k) else unmoved_quanta (length h.roots) (length h.store.pages) k)
         by_less true e = le-min all_pages (marked (is_less f.quantum_words k e))
         by_less false e = all_pages
 

@@ -28,7 +28,8 @@ use Rattle.space.proofs.Placement.Tidying.{shrinks_keeps, tidy_same}
 use Rattle.space.proofs.Placement.Acting.{tidy_action}
 use Rattle.fragmentation.specs.declared.flow.TheConstants.{LEAST_PAGE_FILL}
 use Rattle.fragmentation.specs.Suffice.{pages_of}
-use Rattle.fragmentation.specs.Flow.{words_of, Flow, live_most, sweep_units}
+use Rattle.size_classes.specs.Cycle.{sweep_units}
+use Rattle.fragmentation.specs.Flow.{words_of, Flow, live_most}
 use Rattle.fragmentation.proofs.Flows.Words.{times_sum}
 use Rattle.fragmentation.proofs.Flows.Kept.{FitsFlow, SweepsWithin}
 

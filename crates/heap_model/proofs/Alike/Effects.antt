@@ -154,13 +154,13 @@ same_admitted_effect h f g room m c p q =
     ∙ ap (λ n. effect_by room g.limits g.roots n (λ x. named f x) m c) next ∙ ap (λ z. effect_by room g.limits g.roots (next_identity g) z m c) at ∙ sym (effect_is room g m c)
 
 -- the admission looks at the limits and at who is live
-abbrev admitted_by : Limits → List Bool → ℕ → Command → Result Bool Refusal
+abbrev admitted_by : Limits → List Bool → ℕ → Command → Result (Unit {0}) Refusal
 admitted_by l live m c = if nat_lt m l.mutators then admits (slice_index_or live m false) (is_join c) else Err refusals.BadSlot
 
 same_admitted : (h : HeapState) (f g : Graph) (m : ℕ) (c : Command) → Agrees h f → Agrees h g → admitted f m c ≡ admitted g m c
 same_admitted h f g m c p q = let a = told h f g p q in ap (λ l. admitted_by l f.live m c) a.limits ∙ ap (λ z. admitted_by g.limits z m c) a.live
 
-abbrev let_in : Result Bool Refusal → Result (Reply × Change) Refusal → Result (Reply × Change) Refusal
+abbrev let_in : Result (Unit {0}) Refusal → Result (Reply × Change) Refusal → Result (Reply × Change) Refusal
 let_in a d = a >>= λ ok. d
 
 pub same_effect : (h : HeapState) (f g : Graph) (room : Bool) (m : ℕ) (c : Command) → Agrees h f → Agrees h g → effect_of room f m c ≡ effect_of room g m c

@@ -229,7 +229,7 @@ admitted_founded g room m (commands.Describe a) x row low e =
 admitted_founded g room m commands.Join x row low e = taken g (replies.Done, changes.Join m) x e tt
 admitted_founded g room m commands.Leave x row low e = taken g (replies.Done, changes.Leave m) x e (subst (λ z. m * g.limits.slots + g.limits.slots ≤ z) (sym row) (slots_low g.limits m low))
 
-admitted_low : (g : Graph) (m : ℕ) (c : Command) (ok : Bool) → admitted g m c ≡ Ok ok → m < g.limits.mutators
+admitted_low : (g : Graph) (m : ℕ) (c : Command) (ok : Unit {0}) → admitted g m c ≡ Ok ok → m < g.limits.mutators
 admitted_low g m c ok e = by_test (nat_lt m g.limits.mutators) refl e
   where
     by_test : (b : Bool) → nat_lt m g.limits.mutators ≡ b → (if b then admits (slice_index_or g.live m false) (is_join c) else Err refusals.BadSlot) ≡ Ok ok → m < g.limits.mutators

@@ -18,7 +18,7 @@ impl Heap {
             → result ≡ reply_of (room_for self.now command.now) g mutator command.now }
     {
         match self.fields.roots.admit(mutator, command.is_join()) {
-            Ok(_) => reply_to(self.plan(mutator, *command)),
+            Ok(()) => reply_to(self.plan(mutator, *command)),
             Err(refusal) => Reply::Refused(refusal),
         }
     }

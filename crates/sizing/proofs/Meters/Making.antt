@@ -69,7 +69,7 @@ made_or (changes.Word id i v) class = refl
 made_or (changes.Join m) class = refl
 made_or (changes.Leave m) class = refl
 
-new_made : (l : Result Bool Refusal) (s : Result ℕ Refusal) (f : Result Shape Refusal) (i : Result ℕ Refusal) (shape : Shape) (room : Bool) (k : ℕ)
+new_made : (l : Result (Unit {0}) Refusal) (s : Result ℕ Refusal) (f : Result Shape Refusal) (i : Result ℕ Refusal) (shape : Shape) (room : Bool) (k : ℕ)
     → asked_by (settled (new_effect l s f i shape room)).1 k ≡ (if makes (settled (new_effect l s f i shape room)).1 then asked_by (settled (new_effect l s f i shape true)).1 k else 0)
 new_made (Err e) s f i shape room k = refl
 new_made (Ok l) (Err e) f i shape room k = refl

@@ -1,24 +1,22 @@
 -- The bound, in a configuration's numbers.
-use Rattle.std.proofs.Common.{◌≡◌, ℕ, ◌+◌, ◌-◌, ◌*◌, ◌/◌, ◌<◌, ◌≤◌, Bool, true, false, ◌==◌, if◌then◌else◌, List, length, ap, ◌∙◌, sym, subst, arith, refl}
+use Rattle.std.proofs.Common.{◌≡◌, ℕ, ◌+◌, ◌*◌, ◌<◌, ◌≤◌, Bool, true, false, ◌==◌, if◌then◌else◌, List, length, ap, ◌∙◌, sym, subst, arith}
 use Rattle.std.proofs.lemmas.List.{length-replicate}
 use Rattle.graph_heap.specs.Graph.{root_cells}
-use Rattle.size_classes.specs.declared.class.TheConstants.{CLASSES, MOST_BLOCKS, PAGE_WORDS}
-use Rattle.size_classes.specs.declared.config.TheConstants.{LEAST_BUDGET}
 use Rattle.size_classes.specs.declared.config.Config.{Config}
+use Rattle.size_classes.specs.declared.config.TheConstants.{LEAST_BUDGET}
 use Rattle.size_classes.specs.Config.{limits_of}
-use Rattle.size_classes.specs.Sizes.{size_of, blocks_in}
+use Rattle.size_classes.specs.Cycle as cycle
 use Rattle.heap_model.specs.State.{HeapState}
 use Rattle.heap_model.specs.Settings.{HeapSettings, settings_of, settings_by}
 use Rattle.heap_model.specs.Opening.{IsOpening}
-use Rattle.heap_model.specs.Spent.{swept_units}
 use Rattle.heap_model.specs.Phases.{awaits_sweep_end}
 use Rattle.heap_model.specs.Event.{Course, Event, Runs, HaveBudgets}
 use Rattle.heap_model.specs.ReachedFrom.{opened}
 use Rattle.space.specs.Demand.{Demand}
 use Rattle.space.specs.Tally.{opening_tally, AllKeepTo}
 use Rattle.space.specs.Space.{space_for, spare_of, below_of}
-use Rattle.space.specs.Pace.{Pace, in_cycle, opening_beat, AllKeepPace, moving_units, moved_quanta, unmoved_quanta, demand_of}
-use Rattle.space.specs.Fitting.{Fits, spare_in, below_in, swept_at, moving_at, moved_quanta_at, unmoved_quanta_at, moved_pages, unmoved_pages, is_unmoved, FitsIn}
+use Rattle.space.specs.Pace.{Pace, in_cycle, opening_beat, AllKeepPace, moved_quanta, unmoved_quanta, demand_of}
+use Rattle.space.specs.Fitting.{Fits, spare_in, below_in, moved_quanta_at, unmoved_quanta_at, moved_pages, unmoved_pages, is_unmoved, FitsIn}
 use Rattle.space.specs.Lasting.{LastsAtMost}
 use Rattle.space.specs.Room.{AllHaveRoom}
 use Rattle.space.proofs.Rooms.{all_have_room}
@@ -26,18 +24,6 @@ use Rattle.space.proofs.Paces.Moved.{pace_keeps}
 use Rattle.space.proofs.Paces.Lasting.{cycle_lasts, sweep_lasts}
 use Rattle.space.proofs.Paces.Unmoved.{unmoved_suffices, unmoved_keeps}
 use Rattle.space.proofs.Tally.{space_suffices}
-
--- a page of the smallest class has the most blocks
-most : blocks_in 0 ≡ MOST_BLOCKS
-unfolding size_of blocks_in
-most = refl
-
-swept_by : (roots pages : ℕ) (config : Config) → roots ≡ config.mutators * config.slots + config.statics → pages ≡ config.pages
-    → roots + PAGE_WORDS * pages + (MOST_BLOCKS + 1) * pages + (MOST_BLOCKS + 4) ≡ swept_at config config.pages
-swept_by roots pages config r p =
-    ap (λ z. z + PAGE_WORDS * pages + (MOST_BLOCKS + 1) * pages + (MOST_BLOCKS + 4)) r
-    ∙ ap (λ z. config.mutators * config.slots + config.statics + PAGE_WORDS * z + (MOST_BLOCKS + 1) * z + (MOST_BLOCKS + 4)) p
-    ∙ ap (λ b. config.mutators * config.slots + config.statics + PAGE_WORDS * config.pages + (b + 1) * config.pages + (b + 4)) (sym most)
 
 module _ (config : Config) (h : HeapState) (o : IsOpening h) (same : settings_of h ≡ settings_by config) where
   limits : h.limits ≡ limits_of config
@@ -58,19 +44,18 @@ module _ (config : Config) (h : HeapState) (o : IsOpening h) (same : settings_of
   pub roots : length h.roots ≡ config.mutators * config.slots + config.statics
   roots = ap length o.roots ∙ length-replicate (root_cells h.limits) 0 ∙ ap root_cells limits
 
-  same_swept : swept_units h ≡ swept_at config config.pages
-  same_swept = swept_by (length h.roots) (length h.store.pages) config roots pages
-
-  same_moving : moving_units h ≡ moving_at config.pages config.defrag_pages
-  same_moving = ap (λ z. (z + CLASSES) * length h.store.pages + PAGE_WORDS * length h.store.pages + 1) defrag ∙ ap (λ z. (config.defrag_pages + CLASSES) * z + PAGE_WORDS * z + 1) pages
-
-  same_quanta : moved_quanta h (config.collector_ticks * config.rate) ≡ moved_quanta_at config config.pages config.defrag_pages
+  pub same_quanta : moved_quanta h (config.collector_ticks * config.rate) ≡ moved_quanta_at config config.pages config.defrag_pages
   same_quanta =
       let k = config.collector_ticks * config.rate in
-      ap (λ z. (z + moving_units h + 255 * (moving_units h / (k - 255) + 1)) / k + 1) same_swept ∙ ap (λ z. (swept_at config config.pages + z + 255 * (z / (k - 255) + 1)) / k + 1) same_moving
+      ap (λ z. cycle.moved_quanta z (length h.store.pages) h.defrag_pages k) roots
+      ∙ ap (λ z. cycle.moved_quanta (config.mutators * config.slots + config.statics) z h.defrag_pages k) pages
+      ∙ ap (λ z. cycle.moved_quanta (config.mutators * config.slots + config.statics) config.pages z k) defrag
 
   pub same_unmoved : unmoved_quanta h (config.collector_ticks * config.rate) ≡ unmoved_quanta_at config config.pages
-  same_unmoved = ap (λ z. z / (config.collector_ticks * config.rate) + 1) same_swept
+  same_unmoved =
+      let k = config.collector_ticks * config.rate in
+      ap (λ z. cycle.unmoved_quanta z (length h.store.pages) k) roots
+      ∙ ap (λ z. cycle.unmoved_quanta (config.mutators * config.slots + config.statics) z k) pages
 
   pub same_spare : spare_of h ≡ spare_in config
   same_spare = ap (λ z. if z == 0 then 0 else h.defrag_pages) below ∙ ap (λ z. if config.defrag_below == 0 then 0 else z) defrag

@@ -94,7 +94,7 @@ more_since g (changes.Join m) n class low = omega arith
 more_since g (changes.Leave m) n class low = omega arith
 
 -- what a command changes asks for no more than the command
-new_less : (l : Result Bool Refusal) (s : Result ℕ Refusal) (f : Result Shape Refusal) (i : Result ℕ Refusal) (shape : Shape) (room : Bool) (k : ℕ) → asked_by (settled (new_effect l s f i shape room)).1 k ≤ asked_by (settled (new_effect l s f i shape true)).1 k
+new_less : (l : Result (Unit {0}) Refusal) (s : Result ℕ Refusal) (f : Result Shape Refusal) (i : Result ℕ Refusal) (shape : Shape) (room : Bool) (k : ℕ) → asked_by (settled (new_effect l s f i shape room)).1 k ≤ asked_by (settled (new_effect l s f i shape true)).1 k
 new_less (Err e) s f i shape room k = omega arith
 new_less (Ok l) (Err e) f i shape room k = omega arith
 new_less (Ok l) (Ok d) (Err e) i shape room k = omega arith

@@ -8,7 +8,7 @@ use graph_heap::{Command, Reply, Shape};
 macro_rules! committed {
     ($heap:expr, $mutator:expr, $joins:expr, $plan:ident($($field:expr),*)) => {
         match $heap.fields.roots.admit($mutator, $joins) {
-            Ok(_) => $heap.commit($mutator, planning::$plan($heap, $mutator $(, $field)*)),
+            Ok(()) => $heap.commit($mutator, planning::$plan($heap, $mutator $(, $field)*)),
             Err(refusal) => Reply::Refused(refusal),
         }
     };

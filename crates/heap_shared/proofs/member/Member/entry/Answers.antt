@@ -1,6 +1,6 @@
 use Rattle.std.proofs.Common.{rules, ◌≡◌, ◌≢◌, true, Some, Err, subst, sym}
 use Rattle.std.specs.Prelude.{ok_or}
-use Rattle.heap_shared.specs.declared.member.NoEntry.TheVariants.{NotYet}
+use Rattle.heap_shared.specs.declared.fault.NoEntry.TheVariants.{NotYet}
 use Rattle.heap_shared.specs.Members.{MemberView, FindsEntry}
 use Rattle.heap_shared.specs.Ring.{TellsEntry}
 use Rattle.heap_shared.proofs.Members.{none_yet, tells_so, word_now}

@@ -1,5 +1,5 @@
 use Rattle.std.proofs.Common.{◌≡◌, rules, ◌∙◌, sym, refl, ap, subst, Some, Ok}
-use Rattle.heap_shared.specs.declared.member.NoMember.TheVariants.{NoMemory}
+use Rattle.heap_shared.specs.declared.fault.NoMember.TheVariants.{NoMemory}
 use Rattle.heap_shared.specs.Members.{MemberView, Adds, before_giving}
 use Rattle.heap_shared.proofs.Rejoining.{as_before, may_rejoin}
 use Rattle.metronome_c.specs.declared.seats.seat.MetronomeSeat.{MetronomeSeat}

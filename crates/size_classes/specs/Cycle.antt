@@ -1,0 +1,35 @@
+-- What a cycle of the collector costs at most, by the numbers of root cells and pages, of pages that it may empty, and of the
+-- units of a quantum.
+use Rattle.std.specs.Prelude.{ℕ, ◌+◌, ◌-◌, ◌*◌, ◌/◌}
+use Rattle.size_classes.specs.declared.class.TheConstants.{CLASSES, MOST_BLOCKS, PAGE_WORDS}
+
+-- the units of a whole cycle: each root cell, three times the words of the pages, and a look at every page for each class and
+-- each page that may be emptied
+abbrev pub cycle_units : ℕ → ℕ → ℕ → ℕ
+cycle_units roots pages emptied = roots + 3 * (PAGE_WORDS * pages) + (emptied + CLASSES) * pages + 4
+
+-- the units of roots, marking and sweeping, where marking spends so many: one for each root cell; for each page as many as one
+-- of the smallest class has blocks, and one; as many blocks once more, and four where phases change
+abbrev pub sweep_units : ℕ → ℕ → ℕ → ℕ
+sweep_units roots pages marking = roots + marking + (MOST_BLOCKS + 1) * pages + (MOST_BLOCKS + 4)
+
+-- the units of roots, marking and sweeping, where marking spends one for each word of the pages
+abbrev pub swept_units : ℕ → ℕ → ℕ
+swept_units roots pages = sweep_units roots pages (PAGE_WORDS * pages)
+
+-- the units of moving: a look at every page for each class and each page that may be emptied, the words of the pages, and one
+abbrev pub moving_units : ℕ → ℕ → ℕ
+moving_units pages emptied = (emptied + CLASSES) * pages + PAGE_WORDS * pages + 1
+
+-- The quanta of budgets of at least k that spend so many units. A quantum may leave a part of its budget, 255 units at most.
+abbrev pub quanta_for : ℕ → ℕ → ℕ
+quanta_for units k = units / (k - 255) + 1
+
+-- the quanta of budgets of at least k of a cycle that moves: only one that ends in moving may leave a part of its budget
+abbrev pub moved_quanta : ℕ → ℕ → ℕ → ℕ → ℕ
+moved_quanta roots pages emptied k =
+    (swept_units roots pages + moving_units pages emptied + 255 * quanta_for (moving_units pages emptied) k) / k + 1
+
+-- the quanta of budgets of at least k of a cycle that doesn't move: each action costs one unit, so that a quantum spends all
+abbrev pub unmoved_quanta : ℕ → ℕ → ℕ → ℕ
+unmoved_quanta roots pages k = swept_units roots pages / k + 1

@@ -9,3 +9,6 @@ pub mod Stored
 pub mod Roots
 pub mod Reference
 pub mod Reaching
+pub mod Distance
+pub mod Search
+pub mod Route

@@ -6,6 +6,7 @@ pub mod admission;
 pub mod command;
 mod laws;
 pub mod no_memory;
+pub mod reachability;
 pub mod reference;
 mod stored;
 
@@ -15,4 +16,7 @@ pub use command::{
 };
 pub use laws::{cells_are_bounded, one_more, one_step, shapes_stand};
 pub use no_memory::NoMemory;
+pub use reachability::{
+    Found, Holder, Route, Search, Standing, Step, holder, present, search, shortest_path,
+};
 pub use reference::Reference;

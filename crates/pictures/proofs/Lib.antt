@@ -7,5 +7,6 @@ pub mod Along
 pub mod Pairs
 pub mod PageRows
 pub mod Texts
+pub mod PathLines
 pub mod CycleSpans
 pub mod Noting

@@ -1,5 +1,5 @@
 -- Lines that are written one behind the other.
-use Rattle.std.proofs.Common.{◌≡◌, ℕ, ◌+◌, ◌<◌, List, [], ◌∷◌, ◌++◌, length, drop, get_or, map, Option, None, Some, ap, ◌∙◌, sym, append_assoc, refl}
+use Rattle.std.proofs.Common.{◌≡◌, ℕ, ◌+◌, ◌<◌, List, [], ◌∷◌, ◌++◌, length, drop, get_or, map, Option, None, Some, ap, ◌∙◌, sym, refl}
 use Rattle.std.proofs.lemmas.Grind.{flat_map-append}
 use Rattle.std.proofs.lemmas.List.{drop_more, map-append}
 use Rattle.trace.specs.Lines.{text_of}
@@ -40,8 +40,3 @@ present_some xs d o x k l is some = present_on xs d o k l is ∙ ap (λ z. prese
 
 pub present_none : {A : Type 0} (xs : List (Option A)) (d o : Option A) (k : ℕ) → k < length xs → o ≡ get_or xs k d → o ≡ None → present (drop k xs) ≡ present (drop (k + 1) xs)
 present_none xs d o k l is none = present_on xs d o k l is ∙ ap (λ z. present (z ∷ []) ++ present (drop (k + 1) xs)) none
-
--- what is put behind a name and its number, of which all three are put one behind the other
-pub put_behind : (t1 t2 t3 x y n z : List ℕ) → t1 ≡ x → t2 ≡ t1 ++ (y ++ n) → t3 ≡ t2 ++ z → t3 ≡ x ++ y ++ n ++ z
-put_behind t1 t2 t3 x y n z first then last =
-    last ∙ ap (λ t. t ++ z) (then ∙ ap (λ t. t ++ (y ++ n)) first ∙ sym (append_assoc x y n))

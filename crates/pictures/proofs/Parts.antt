@@ -72,28 +72,6 @@ module _ {A : Type 0} {text : List A → List ℕ} (w : IsText text) where
     pub in_last : GrowsByPart mid new (text rest) → GrowsByPart old new (text all)
     in_last g = cut_short old mid all rest so rest [] (sym (append-nil rest)) new g
 
-  -- parts that are written in three
-  module _ (first second third all : List A) (is : all ≡ first ++ (second ++ third)) (t0 t1 : List ℕ) where
-    pub first_cut : GrowsByPart t0 t1 (text first) → GrowsByPart t0 t1 (text all)
-    first_cut g = cut_short t0 t0 all all (none_yet t0 all) first (second ++ third) is t1 g
-
-    module _ (one : t1 ≡ t0 ++ text first) (t2 : List ℕ) where
-      behind_first : SoFar text t0 t1 all (second ++ third)
-      behind_first = further t0 t0 all all (none_yet t0 all) first (second ++ third) is t1 one
-
-      pub second_cut : GrowsByPart t1 t2 (text second) → GrowsByPart t0 t2 (text all)
-      second_cut g = cut_short t0 t1 all (second ++ third) behind_first second third refl t2 g
-
-      module _ (two : t2 ≡ t1 ++ text second) (t3 : List ℕ) where
-        behind_second : SoFar text t0 t2 all third
-        behind_second = further t0 t1 all (second ++ third) behind_first second third refl t2 two
-
-        pub third_cut : GrowsByPart t2 t3 (text third) → GrowsByPart t0 t3 (text all)
-        third_cut g = in_last t0 t2 all third behind_second t3 g
-
-        pub all_three : t3 ≡ t2 ++ text third → t3 ≡ t0 ++ text all
-        all_three e = to_last t0 t2 all third behind_second t3 e
-
 -- all are written
 pub all_of : {A : Type 0} {text : List A → List ℕ} (old new : List ℕ) (all rest : List A) → SoFar text old new all rest → rest ≡ [] → new ≡ old ++ text all
 all_of {text = text} old new all rest so e = so.written ∙ ap (λ xs. old ++ text xs) (sym (so.still ∙ ap (λ xs. so.done ++ xs) e ∙ append-nil so.done))

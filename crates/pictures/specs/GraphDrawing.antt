@@ -3,15 +3,15 @@ use Rattle.std.specs.Prelude.{ℕ, ◌-◌, ◌*◌, ◌/◌, ◌%◌, ◌==◌,
 use Rattle.std.specs.Set.{is_member}
 use Rattle.graph_heap.specs.declared.command.Limits.{Limits}
 use Rattle.graph_heap.specs.Graph.{Graph, object_of}
-use Rattle.pictures.specs.declared.reachability.found.Found.{Found}
-use Rattle.pictures.specs.declared.reachability.found.Holder.{Holder}
-use Rattle.pictures.specs.declared.reachability.found.Holder.TheVariants as holds
+use Rattle.graph_heap.specs.declared.reachability.found.Found.{Found}
+use Rattle.graph_heap.specs.declared.reachability.found.Holder.{Holder}
+use Rattle.graph_heap.specs.declared.reachability.found.Holder.TheVariants as holds
 use Rattle.pictures.specs.declared.graph.statement.Root.{Root}
 use Rattle.pictures.specs.declared.graph.statement.Root.TheVariants.{Slot, Static}
 use Rattle.pictures.specs.declared.graph.statement.Statement.{Statement}
 use Rattle.pictures.specs.declared.graph.statement.Statement.TheVariants.{Open, LeftToRight, Box, Holds, Object, Cell, LeftOut, Close}
 use Rattle.pictures.specs.Lines.{each_from}
-use Rattle.pictures.specs.Search.{holders}
+use Rattle.graph_heap.specs.Search.{holders}
 use Rattle.pictures.specs.Statements.{dot_text}
 
 -- the identities of the first objects that were found, at most this many

@@ -4,8 +4,8 @@ use Rattle.trace.specs.declared.fault.PlayFault.{PlayFault}
 use Rattle.trace.specs.declared.fault.PlayFault.TheVariants.{Write, NoMemory}
 use Rattle.trace.specs.Streams.{Taken, GrowsByPart}
 use Rattle.graph_heap.specs.Graph.{Graph}
-use Rattle.pictures.specs.declared.reachability.found.Found.{Found}
-use Rattle.pictures.specs.Distance.{FindsAll}
+use Rattle.graph_heap.specs.declared.reachability.found.Found.{Found}
+use Rattle.graph_heap.specs.Distance.{FindsAll}
 use Rattle.pictures.specs.GraphDrawing.{graph_picture}
 
 -- Of the objects that can be reached, the nearest to the roots are drawn, at most this many; or a part of this is

@@ -13,8 +13,5 @@ pub mod GraphDrawing
 pub mod Drawing
 pub mod GraphDrawn
 pub mod Statements
-pub mod Distance
-pub mod Search
-pub mod Route
 pub mod PathText
 pub mod Events

@@ -4,11 +4,11 @@ use Rattle.std.specs.List.{flat_map}
 use Rattle.graph_heap.specs.declared.command.Limits.{Limits}
 use Rattle.graph_heap.specs.Graph.{Graph, root_cells}
 use Rattle.graph_heap.specs.Effect.{slot_at, static_at}
-use Rattle.pictures.specs.declared.reachability.route.Step.{Step}
-use Rattle.pictures.specs.declared.reachability.route.Route.{Route}
-use Rattle.pictures.specs.declared.reachability.route.Standing.{Standing}
-use Rattle.pictures.specs.declared.reachability.route.Standing.TheVariants.{Reached, Unreachable, NeverMade}
-use Rattle.pictures.specs.Route.{StandsAs}
+use Rattle.graph_heap.specs.declared.reachability.route.Step.{Step}
+use Rattle.graph_heap.specs.declared.reachability.route.Route.{Route}
+use Rattle.graph_heap.specs.declared.reachability.route.Standing.{Standing}
+use Rattle.graph_heap.specs.declared.reachability.route.Standing.TheVariants.{Reached, Unreachable, NeverMade}
+use Rattle.graph_heap.specs.Route.{StandsAs}
 
 -- the line of a slot of a mutator
 abbrev pub slot_line : ℕ → ℕ → List ℕ

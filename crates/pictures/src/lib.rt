@@ -9,8 +9,8 @@ pub mod graph;
 mod json;
 pub mod laws;
 mod measuring;
+mod paths;
 mod quantum_log;
-mod reachability;
 mod refusals;
 mod run_log;
 mod sample;
@@ -22,8 +22,6 @@ mod writing;
 pub use data::run_data;
 pub use events::draw_events;
 pub use json::{JsonRow, row, table};
-pub use reachability::{
-    Found, Holder, Route, Search, Standing, Step, path_text, present, search, shortest_path,
-};
+pub use paths::path_text;
 pub use sample::{MOST_SAMPLES, Phases, Sample};
 pub use share::{Share, WINDOWS};

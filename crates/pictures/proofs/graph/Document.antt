@@ -1,7 +1,7 @@
 -- The document of a graph heap, as one part after the other is written.
 use Rattle.std.proofs.Common.{◌≡◌, ℕ, ◌-◌, min, None, List, [], ◌∷◌, ◌++◌, length, take, ap, sym, append-nil, refl}
 use Rattle.graph_heap.specs.Graph.{Graph}
-use Rattle.pictures.specs.declared.reachability.found.Found.{Found}
+use Rattle.graph_heap.specs.declared.reachability.found.Found.{Found}
 use Rattle.trace.specs.Streams.{GrowsByPart}
 use Rattle.pictures.specs.declared.graph.statement.Statement.{Statement}
 use Rattle.pictures.specs.declared.graph.statement.Statement.TheVariants.{Close}

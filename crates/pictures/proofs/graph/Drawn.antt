@@ -1,5 +1,5 @@
 -- What is drawn, in parts.
-use Rattle.std.proofs.Common.{◌≡◌, ◌≢◌, ℕ, zero, suc, ◌+◌, ◌-◌, ◌*◌, ◌<◌, min, Bool, true, false, if◌then◌else◌, List, [], ◌∷◌, ◌++◌, length, take, drop, get_or, ap, ◌∙◌, sym, arith}
+use Rattle.std.proofs.Common.{◌≡◌, ◌≢◌, ℕ, ◌+◌, ◌-◌, ◌<◌, min, Bool, true, false, if◌then◌else◌, List, [], ◌∷◌, ◌++◌, length, take, drop, get_or, ap, ◌∙◌, sym}
 use Rattle.std.specs.Prelude.{nat_eq, Some, Result, Ok, Err}
 use Rattle.std.specs.Result.{IsErrAnd}
 use Rattle.std.specs.Set.{is_member}
@@ -8,9 +8,9 @@ use Rattle.std.proofs.lemmas.List.{drop_more, take_min}
 use Rattle.graph_heap.specs.declared.command.Limits.{Limits}
 use Rattle.graph_heap.specs.declared.command.Shape.{Shape}
 use Rattle.graph_heap.specs.Graph.{Graph, object_of}
-use Rattle.pictures.specs.declared.reachability.found.Found.{Found}
-use Rattle.pictures.specs.declared.reachability.found.Holder.{Holder}
-use Rattle.pictures.specs.declared.reachability.found.Holder.TheVariants as holds
+use Rattle.graph_heap.specs.declared.reachability.found.Found.{Found}
+use Rattle.graph_heap.specs.declared.reachability.found.Holder.{Holder}
+use Rattle.graph_heap.specs.declared.reachability.found.Holder.TheVariants as holds
 use Rattle.pictures.specs.declared.graph.statement.Root.{Root}
 use Rattle.pictures.specs.declared.graph.statement.Statement.TheVariants.{Box, Holds, Object, LeftOut}
 use Rattle.pictures.specs.GraphDrawing.{root_at, holder_drawn, cell_drawn, cells_drawn, object_drawn, objects_drawn, left_out}
@@ -19,11 +19,6 @@ use Rattle.pictures.specs.GraphDrawing.{root_at, holder_drawn, cell_drawn, cells
 pub failed_so : {A E : Type 0} (r : Result A E) (why : E) → IsErrAnd r (λ e. e ≡ why) → r ≡ Err why
 failed_so (Ok x) why h = elim h [ ]
 failed_so (Err e) why h = ap Err h
-
--- where there is a slot, mutators have some
-pub some_slots : (place mutators slots : ℕ) → place < mutators * slots → 0 < slots
-some_slots place mutators zero l = absurd (let none : mutators * 0 ≡ 0 = omega arith in omega (arith, l, none))
-some_slots place mutators (suc slots) l = omega arith
 
 -- a root and what it holds, by what its name is
 pub root_is : (l : Limits) (root : Root) (place id : ℕ) → root ≡ root_at l place → Box root ∷ Holds root id ∷ [] ≡ holder_drawn l (holds.Root place) id

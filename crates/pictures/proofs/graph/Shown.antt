@@ -1,47 +1,34 @@
 -- Which objects are shown.
-use Rattle.std.proofs.Common.{◌≡◌, ℕ, zero, suc, ◌<◌, ◌≤◌, inl, inr, Bool, true, false, nat_lt, List, [], ◌∷◌, length, ◌∙◌, sym, refl, arith}
+use Rattle.std.proofs.Common.{◌≡◌, ℕ, ◌<◌, false, nat_lt, List, take, ap, ◌∙◌, sym, arith}
 use Rattle.std.specs.Prelude.{nat_eq}
 use Rattle.std.specs.Set.{is_member}
-use Rattle.std.proofs.lemmas.Bool.{eqb-true, eq-eqb, ltb-true, ltb-false, or_left, or_right, or_cases}
-use Rattle.pictures.specs.declared.reachability.found.Found.{Found}
-use Rattle.pictures.specs.Distance.{found_at, AreOnce}
-use Rattle.pictures.specs.Search.{IsAt, IsNowhere}
+use Rattle.std.proofs.lemmas.Bool.Decides.{Decides-ltb, same_from_decides}
+use Rattle.std.proofs.lemmas.List.{length-take, get_or-take}
+use Rattle.graph_heap.specs.declared.reachability.found.Found.{Found}
+use Rattle.graph_heap.specs.Distance.{none_found, found_at, AreOnce}
+use Rattle.graph_heap.specs.Search.{IsAt, IsNowhere}
+use Rattle.graph_heap.proofs.Reaching.{stands_by}
 use Rattle.pictures.specs.GraphDrawing.{shown_of}
 
--- one of the first that were found is shown
-shown_first : (found : List Found) (most k id : ℕ) → k < most → k < length found → (found_at found k).id ≡ id → is_member nat_eq (shown_of most found) id ≡ true
-shown_first [] most k id l m e = absurd (omega (arith, m))
-shown_first (f ∷ fs) zero k id l m e = absurd (omega (arith, l))
-shown_first (f ∷ fs) (suc most) zero id l m e = or_left (nat_eq id f.id) (is_member nat_eq (shown_of most fs) id) (eq-eqb id f.id (sym e))
-shown_first (f ∷ fs) (suc most) (suc k) id l m e =
-    or_right (nat_eq id f.id) (is_member nat_eq (shown_of most fs) id) (shown_first fs most k id (omega (arith, l)) (omega (arith, m)) e)
+module _ (found : List Found) (most id : ℕ) where
+  taken_at : (k : ℕ) → k < most → (found_at (take most found) k).id ≡ (found_at found k).id
+  taken_at k l = ap (λ (f : Found). f.id) (get_or-take most found k none_found l)
 
--- what is shown was found at one of the first places
-shown_at : (found : List Found) (most id : ℕ) → is_member nat_eq (shown_of most found) id ≡ true → (k : ℕ) × (k < most) × (k < length found) × ((found_at found k).id ≡ id)
-shown_at [] zero id h = absurd (let no : false ≡ true = h in cc)
-shown_at [] (suc most) id h = absurd (let no : false ≡ true = h in cc)
-shown_at (f ∷ fs) zero id h = absurd (let no : false ≡ true = h in cc)
-shown_at (f ∷ fs) (suc most) id h = elim (or_cases (nat_eq id f.id) (is_member nat_eq (shown_of most fs) id) h) [
-  | inl e ↦ (zero, omega arith, omega arith, sym (eqb-true id f.id e))
-  | inr e ↦ (let later = shown_at fs most id e in (suc later.0, omega (arith, later.1), omega (arith, later.2), later.3))
-]
+  -- one of the first is where it was found
+  first_at : (k : ℕ) → IsAt (take most found) id k → (k < most) × IsAt found id k
+  first_at k at = let few = length-take most found in let l : k < most = omega (arith, at.0, few) in (l, (omega (arith, at.0, few), sym (taken_at k l) ∙ at.1))
 
--- what was found nowhere isn't shown
-pub nowhere_shown : (found : List Found) (most id : ℕ) → IsNowhere found id → false ≡ is_member nat_eq (shown_of most found) id
-nowhere_shown found most id none = sym (by_test (is_member nat_eq (shown_of most found) id) refl)
-  where
-    by_test : (b : Bool) → is_member nat_eq (shown_of most found) id ≡ b → is_member nat_eq (shown_of most found) id ≡ false
-    by_test true h = absurd (let s = shown_at found most id h in none s.0 s.2 s.3)
-    by_test false h = h
+  -- what was found nowhere isn't shown
+  pub nowhere_shown : IsNowhere found id → false ≡ is_member nat_eq (shown_of most found) id
+  nowhere_shown none =
+      same_from_decides {P = (k : ℕ) × IsAt (take most found) id k} false (is_member nat_eq (shown_of most found) id)
+      (λ no. absurd (cc), λ w. absurd (let f = first_at w.0 w.1 in none w.0 f.1.0 f.1.1)) (stands_by (take most found) id)
 
--- what was found at a place is shown where that is one of the first
-pub shown_by_place : (found : List Found) (most k id : ℕ) → AreOnce found → IsAt found id k → nat_lt k most ≡ is_member nat_eq (shown_of most found) id
-shown_by_place found most k id once at = by_place (nat_lt k most) refl
-  where
-    by_test : (b : Bool) → is_member nat_eq (shown_of most found) id ≡ b → most ≤ k → is_member nat_eq (shown_of most found) id ≡ false
-    by_test true h over = absurd (let s = shown_at found most id h in let same : s.0 ≡ k = once s.0 k s.2 at.0 (s.3 ∙ sym at.1) in omega (arith, same, s.1, over))
-    by_test false h over = h
-
-    by_place : (b : Bool) → nat_lt k most ≡ b → b ≡ is_member nat_eq (shown_of most found) id
-    by_place true e = sym (shown_first found most k id (ltb-true k most e) at.0 at.1)
-    by_place false e = sym (by_test (is_member nat_eq (shown_of most found) id) refl (ltb-false k most e))
+  -- what was found at a place is shown where that is one of the first
+  pub shown_by_place : (k : ℕ) → AreOnce found → IsAt found id k → nat_lt k most ≡ is_member nat_eq (shown_of most found) id
+  shown_by_place k once at =
+      same_from_decides {P = (j : ℕ) × IsAt (take most found) id j} (nat_lt k most) (is_member nat_eq (shown_of most found) id) (
+        λ t. (let l = (Decides-ltb k most).0 t in let few = length-take most found in (k, (omega (arith, l, at.0, few), taken_at k l ∙ at.1))),
+        λ w. (Decides-ltb k most).1 (let f = first_at w.0 w.1 in let same = once w.0 k f.1.0 at.0 (f.1.1 ∙ sym at.1) in omega (arith, same, f.0)),
+      )
+      (stands_by (take most found) id)

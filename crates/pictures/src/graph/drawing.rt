@@ -9,9 +9,8 @@ ghost use Rattle.pictures.specs.GraphDrawing.{holder_drawn, cells_drawn, object_
 ghost use Rattle.pictures.specs.GraphDrawn.{GraphDrawn};
 
 use crate::graph::statement::{Root, Statement};
-use crate::reachability::{Found, Holder, Search, holder, search};
 use crate::writing::{write_line, write_lines};
-use graph_heap::{Limits, Reference};
+use graph_heap::{Found, Holder, Limits, Reference, Search, holder, search};
 use std::alloc::Global;
 use trace::{PlayFault, Sink, WriteFailed};
 

@@ -1,9 +1,7 @@
-use Rattle.std.proofs.Common.{◌-◌, length}
-use Rattle.graph_heap.proofs.Reaching.{Searched}
+use Rattle.std.proofs.Common.{◌≡◌, map, take}
+use Rattle.graph_heap.specs.declared.reachability.found.Found.{Found}
 use Rattle.graph_heap.proofs.reference.Reference.reached.Given as goal
 
-abbrev pub invariant-loop-id : goal.invariant-loop-id
-invariant-loop-id l = Searched l.fn.self l.found l.next
-
-abbrev pub decreases-loop-id : goal.decreases-loop-id
-decreases-loop-id l = length l.fn.self.objects - l.next
+-- the identities so far
+abbrev pub invariant-loop-found : goal.invariant-loop-found
+invariant-loop-found l = l.ids.items ≡ map (λ (f : Found). f.id) (take l.found-index l.found-items)

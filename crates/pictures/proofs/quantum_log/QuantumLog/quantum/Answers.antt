@@ -1,4 +1,4 @@
-use Rattle.std.proofs.Common.{true, false, ap, ◌∙◌, ◌++◌, ◌∷◌, [], sym, refl}
+use Rattle.std.proofs.Common.{ap, ◌∙◌, ◌++◌, ◌∷◌, [], sym, refl}
 use Rattle.heap_model.specs.Phases.{is_idle}
 use Rattle.pictures.proofs.Noting.{is_running, is_over, log_same, log_more, works_is}
 use Rattle.pictures.proofs.quantum_log.QuantumLog.quantum.Goals as goal

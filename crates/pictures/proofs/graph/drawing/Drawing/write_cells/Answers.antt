@@ -3,7 +3,7 @@ use Rattle.std.proofs.lemmas.List.{drop_all}
 use Rattle.pictures.specs.Drawing.{shown_in}
 use Rattle.pictures.specs.GraphDrawing.{holder_drawn, cell_drawn}
 use Rattle.pictures.specs.Lines.{each_from}
-use Rattle.pictures.specs.Search.{holders}
+use Rattle.graph_heap.specs.Search.{holders}
 use Rattle.pictures.proofs.graph.Drawn.{cell_hidden, cell_shown}
 use Rattle.pictures.proofs.Parts.{at_err, none, none_yet, further, cut_short, all_of}
 use Rattle.pictures.proofs.Lines.{dot_is, each_on}

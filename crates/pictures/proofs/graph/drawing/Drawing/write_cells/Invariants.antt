@@ -2,7 +2,7 @@ use Rattle.std.proofs.Common.{◌≡◌, drop}
 use Rattle.pictures.specs.Drawing.{shown_in}
 use Rattle.pictures.specs.GraphDrawing.{cell_drawn, cells_drawn}
 use Rattle.pictures.specs.Lines.{each_from}
-use Rattle.pictures.specs.Search.{holders}
+use Rattle.graph_heap.specs.Search.{holders}
 use Rattle.pictures.specs.Statements.{dot_text}
 use Rattle.pictures.proofs.Parts.{SoFar}
 use Rattle.pictures.proofs.graph.drawing.Drawing.write_cells.Given as goal

@@ -1,0 +1,5 @@
+pub mod Places
+pub mod Adding
+pub mod Breadth
+pub mod Routes
+pub mod Entries

@@ -1,6 +1,0 @@
-pub mod Places
-pub mod Adding
-pub mod Breadth
-pub mod Routes
-pub mod Entries
-pub mod Lines

@@ -1,7 +1,0 @@
-use Rattle.graph_heap.specs.Graph.{opening}
-use Rattle.pictures.proofs.reachability.Entries.{Follows}
-use Rattle.pictures.proofs.reachability.following.present.Given as goal
-
--- the entries so far are followed
-abbrev pub invariant-loop-entry : goal.invariant-loop-entry
-invariant-loop-entry l = Follows (opening l.limits) l.history l.entry-index l.graph

@@ -4,7 +4,7 @@ use Rattle.std.specs.Prelude.{Option, Some, if◌then◌else◌}
 use Rattle.std.specs.List.{flat_map, zip}
 use Rattle.std.proofs.lemmas.List.Elements.{filter-append}
 use Rattle.trace.specs.Streams.{GrowsByPart}
-use Rattle.trace.proofs.Exact.{same_Some}
+use Rattle.std.proofs.lemmas.Option.{same_Some}
 use Rattle.quanta.specs.declared.interval.Interval.{Interval}
 use Rattle.trace.specs.declared.player.start.PhaseName.{PhaseName}
 use Rattle.trace.specs.declared.player.start.QuantumStart.{QuantumStart}

@@ -1,10 +1,11 @@
 -- Texts in lines.
 use Rattle.std.proofs.Common.{◌≡◌, ℕ, ◌+◌, ◌≤◌, ◌<◌, List, [], ◌∷◌, ◌++◌, length, get_or, Some, arith, length-append, append_assoc, append-nil, ap, ◌∙◌, sym, refl}
 use Rattle.std.specs.List.{AllByRecursion}
+use Rattle.std.proofs.lemmas.Option.{same_Some}
 use Rattle.std.proofs.lemmas.List.{get_or_at}
 use Rattle.trace.specs.Lines.{NoLf, IsLine, text_of, Splits}
 use Rattle.trace.specs.Reading.{cut_at}
-use Rattle.trace.proofs.Exact.{Lacks, same_Some, cut_at-Some, cut_at-spelled}
+use Rattle.trace.proofs.Exact.{Lacks, cut_at-Some, cut_at-spelled}
 
 one_more_text : (lines : List (List ℕ)) (line rest : List ℕ) → text_of lines ++ (line ++ 10 ∷ rest) ≡ text_of (lines ++ line ∷ []) ++ rest
 one_more_text [] line rest = sym (append_assoc line (10 ∷ []) rest) ∙ ap (λ t. t ++ rest) (sym (append-nil (line ++ 10 ∷ [])))

@@ -3,25 +3,22 @@ use Rattle.std.proofs.Common.{◌≡◌, ℕ, zero, suc, ◌+◌, ◌^◌, ◌<�
 use Rattle.std.specs.Prelude.{decimal, position, find}
 use Rattle.std.specs.List.{position_or_len}
 use Rattle.std.specs.Str.{bytes_eq}
-use Rattle.std.specs.Str.Parse.{AllDigits, digits_value}
+use Rattle.std.proofs.lemmas.Option.{same_Some}
 use Rattle.std.proofs.lemmas.Bool.{lt-ltb, ltb-true, ne_eqb, eq-eqb, eqb-true}
 use Rattle.std.proofs.lemmas.List.{take_at, drop_at, take-append-drop, get_or_at, get_or_append_left}
 use Rattle.std.proofs.Math.Seq.{drop-append-add}
 use Rattle.std.proofs.lemmas.List.Sums.{position_or_len_is, split_at_first, passes_at_first}
 use Rattle.std.proofs.lemmas.Slice.Eq.{bytes_eq-Decides}
 use Rattle.std.proofs.lemmas.Fmt.{digits_decimal}
-use Rattle.std.proofs.lemmas.Str.Parse.{numerals_by_value, tells_digits, not_in_digits, IsNumeralModel}
+use Rattle.std.proofs.lemmas.Str.Parse.{not_in_digits}
 use Rattle.trace.specs.Spelling.{two, three, four}
 use Rattle.trace.specs.Reading.{◌>>=◌, number_in, cut_at, after_in, after_or, field_in, two_in, three_in, four_in, number_then}
-use Rattle.trace.proofs.Numbers.{number_in-spelled, number_in-Some}
+use Rattle.trace.proofs.Numbers.{found_case, read_digits, number_in-spelled, number_in-Some}
 
 -- the parts of what was read in steps
 pub bind_parts : {A B P : Type 0} (o : Option A) (f : A → Option B) (y : B) → (o >>= f) ≡ Some y → ((x : A) → o ≡ Some x → f x ≡ Some y → P) → P
 bind_parts None f y e k = absurd (cc)
 bind_parts (Some x) f y e k = k x refl e
-
-pub same_Some : {A : Type 0} (x y : A) → Some x ≡ Some y → x ≡ y
-same_Some x y e = cc
 
 pub told : {A : Type 0} (P : A → Type 0) (x y : A) → P x → Some x ≡ Some y → P y
 told P x y h e = subst P (same_Some x y e) h
@@ -63,10 +60,6 @@ Lacks byte x = (k : ℕ) → k < length x → get_or x k 0 ≢ byte
 abbrev is_byte : ℕ → ℕ → Bool
 is_byte byte b = eqb b byte
 
-find_case : (b : Bool) (i j : ℕ) → cond b (Some i) None ≡ Some j → (b ≡ true) × (i ≡ j)
-find_case true i j e = (refl, (cc))
-find_case false i j e = absurd (cc)
-
 cut_parts : (byte : ℕ) (bytes x y : List ℕ) (i : ℕ) → position_or_len (is_byte byte) bytes ≡ i → position_or_len (is_byte byte) bytes < length bytes → take i bytes ≡ x → drop (i + 1) bytes ≡ y → bytes ≡ x ++ byte ∷ y
 cut_parts byte bytes x y i at within front back =
     let q = position_or_len (is_byte byte) bytes in
@@ -80,7 +73,7 @@ pub cut_at-Some : (byte : ℕ) (bytes : List ℕ) (c : List ℕ × List ℕ) →
 unfolding cut_at
 cut_at-Some byte bytes c e =
     bind_parts (position (is_byte byte) bytes) _ c e (λ i ei e1.
-    let place = find_case (nat_lt (position_or_len (is_byte byte) bytes) (length bytes)) (position_or_len (is_byte byte) bytes) i ei in
+    let place = found_case (nat_lt (position_or_len (is_byte byte) bytes) (length bytes)) (position_or_len (is_byte byte) bytes) i ei in
     cut_parts byte bytes c.0 c.1 i place.1 (ltb-true (position_or_len (is_byte byte) bytes) (length bytes) place.0)
     (ap (λ (d : List ℕ × List ℕ). d.0) (same_Some _ _ e1)) (ap (λ (d : List ℕ × List ℕ). d.1) (same_Some _ _ e1)))
 
@@ -119,12 +112,8 @@ lacks byte (c ∷ cs) h zero l e =
     absurd (cc)
 lacks byte (c ∷ cs) h (suc k) l e = lacks byte cs (free_parts (eqb c byte) (free byte cs) h).1 k (omega (arith, l)) e
 
--- no blank stands in a number
-own : IsNumeralModel (AllDigits 10) (digits_value 10)
-own = numerals_by_value (AllDigits 10) tells_digits
-
 pub plain : (byte n : ℕ) → byte < 48 ⊎ 57 < byte → n < 2 ^ 64 → Lacks byte (decimal n)
-plain byte n out h k l = not_in_digits own (decimal n) byte (digits_decimal own n h) (λ r. absurd (omega (arith, r.0, out))) k l
+plain byte n out h k l = not_in_digits read_digits (decimal n) byte (digits_decimal read_digits n h) (λ r. absurd (omega (arith, r.0, out))) k l
 
 -- a reader gives those values that fit, each of its one text
 pub record Exact {A : Type 0} (read : List ℕ → Option A) (text : A → List ℕ) (Fits : A → Type 0) : Type 0 where

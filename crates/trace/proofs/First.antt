@@ -3,6 +3,7 @@ use Rattle.std.proofs.Common.{◌≡◌, ◌≢◌, ℕ, zero, suc, ◌+◌, ◌
 use Rattle.std.specs.Prelude.{Option, None, Some, Result, IsTrue, option_map}
 use Rattle.std.specs.List.{count_by}
 use Rattle.std.specs.Str.{bytes_eq}
+use Rattle.std.proofs.lemmas.Option.{same_Some}
 use Rattle.std.proofs.lemmas.Slice.Eq.{bytes_eq-Decides}
 use Rattle.std.proofs.lemmas.List.Sums.{sum_by_push}
 use Rattle.trace.specs.declared.line.Line.{Line}
@@ -16,7 +17,6 @@ use Rattle.trace.specs.TextLine.{Text, IsVersionLine}
 use Rattle.trace.specs.Streams.{Given}
 use Rattle.trace.specs.Lines.{text_of}
 use Rattle.trace.specs.declared.fault.PlayFault.{PlayFault}
-use Rattle.trace.proofs.Exact.{same_Some}
 use Rattle.trace.proofs.ReadLines.{unread}
 use Rattle.trace.proofs.LinesProcessed.{SoFar}
 use Rattle.trace.specs.declared.player.style.Style.{Style}

@@ -2,6 +2,7 @@
 use Rattle.std.proofs.Common.{◌≡◌, ℕ, zero, suc, ◌+◌, ◌-◌, ◌*◌, ◌^◌, ◌<◌, ◌≤◌, ◌⊎◌, inl, inr, List, [], ◌∷◌, ◌++◌, length, take, drop, get_or, Option, Some, None, arith, ap, sym, ◌∙◌, refl, length-append, length-take, take-take, append-nil}
 use Rattle.std.specs.Prelude.{decimal, IfSome}
 use Rattle.std.specs.Str.Parse.{AllDigits, digits_value}
+use Rattle.std.proofs.lemmas.Option.{same_Some}
 use Rattle.std.proofs.lemmas.Bool.{cases_lt}
 use Rattle.std.proofs.lemmas.Int.Digits.{digits_more, digits_value_more}
 use Rattle.std.proofs.lemmas.List.{take_at, take_all, get_or_at, get_or-take, get_or_append_left, get_or-append-add}
@@ -12,7 +13,7 @@ use Rattle.trace.specs.Numbers.{DigitsSpell, NoDigitAt, Fronts}
 use Rattle.trace.specs.Reading.{number_in, field_in}
 use Rattle.trace.proofs.Numbers.{number_in-spelled, number_in-Some, number_in-None}
 use Rattle.trace.proofs.Cuts.{parted}
-use Rattle.trace.proofs.Exact.{same_Some, narrow, wide, field_in-Some, field_in-spelled}
+use Rattle.trace.proofs.Exact.{narrow, wide, field_in-Some, field_in-spelled}
 
 -- 18 digits and one more write a number below 10 ^ 19
 pub row_small : (bytes : List ℕ) (n count : ℕ) → DigitsSpell bytes n count → count ≤ 18 → n < 10 ^ 18

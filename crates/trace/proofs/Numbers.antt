@@ -2,10 +2,11 @@
 use Rattle.std.proofs.Common.{◌≡◌, ℕ, ◌+◌, ◌/◌, ◌%◌, ◌^◌, ◌<◌, ◌≤◌, Bool, true, false, ◌&&◌, cond, List, [], ◌∷◌, ◌++◌, Some, None, nat_lt, Option, ap, ◌∙◌, sym, refl, subst, append_assoc}
 use Rattle.std.specs.Prelude.{decimal}
 use Rattle.std.specs.Str.{bytes_eq}
-use Rattle.std.specs.Str.Parse.{digits_value}
+use Rattle.std.specs.Str.Parse.{AllDigits, digits_value}
 use Rattle.std.proofs.lemmas.Bool.{lt-ltb, ltb-true, and_parts}
 use Rattle.std.proofs.lemmas.Slice.Eq.{bytes_eq-Decides}
 use Rattle.std.proofs.lemmas.Fmt.{decimal_is_IsNumeral, decimal_step}
+use Rattle.std.proofs.lemmas.Str.Parse.{numerals_by_value, tells_digits, IsNumeralModel}
 use Rattle.trace.specs.Reading.{number_in}
 
 both_true : (a b : Bool) → a ≡ true → b ≡ true → (a && b) ≡ true
@@ -21,9 +22,14 @@ number_in-spelled bits n bytes h wide e =
     let same : bytes_eq bytes (decimal (digits_value 10 bytes)) ≡ true = (bytes_eq-Decides bytes (decimal (digits_value 10 bytes))).1 (e ∙ ap decimal (sym v)) in
     ap (λ b. cond b (Some (digits_value 10 bytes)) None) (both_true _ _ small same) ∙ ap Some v
 
-found_case : (b : Bool) (v n : ℕ) → cond b (Some v) None ≡ Some n → (b ≡ true) × (v ≡ n)
-found_case true v n e = (refl, (cc))
-found_case false v n e = absurd (cc)
+-- what is found by a test
+pub found_case : {A : Type 0} (b : Bool) (x y : A) → cond b (Some x) None ≡ Some y → (b ≡ true) × (x ≡ y)
+found_case true x y e = (refl, (cc))
+found_case false x y e = absurd (cc)
+
+-- the digits of a number are those that std reads
+pub read_digits : IsNumeralModel (AllDigits 10) (digits_value 10)
+read_digits = numerals_by_value (AllDigits 10) tells_digits
 
 -- what is read is spelled so
 pub number_in-Some : (bits n : ℕ) (bytes : List ℕ) → number_in bits bytes ≡ Some n → (n < 2 ^ bits) × (bytes ≡ decimal n)

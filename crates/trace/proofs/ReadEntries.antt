@@ -2,12 +2,11 @@
 use Rattle.std.proofs.Common.{◌≡◌, ℕ, zero, suc, ◌-◌, ◌^◌, ◌<◌, ◌≤◌, inl, inr, Bool, true, false, cond, eqb, List, [], ◌∷◌, ◌++◌, length, take, drop, get_or, Some, None, Option, ap, ◌∙◌, sym, refl, arith, append_assoc, length-append}
 use Rattle.std.specs.Prelude.{decimal, codes, IfSome}
 use Rattle.std.specs.Str.{bytes_eq}
-use Rattle.std.specs.Str.Parse.{AllDigits, digits_value}
 use Rattle.std.proofs.lemmas.Bool.{ne_eqb}
 use Rattle.std.proofs.lemmas.List.{take-append-drop, take_at, drop_at}
 use Rattle.std.proofs.lemmas.Slice.Eq.{bytes_eq-Decides}
 use Rattle.std.proofs.lemmas.Fmt.{digits_decimal, decimal_nonempty}
-use Rattle.std.proofs.lemmas.Str.Parse.{digit_at, numerals_by_value, tells_digits, IsNumeralModel}
+use Rattle.std.proofs.lemmas.Str.Parse.{digit_at}
 use Rattle.graph_heap.specs.declared.command.Shape.{Shape}
 use Rattle.graph_heap.specs.declared.command.Shape.TheVariants.{Plain, RefArray, WordArray}
 use Rattle.graph_heap.specs.declared.command.Command.{Command}
@@ -18,19 +17,16 @@ use Rattle.trace.specs.declared.entry.EntryLine.TheVariants as lines
 use Rattle.trace.specs.declared.version.Version.{Version}
 use Rattle.trace.specs.Spelling.{two, three, four, shape_text, command_text, command_line, reply_text, entry_line, ShapeFits, CommandFits, IsOf, ReplyFits, is_skipped, SpellsEntry}
 use Rattle.trace.specs.Reading.{◌>>=◌, cut_at, mutator_and_command_in, reply_in, before_blank_in, after_in, arrow_in, entry_in, entry_line_in}
+use Rattle.trace.proofs.Numbers.{found_case, read_digits}
 use Rattle.trace.proofs.Exact.{bind_parts, told, chosen, Lacks, free, lacks, plain, narrow, cut_at-Some, cut_at-spelled, after_in-Some, after_in-spelled}
 use Rattle.trace.proofs.ReadCommands.{exact_mutator_and_command}
 use Rattle.trace.proofs.ReadReplies.{exact_reply}
-
-yes_or : (b : Bool) (x y : List ℕ) → cond b (Some x) None ≡ Some y → (b ≡ true) × (x ≡ y)
-yes_or true x y e = (refl, (cc))
-yes_or false x y e = absurd (cc)
 
 before_blank-Some : (bytes front : List ℕ) → before_blank_in bytes ≡ Some front → bytes ≡ front ++ 32 ∷ []
 unfolding before_blank_in
 before_blank-Some bytes front e =
     let n = length bytes - 1 in
-    let p = yes_or (bytes_eq (drop n bytes) (codes " ")) (take n bytes) front e in
+    let p = found_case (bytes_eq (drop n bytes) (codes " ")) (take n bytes) front e in
     sym (take-append-drop n bytes) ∙ ap (λ l. take n bytes ++ l) ((bytes_eq-Decides (drop n bytes) (codes " ")).0 p.0) ∙ ap (λ l. l ++ 32 ∷ []) p.1
 
 before_blank-spelled : (front : List ℕ) → before_blank_in (front ++ 32 ∷ []) ≡ Some front
@@ -130,9 +126,6 @@ unfolding entry_line_in
 by_digit version [] rest some low = absurd (omega (arith, some))
 by_digit version (b ∷ bs) rest some low = let other : eqb b 35 ≡ false = ne_eqb b 35 (λ e. omega arith) in rw other refl
 
-own : IsNumeralModel (AllDigits 10) (digits_value 10)
-own = numerals_by_value (AllDigits 10) tells_digits
-
 -- an entry, as a number and the rest
 abbrev tail : Entry → List ℕ
 tail x = 32 ∷ (command_text x.command ++ (codes " => " ++ reply_text x.reply))
@@ -147,7 +140,7 @@ unfolding entry_line_in
 line_only version bytes lines.Skip h = rw h refl
 line_only version bytes (lines.Entry x) h =
     let small = narrow x.mutator h.1 in
-    let d = digit_at (decimal x.mutator) 0 (digits_decimal own x.mutator small) (decimal_nonempty x.mutator small) in
+    let d = digit_at (decimal x.mutator) 0 (digits_decimal read_digits x.mutator small) (decimal_nonempty x.mutator small) in
     ap (entry_line_in version) h.0
     ∙ ap (entry_line_in version) (regrouped x)
     ∙ by_digit version (decimal x.mutator) (tail x) (decimal_nonempty x.mutator small) d.0

@@ -2,12 +2,11 @@
 use Rattle.std.proofs.Common.{◌≡◌, ℕ, ◌^◌, ◌<◌, ◌≤◌, inl, inr, Bool, true, false, ◌&&◌, eqb, leb, List, [], ◌∷◌, ◌++◌, length, get_or, Some, None, Option, ap, ◌∙◌, sym, refl, arith}
 use Rattle.std.specs.Prelude.{decimal, codes, IfSome}
 use Rattle.std.specs.Str.{bytes_eq}
-use Rattle.std.specs.Str.Parse.{AllDigits, digits_value}
 use Rattle.std.proofs.lemmas.Bool.{le-leb, leb-true, ne_eqb}
 use Rattle.std.proofs.lemmas.Slice.Eq.{bytes_eq-Decides}
 use Rattle.std.proofs.lemmas.Fmt.{digits_decimal, decimal_nonempty}
 use Rattle.std.proofs.lemmas.List.{get_or_append_left}
-use Rattle.std.proofs.lemmas.Str.Parse.{digit_at, numerals_by_value, tells_digits, IsNumeralModel}
+use Rattle.std.proofs.lemmas.Str.Parse.{digit_at}
 use Rattle.graph_heap.specs.declared.command.Command.{Command}
 use Rattle.quanta.specs.declared.schedule.TheConstants.{CLOCK_LIMIT}
 use Rattle.size_classes.specs.declared.config.TheConstants.{LEAST_BUDGET, MOST_BUDGET}
@@ -16,7 +15,7 @@ use Rattle.trace.specs.declared.line.Line.TheVariants as lines
 use Rattle.trace.specs.declared.version.Version.{Version}
 use Rattle.trace.specs.Spelling.{command_line, command_text, CommandFits, IsOf, is_skipped, version_line, Spells}
 use Rattle.trace.specs.Reading.{◌>>=◌, number_in, cut_at, mutator_and_command_in, collector_in, event_in, line_in}
-use Rattle.trace.proofs.Numbers.{number_in-spelled, number_in-Some}
+use Rattle.trace.proofs.Numbers.{read_digits, number_in-spelled, number_in-Some}
 use Rattle.trace.proofs.Exact.{bind_parts, told, chosen, lacks, cut_at-Some, cut_at-spelled, narrow}
 use Rattle.trace.proofs.ReadCommands.{exact_mutator_and_command}
 
@@ -59,9 +58,6 @@ line_found version bytes l e = elim (chosen (is_skipped bytes) _ _ l e) [
   | inr r ↦ event_found version bytes l r.1
 ]
 
-own : IsNumeralModel (AllDigits 10) (digits_value 10)
-own = numerals_by_value (AllDigits 10) tells_digits
-
 -- a line that begins with a digit is a command or nothing
 by_digit : (version : Version) (front rest : List ℕ) → 0 < length front → 48 ≤ get_or front 0 0 → get_or front 0 0 ≤ 57 → line_in version (front ++ rest) ≡ (mutator_and_command_in version (front ++ rest) >>= λ a. Some (lines.Command a.0 a.1))
 unfolding line_in
@@ -72,7 +68,7 @@ by_digit version (b ∷ bs) rest some low high =
 
 command_only : (version : Version) (m : ℕ) (c : Command) → m < 2 ^ 32 → CommandFits c → IsOf c version → line_in version (command_line m c) ≡ Some (lines.Command m c)
 command_only version m c small fits is =
-    let d = digit_at (decimal m) 0 (digits_decimal own m (narrow m small)) (decimal_nonempty m (narrow m small)) in
+    let d = digit_at (decimal m) 0 (digits_decimal read_digits m (narrow m small)) (decimal_nonempty m (narrow m small)) in
     by_digit version (decimal m) (32 ∷ command_text c) (decimal_nonempty m (narrow m small)) d.0 d.1
     ∙ ap (λ o. o >>= λ a. Some (lines.Command a.0 a.1)) ((exact_mutator_and_command version).only (m, c) (small, (fits, is)))
 
@@ -111,7 +107,7 @@ pub unread : (version : Version) (l : Line) → Spells version version_line l �
 unread version lines.Skip s = absurd (let e : false ≡ true = s in cc)
 unread version (lines.Command m c) s =
     let small = narrow m s.1 in
-    let d = digit_at (decimal m) 0 (digits_decimal own m small) (decimal_nonempty m small) in
+    let d = digit_at (decimal m) 0 (digits_decimal read_digits m small) (decimal_nonempty m small) in
     let at : get_or (command_line m c) 0 0 ≡ get_or (decimal m) 0 0 = get_or_append_left (decimal m) (32 ∷ command_text c) 0 0 (decimal_nonempty m small) in
     absurd (omega (arith, d, at, first_byte (command_line m c) s.0))
 unread version lines.Begin s = let e : 98 ≡ 118 = first_byte (codes "begin") s in absurd (omega (arith, e))

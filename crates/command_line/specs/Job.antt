@@ -8,21 +8,46 @@ use Rattle.command_line.specs.declared.job.Form.TheVariants as forms
 use Rattle.command_line.specs.declared.job.Report.{Report}
 use Rattle.command_line.specs.declared.job.Report.TheVariants as reports
 use Rattle.command_line.specs.declared.job.Job.{Job}
-use Rattle.command_line.specs.declared.job.Job.TheVariants.{Threads, Inspect, Path, Mmu, DrawRun, DrawEvents, DrawGraph}
+use Rattle.command_line.specs.declared.job.Job.TheVariants.{Play, Check, Threads, Inspect, Cycles, Path, Mmu, Draw, Pages, Plan}
+use Rattle.command_line.specs.declared.job.Drawing.{Drawing}
+use Rattle.command_line.specs.declared.job.Drawing.TheVariants as drawings
+use Rattle.command_line.specs.declared.job.Words.{Words}
 
 -- a window has 1 to 1099511627776 ticks
 abbrev pub IsWindow : ℕ → Type 0
 IsWindow ticks = (1 ≤ ticks) × (ticks ≤ 1099511627776)
 
+-- at most this many event lines, if their number is said
+abbrev pub AreLines : Option ℕ → Type 0
+AreLines after = IfSome after (λ lines. lines ≤ 4294967295)
+
+-- the numbers of a drawing lie in their ranges
+abbrev pub IsDrawable : Drawing → Type 0
+IsDrawable (drawings.Run form live) = Unit {0}
+IsDrawable (drawings.Events after) = AreLines after
+IsDrawable (drawings.Graph after most) = AreLines after × (1 ≤ most) × (most ≤ 4294967295)
+
 -- the numbers of a job lie in their ranges
 abbrev pub IsInRange : Job → Type 0
-IsInRange (Threads turns budget) = (turns ≤ 10000) × (LEAST_BUDGET ≤ budget) × (budget ≤ MOST_BUDGET)
-IsInRange (Inspect by after) = IfSome after (λ lines. lines ≤ 4294967295)
-IsInRange (DrawEvents after) = IfSome after (λ lines. lines ≤ 4294967295)
-IsInRange (DrawGraph after most) = IfSome after (λ lines. lines ≤ 4294967295) × (1 ≤ most) × (most ≤ 4294967295)
-IsInRange (Path id after) = IfSome after (λ lines. lines ≤ 4294967295)
-IsInRange (Mmu windows) = (0 < length windows.items) × All IsWindow windows.items
+IsInRange (Threads words turns budget) = (turns ≤ 10000) × (LEAST_BUDGET ≤ budget) × (budget ≤ MOST_BUDGET)
+IsInRange (Inspect words by after) = AreLines after
+IsInRange (Path words id after) = AreLines after
+IsInRange (Mmu words windows) = (0 < length windows.items) × All IsWindow windows.items
+IsInRange (Draw words drawing) = IsDrawable drawing
 IsInRange _ = Unit {0}
+
+-- the words of a job that every subcommand has
+abbrev pub words_of : Job → Words
+words_of (Play words history) = words
+words_of (Check words) = words
+words_of (Threads words turns budget) = words
+words_of (Inspect words by after) = words
+words_of (Cycles words csv) = words
+words_of (Path words id after) = words
+words_of (Mmu words windows) = words
+words_of (Draw words drawing) = words
+words_of (Pages words by) = words
+words_of (Plan words live classes) = words
 
 -- the name of a form of a run's data
 abbrev pub form_name : Form → List ℕ
@@ -35,13 +60,12 @@ report_name reports.Pages = codes "page"
 report_name reports.Sizes = codes "size"
 report_name reports.Shapes = codes "shape"
 
--- The job draws what has this name: the run, with the plans for this many live words; or, after this many event lines,
--- its events, or at most this many objects of its graph.
-abbrev pub IsDrawing : List ℕ → Option ℕ → Option ℕ → Option ℕ → Job → Type 0
-IsDrawing name lines objects words (DrawRun form live) =
+-- The drawing has this name: the run, with the plans for this many live words; or, after this many event lines, its events, or
+-- at most this many objects of its graph.
+abbrev pub IsDrawing : List ℕ → Option ℕ → Option ℕ → Option ℕ → Drawing → Type 0
+IsDrawing name lines objects words (drawings.Run form live) =
     (name ≡ form_name form) × (lines ≡ None) × (objects ≡ None) × (words ≡ live)
-IsDrawing name lines objects words (DrawEvents after) =
+IsDrawing name lines objects words (drawings.Events after) =
     (name ≡ codes "events") × (lines ≡ after) × (objects ≡ None) × (words ≡ None)
-IsDrawing name lines objects words (DrawGraph after most) =
+IsDrawing name lines objects words (drawings.Graph after most) =
     (name ≡ codes "graph") × (lines ≡ after) × (most ≡ unwrap_or objects 500) × (words ≡ None)
-IsDrawing name lines objects words other = ⊥

@@ -1,20 +1,22 @@
 -- Which job a subcommand and the values of its arguments ask for. Which these are in the words of a command line, is what
 -- clap says of the program's rows.
-use Rattle.std.specs.Prelude.{◌≡◌, ◌⊎◌, ℕ, Bool, true, false, List, [], Option, Some, None, Ok, Err, option_map, unwrap_or, codes}
+use Rattle.std.specs.Prelude.{◌≡◌, ◌⊎◌, if◌then◌else◌, ℕ, Bool, true, false, List, [], Option, Some, None, Ok, Err, option_map, unwrap_or, codes}
 use Rattle.std.specs.Borrow.{Bor}
 use Rattle.std.specs.List.{AllZip}
+use Rattle.std.specs.Str.{bytes_eq}
 use Rattle.std.specs.Str.Parse.{ParsesUnsigned}
 use Rattle.size_classes.specs.Sizes.{size_of}
 use Rattle.clap.specs.Words.{Text, Row, first_of, one_of, all_of, subcommand_of, fault_of, IsAmong}
 use Rattle.clap.specs.declared.error.kind.ErrorKind.TheVariants.{DisplayHelp, DisplayVersion}
 use Rattle.command_line.specs.declared.job.Job.{Job}
-use Rattle.command_line.specs.declared.job.Job.TheVariants.{Play, Check, Threads, Inspect, Cycles, Path, Mmu, Pages, Plan}
-use Rattle.command_line.specs.declared.job.Request.{Request}
+use Rattle.command_line.specs.declared.job.Job.TheVariants.{Play, Check, Threads, Inspect, Cycles, Path, Mmu, Draw, Pages, Plan}
+use Rattle.command_line.specs.declared.job.Drawing.{Drawing}
+use Rattle.command_line.specs.declared.job.Words.{Words}
 use Rattle.command_line.specs.declared.job.Sizing.{Sizing}
 use Rattle.command_line.specs.declared.job.Sizing.TheVariants.{Demand, Pace, Plan as By_plan}
 use Rattle.command_line.specs.declared.fault.WordsFault.{WordsFault}
 use Rattle.command_line.specs.declared.fault.WordsFault.TheVariants.{Help}
-use Rattle.command_line.specs.Job.{IsDrawing, report_name}
+use Rattle.command_line.specs.Job.{IsDrawing, report_name, words_of}
 use Rattle.command_line.specs.Program.{metronome}
 
 -- the number below 2 ^ bits in a text, where there is a text with one
@@ -49,41 +51,40 @@ IsSizing pace plan Pace = (pace ≡ true) × (plan ≡ false)
 IsSizing pace plan By_plan = (pace ≡ false) × (plan ≡ true)
 
 -- what is drawn, by its name
-abbrev pub IsDrawn : List Row → Job → Type 0
-IsDrawn rows job = (after : Option ℕ) × (most : Option ℕ) × (live : Option ℕ)
+abbrev pub IsDrawn : List Row → Drawing → Type 0
+IsDrawn rows drawing = (after : Option ℕ) × (most : Option ℕ) × (live : Option ℕ)
     × IsNumber 32 (one_of (codes "after") rows) after
     × IsNumber 32 (one_of (codes "most") rows) most × IsNumber 64 (one_of (codes "live") rows) live
-    × IsDrawing (unwrap_or (first_of (codes "as") rows) []) after most live job
+    × IsDrawing (unwrap_or (first_of (codes "as") rows) []) after most live drawing
 
 -- a subcommand and its arguments ask for a job
 abbrev pub Asks : Text → List Row → Job → Type 0
-Asks name rows (Play history) = (name ≡ codes "play") × IsFlag (one_of (codes "history") rows) history
-Asks name rows Check = name ≡ codes "check"
-Asks name rows (Threads turns budget) = (name ≡ codes "threads")
+Asks name rows (Play words history) = (name ≡ codes "play") × IsFlag (one_of (codes "history") rows) history
+Asks name rows (Check words) = name ≡ codes "check"
+Asks name rows (Threads words turns budget) = (name ≡ codes "threads")
     × IsNumberOrZero 32 (one_of (codes "turns") rows) turns
     × IsNumberOrZero 32 (one_of (codes "budget") rows) budget
-Asks name rows (Inspect by after) = (name ≡ codes "inspect")
+Asks name rows (Inspect words by after) = (name ≡ codes "inspect")
     × (unwrap_or (first_of (codes "by") rows) [] ≡ report_name by)
     × IsNumber 32 (one_of (codes "after") rows) after
-Asks name rows (Cycles csv) = (name ≡ codes "cycles") × IsFlag (one_of (codes "csv") rows) csv
-Asks name rows (Path id after) = (name ≡ codes "path") × IsNumberOrZero 64 (one_of (codes "ID") rows) id
+Asks name rows (Cycles words csv) = (name ≡ codes "cycles") × IsFlag (one_of (codes "csv") rows) csv
+Asks name rows (Path words id after) = (name ≡ codes "path") × IsNumberOrZero 64 (one_of (codes "ID") rows) id
     × IsNumber 32 (one_of (codes "after") rows) after
-Asks name rows (Mmu windows) = (name ≡ codes "mmu")
+Asks name rows (Mmu words windows) = (name ≡ codes "mmu")
     × AllZip (λ word ticks. IsNumber 64 (Some word) (Some ticks)) (unwrap_or (all_of (codes "WINDOW") rows) [])
     windows.items
-Asks name rows (Pages by) = (name ≡ codes "pages")
+Asks name rows (Pages words by) = (name ≡ codes "pages")
     × (pace : Bool) × IsFlag (one_of (codes "pace") rows) pace × (plan : Bool) × IsFlag (one_of (codes "plan") rows) plan
     × IsSizing pace plan by
-Asks name rows (Plan live classes) = (name ≡ codes "plan") × IsNumberOrZero 64 (one_of (codes "live") rows) live
+Asks name rows (Plan words live classes) = (name ≡ codes "plan") × IsNumberOrZero 64 (one_of (codes "live") rows) live
     × AreClassesOf (all_of (codes "classes") rows) (option_map (λ c. c.items) classes)
-Asks name rows drawing = (name ≡ codes "draw") × IsDrawn rows drawing
+Asks name rows (Draw words drawing) = (name ≡ codes "draw") × IsDrawn rows drawing
 
--- the argument that has the name of a job's file, if the job has one
-abbrev pub file_argument : Job → Option Text
-file_argument Check = Some (codes "HISTORY")
-file_argument (Threads turns budget) = Some (codes "SCRIPTS")
-file_argument (Plan live classes) = None
-file_argument _ = Some (codes "TRACE")
+-- the argument that has the name of a subcommand's other file, if the subcommand has one
+abbrev pub file_argument : Text → Option Text
+file_argument name = if bytes_eq name (codes "check") then Some (codes "HISTORY")
+    else if bytes_eq name (codes "threads") then Some (codes "SCRIPTS")
+    else if bytes_eq name (codes "plan") then None else Some (codes "TRACE")
 
 -- the file that an argument names; none where there is no such argument
 abbrev pub NamesFile : Option Text → List Row → Option (Bor Text) → Type 0
@@ -91,23 +92,25 @@ NamesFile None rows file = file ≡ None
 NamesFile (Some argument) rows None = ⊥
 NamesFile (Some argument) rows (Some file) = first_of argument rows ≡ Some file.now
 
--- a subcommand and its arguments ask for a request: they name its files, ask for its job, and set its two flags
-pub record AsksFor (name : Text) (rows : List Row) (request : Request) : Type 0 where
-  pub config : first_of (codes "CONFIG") rows ≡ Some request.config.now
-  pub file : NamesFile (file_argument request.job) rows request.file
-  pub job : Asks name rows request.job
-  pub progress : IsFlag (one_of (codes "progress") rows) request.progress
-  pub explain : IsFlag (one_of (codes "explain") rows) request.explain
+-- a subcommand and its arguments have these words: they name its files, and set its two flags
+pub record AreWords (name : Text) (rows : List Row) (words : Words) : Type 0 where
+  pub config : first_of (codes "CONFIG") rows ≡ Some words.config.now
+  pub file : NamesFile (file_argument name) rows words.file
+  pub progress : IsFlag (one_of (codes "progress") rows) words.progress
+  pub explain : IsFlag (one_of (codes "explain") rows) words.explain
 
--- The words of a command line ask for a request: what they give of the program's subcommands and their arguments asks for
--- it.
-abbrev pub IsAskedForBy : List Text → Request → Type 0
-IsAskedForBy words request = (name : Text) × (rows : List Row) × (subcommand_of metronome words ≡ Some (name, rows))
-    × AsksFor name rows request
+-- a subcommand and its arguments ask for a job, with its words
+abbrev pub AsksFor : Text → List Row → Job → Type 0
+AsksFor name rows job = Asks name rows job × AreWords name rows (words_of job)
 
--- some words ask for a request
-abbrev pub IsAskedFor : Request → Type 0
-IsAskedFor request = (words : List Text) × IsAskedForBy words request
+-- The words of a command line ask for a job: what they give of the program's subcommands and their arguments asks for it.
+abbrev pub IsAskedForBy : List Text → Job → Type 0
+IsAskedForBy words job = (name : Text) × (rows : List Row) × (subcommand_of metronome words ≡ Some (name, rows))
+    × AsksFor name rows job
+
+-- some words ask for a job
+abbrev pub IsAskedFor : Job → Type 0
+IsAskedFor job = (words : List Text) × IsAskedForBy words job
 
 -- the words of a command line ask for help, or for the version
 abbrev pub AsksForHelp : List Text → Type 0

@@ -1,4 +1,7 @@
 //! What the words of a command line ask for.
+ghost use Rattle.std.specs.Prelude.{◌≡◌};
+ghost use Rattle.command_line.specs.Job.{words_of};
+
 use size_classes::Class;
 
 /// How the data of a run are written.
@@ -32,75 +35,105 @@ pub enum Sizing {
     Plan,
 }
 
-/// What is done with the configuration, and with the other file if there is one.
+/// What is drawn of the run of a trace.
+#[derive(Clone, Copy, Debug, PartialEq, Eq)]
+pub enum Drawing {
+    /// The run's data; with the plans for this many words of live blocks, if it is said.
+    Run { form: Form, live: Option<u64> },
+    /// The quanta that took ticks, as events; of the first event lines, if their number is said.
+    Events { after: Option<u32> },
+    /// The objects that can be reached, at most this many; after the first event lines, if their number is said.
+    Graph { after: Option<u32>, most: u32 },
+}
+
+/// The words that every subcommand has: the names of its files, and two flags.
+#[derive(Clone, Copy, Debug, PartialEq, Eq)]
+pub struct Words<'a> {
+    /// The file of the configuration.
+    pub config: &'a str,
+    /// The other file, if the subcommand has one; `-` is standard input.
+    pub file: Option<&'a str>,
+    /// Whether standard error is told how many lines were read.
+    pub progress: bool,
+    /// Whether standard error is told more of what is wrong.
+    pub explain: bool,
+}
+
+/// What the words of a command line ask for: a case for each subcommand, with its words and numbers.
 #[derive(Debug, PartialEq, Eq, Drop)]
-pub enum Job {
+pub enum Job<'a> {
     /// Play a trace, and write its replies, or with `history` its entries.
     Play {
+        words: Words<'a>,
         history: bool,
     },
     /// Check the entries of a history.
-    Check,
+    Check {
+        words: Words<'a>,
+    },
     /// Run scripts on threads, beside this many quanta of the collector, each of this many units.
     Threads {
+        words: Words<'a>,
         turns: u32,
         budget: u32,
     },
     /// Play a trace, or its first event lines, and report the heap.
     Inspect {
+        words: Words<'a>,
         by: Report,
         after: Option<u32>,
     },
     /// Play a trace, and write the utilisation of windows of some numbers of ticks.
     Mmu {
+        words: Words<'a>,
         windows: Vec<u64>,
     },
-    /// Play a trace, and write the data of its run; with the plans for this many words of live blocks, if it is said.
-    DrawRun {
-        form: Form,
-        live: Option<u64>,
-    },
-    /// Play a trace, or its first event lines, and write the quanta that took ticks, as events.
-    DrawEvents {
-        after: Option<u32>,
-    },
-    /// Play a trace, or its first event lines, and draw the objects that can be reached, at most this many.
-    DrawGraph {
-        after: Option<u32>,
-        most: u32,
+    /// Play a trace, and draw this of its run.
+    Draw {
+        words: Words<'a>,
+        drawing: Drawing,
     },
     /// Play a trace, and tell of each cycle, with `csv` with commas between the figures.
     Cycles {
+        words: Words<'a>,
         csv: bool,
     },
     /// Play a trace, or its first event lines, and tell why the object of an identity is alive.
     Path {
+        words: Words<'a>,
         id: u64,
         after: Option<u32>,
     },
     /// Play a trace, and tell how many pages suffice.
     Pages {
+        words: Words<'a>,
         by: Sizing,
     },
     /// Tell how a heap would pace itself with this many words of live blocks, on some numbers of pages, for a program
     /// that asks for blocks of these size classes alone, or of all. It has no other file.
     Plan {
+        words: Words<'a>,
         live: u64,
         classes: Option<Vec<Class>>,
     },
 }
 
-/// What the words of a command line ask for, with the names of its files.
-#[derive(Debug, PartialEq, Eq, Drop)]
-pub struct Request<'a> {
-    /// The file of the configuration.
-    pub config: &'a str,
-    /// The other file, if the job has one; `-` is standard input.
-    pub file: Option<&'a str>,
-    /// What is to be done.
-    pub job: Job,
-    /// Whether standard error is told how many lines were read.
-    pub progress: bool,
-    /// Whether standard error is told more of what is wrong.
-    pub explain: bool,
+impl<'a> Job<'a> {
+    /// The words that every subcommand has.
+    pub fn words(&self) -> Words<'a>
+        ensures { result ≡ words_of self.now }
+    {
+        match self {
+            Job::Play { words, .. } => *words,
+            Job::Check { words } => *words,
+            Job::Threads { words, .. } => *words,
+            Job::Inspect { words, .. } => *words,
+            Job::Mmu { words, .. } => *words,
+            Job::Draw { words, .. } => *words,
+            Job::Cycles { words, .. } => *words,
+            Job::Path { words, .. } => *words,
+            Job::Pages { words, .. } => *words,
+            Job::Plan { words, .. } => *words,
+        }
+    }
 }

@@ -8,5 +8,5 @@ mod job;
 mod words;
 
 pub use fault::WordsFault;
-pub use job::{Form, Job, Report, Request, Sizing};
+pub use job::{Drawing, Form, Job, Report, Sizing, Words};
 pub use words::read_words;

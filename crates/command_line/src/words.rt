@@ -4,13 +4,13 @@ ghost use Rattle.std.specs.List.{All, Any};
 ghost use Rattle.std.specs.Prelude.{[], Some, codes, map, option_map, unwrap_or};
 ghost use Rattle.std.specs.List.{AllZip};
 ghost use Rattle.clap.specs.Words.{found_of, rows_of, first_of, one_of, kind_of};
-ghost use Rattle.command_line.specs.Job.{IsDrawing, IsInRange, IsWindow, form_name, report_name};
-ghost use Rattle.command_line.specs.Words.{Asks, AsksFor, file_argument, NamesFile, IsFlag, IsNumber, IsSizing, IsAskedFor, IsAskedForBy, HelpIsAskedFor, IsHelp};
+ghost use Rattle.command_line.specs.Job.{IsDrawable, IsDrawing, IsInRange, IsWindow, form_name, report_name, words_of};
+ghost use Rattle.command_line.specs.Words.{AreWords, Asks, AsksFor, IsDrawn, file_argument, NamesFile, IsFlag, IsNumber, IsSizing, IsAskedFor, IsAskedForBy, HelpIsAskedFor, IsHelp};
 
 use crate::classes::classes_said;
 use crate::commands::program;
 use crate::fault::{Refusal, WordsFault};
-use crate::job::{Form, Job, Report, Request, Sizing};
+use crate::job::{Drawing, Form, Job, Report, Sizing, Words};
 use clap::ArgMatches;
 use clap::error::ErrorKind;
 use size_classes::{LEAST_BUDGET, MOST_BUDGET};
@@ -20,8 +20,8 @@ use std::fmt::Display;
 
 /// What the words ask for; the first is the program's name. Where they ask for help, or are refused, the
 /// answer is the text for the user.
-pub fn read_words<'a, S: AsStr>(alloc: Global, words: &'a [S]) -> Result<Request<'a>, WordsFault>
-    ensures range { IfOk result (λ request. IsInRange request.job) }
+pub fn read_words<'a, S: AsStr>(alloc: Global, words: &'a [S]) -> Result<Job<'a>, WordsFault>
+    ensures range { IfOk result IsInRange }
     ensures asked { IfOk result IsAskedFor }
     ensures by { IfOk result (IsAskedForBy (map S.text words.now)) }
     ensures help { IfErr result (HelpIsAskedFor (map S.text words.now)) }
@@ -36,57 +36,59 @@ pub fn read_words<'a, S: AsStr>(alloc: Global, words: &'a [S]) -> Result<Request
     let Some((name, found)) = matches.subcommand() else {
         return Err(WordsFault::from(refused(alloc, "a subcommand is missing")));
     };
-    Ok(request_of(alloc, name, found)?)
+    Ok(job_of(alloc, name, found)?)
 }
 
-/// What the words of a subcommand ask for, with the names of its files.
-fn request_of<'a>(alloc: Global, name: &str, found: &ArgMatches<'a>) -> Result<Request<'a>, Refusal>
-    ensures range { IfOk result (λ request. IsInRange request.job) }
-    ensures asked { IfOk result (AsksFor name.now (rows_of (found_of found.now))) }
+/// The argument that has the name of a subcommand's other file, if the subcommand has one.
+fn file_argument(name: &str) -> Option<&'static str>
+    ensures { option_map (λ argument. argument.now) result ≡ file_argument name.now }
 {
-    let job = job_of(alloc, name, found)?;
-    Ok(Request {
-        config: file(alloc, found, "CONFIG")?,
-        file: file_of(alloc, found, &job)?,
-        job,
-        progress: flag(found, "progress"),
-        explain: flag(found, "explain"),
-    })
-}
-
-/// The argument that has the name of a job's file, if the job has one.
-fn file_argument(job: &Job) -> Option<&'static str>
-    ensures { option_map (λ argument. argument.now) result ≡ file_argument job.now }
-{
-    match job {
-        Job::Check => Some("HISTORY"),
-        Job::Threads { .. } => Some("SCRIPTS"),
-        Job::Plan { .. } => None,
+    match name {
+        "check" => Some("HISTORY"),
+        "threads" => Some("SCRIPTS"),
+        "plan" => None,
         _ => Some("TRACE"),
     }
 }
 
-/// The name of a job's file, if the job has one.
-fn file_of<'a>(alloc: Global, found: &ArgMatches<'a>, job: &Job) -> Result<Option<&'a str>, Refusal>
-    ensures { IfOk result (NamesFile (file_argument job.now) (rows_of (found_of found.now))) }
+/// The name of a subcommand's other file, if the subcommand has one.
+fn file_of<'a>(
+    alloc: Global,
+    name: &str,
+    found: &ArgMatches<'a>,
+) -> Result<Option<&'a str>, Refusal>
+    ensures { IfOk result (NamesFile (file_argument name.now) (rows_of (found_of found.now))) }
 {
-    match file_argument(job) {
+    match file_argument(name) {
         Some(argument) => Ok(Some(file(alloc, found, argument)?)),
         None => Ok(None),
     }
 }
 
-/// What the words of a subcommand ask for.
-fn job_of(alloc: Global, name: &str, found: &ArgMatches) -> Result<Job, Refusal>
-    ensures range { IfOk result IsInRange }
-    ensures asked { IfOk result (Asks name.now (rows_of (found_of found.now))) }
+/// The words that every subcommand has.
+fn words_of<'a>(alloc: Global, name: &str, found: &ArgMatches<'a>) -> Result<Words<'a>, Refusal>
+    ensures { IfOk result (AreWords name.now (rows_of (found_of found.now))) }
 {
+    Ok(Words {
+        config: file(alloc, found, "CONFIG")?,
+        file: file_of(alloc, name, found)?,
+        progress: flag(found, "progress"),
+        explain: flag(found, "explain"),
+    })
+}
+
+/// What the words of a subcommand ask for.
+fn job_of<'a>(alloc: Global, name: &str, found: &ArgMatches<'a>) -> Result<Job<'a>, Refusal>
+    ensures range { IfOk result IsInRange }
+    ensures asked { IfOk result (AsksFor name.now (rows_of (found_of found.now))) }
+{
+    let words = words_of(alloc, name, found)?;
     match name {
-        "check" => Ok(Job::Check),
-        "plan" => plan(alloc, found),
-        "threads" => threads(alloc, found),
-        "inspect" | "path" | "draw" => heap_job(alloc, name, found),
-        _ => run_job(alloc, name, found),
+        "check" => Ok(Job::Check { words }),
+        "plan" => plan(alloc, words, found),
+        "threads" => threads(alloc, words, found),
+        "inspect" | "path" => heap_job(alloc, words, name, found),
+        _ => run_job(alloc, words, name, found),
     }
 }
 
@@ -113,8 +115,9 @@ pub(crate) fn refused<T: Display + Drop>(alloc: Global, why: T) -> Refusal {
 }
 
 /// What the words of `threads` ask for.
-fn threads(alloc: Global, found: &ArgMatches) -> Result<Job, Refusal>
+fn threads<'a>(alloc: Global, words: Words<'a>, found: &ArgMatches) -> Result<Job<'a>, Refusal>
     ensures range { IfOk result IsInRange }
+    ensures words { IfOk result (λ job. words_of job ≡ words.entry) }
     ensures asked { IfOk result (Asks (codes "threads") (rows_of (found_of found.now))) }
 {
     // (clap gives each its default where it isn't named)
@@ -123,65 +126,90 @@ fn threads(alloc: Global, found: &ArgMatches) -> Result<Job, Refusal>
     within(alloc, "--turns <N>", u64::from(turns), 0, 10000)?;
     let (least, most) = (u64::from(LEAST_BUDGET), u64::from(MOST_BUDGET));
     within(alloc, "--budget <B>", u64::from(budget), least, most)?;
-    Ok(Job::Threads { turns, budget })
+    Ok(Job::Threads {
+        words,
+        turns,
+        budget,
+    })
 }
 
 /// What the words of `plan` ask for.
-fn plan(alloc: Global, found: &ArgMatches) -> Result<Job, Refusal>
+fn plan<'a>(alloc: Global, words: Words<'a>, found: &ArgMatches) -> Result<Job<'a>, Refusal>
     ensures range { IfOk result IsInRange }
+    ensures words { IfOk result (λ job. words_of job ≡ words.entry) }
     ensures asked { IfOk result (Asks (codes "plan") (rows_of (found_of found.now))) }
 {
     let classes = classes_said(alloc, found.get_strs("classes"))?;
     // (clap has refused what is no such number)
     let live = long_number(found, "live").unwrap_or(0);
-    Ok(Job::Plan { live, classes })
+    Ok(Job::Plan {
+        words,
+        live,
+        classes,
+    })
 }
 
-/// What a subcommand over a whole trace asks for.
-fn run_job(alloc: Global, name: &str, found: &ArgMatches) -> Result<Job, Refusal>
+/// What a subcommand over a run asks for.
+fn run_job<'a>(
+    alloc: Global,
+    words: Words<'a>,
+    name: &str,
+    found: &ArgMatches,
+) -> Result<Job<'a>, Refusal>
     ensures range { IfOk result IsInRange }
+    ensures words { IfOk result (λ job. words_of job ≡ words.entry) }
     ensures asked { IfOk result (Asks name.now (rows_of (found_of found.now))) }
 {
     match name {
         "play" => Ok(Job::Play {
+            words,
             history: flag(found, "history"),
         }),
         "cycles" => Ok(Job::Cycles {
+            words,
             csv: flag(found, "csv"),
         }),
         "mmu" => Ok(Job::Mmu {
+            words,
             windows: windows_of(alloc, found.get_strs("WINDOW").unwrap_or(&[]))?,
         }),
         "pages" => Ok(Job::Pages {
+            words,
             by: sizing(alloc, flag(found, "pace"), flag(found, "plan"))?,
+        }),
+        "draw" => Ok(Job::Draw {
+            words,
+            drawing: drawing(alloc, found)?,
         }),
         _ => Err(refused(alloc, "a subcommand is missing")),
     }
 }
 
 /// What a subcommand over the heap after some event lines, or all, asks for.
-fn heap_job(alloc: Global, name: &str, found: &ArgMatches) -> Result<Job, Refusal>
+fn heap_job<'a>(
+    alloc: Global,
+    words: Words<'a>,
+    name: &str,
+    found: &ArgMatches,
+) -> Result<Job<'a>, Refusal>
     ensures range { IfOk result IsInRange }
+    ensures words { IfOk result (λ job. words_of job ≡ words.entry) }
     ensures asked { IfOk result (Asks name.now (rows_of (found_of found.now))) }
 {
     let after = number(found, "after");
     match name {
         // (clap gives `by` its default where it isn't named)
         "inspect" => Ok(Job::Inspect {
+            words,
             by: report(alloc, word(found, "by").unwrap_or(""))?,
             after,
         }),
         // (clap has refused what is no such number)
         "path" => Ok(Job::Path {
+            words,
             id: long_number(found, "ID").unwrap_or(0),
             after,
         }),
-        "draw" => {
-            // (clap gives `as` its default where it isn't named)
-            let name = word(found, "as").unwrap_or("");
-            let (most, live) = (number(found, "most"), long_number(found, "live"));
-            drawing(alloc, name, after, most, live)
-        }
         _ => Err(refused(alloc, "a subcommand is missing")),
     }
 }
@@ -218,32 +246,43 @@ fn report(alloc: Global, name: &str) -> Result<Report, Refusal>
     chosen(alloc, name, &reports, "--by <PART>", expected)
 }
 
-/// What draws what has a name. A run is drawn whole, plans are of a run alone, and objects are counted of a graph alone.
-fn drawing(
+/// What the words of `draw` ask for.
+fn drawing(alloc: Global, found: &ArgMatches) -> Result<Drawing, Refusal>
+    ensures range { IfOk result IsDrawable }
+    ensures asked { IfOk result (IsDrawn (rows_of (found_of found.now))) }
+{
+    // (clap gives `as` its default where it isn't named)
+    let name = word(found, "as").unwrap_or("");
+    let (most, live) = (number(found, "most"), long_number(found, "live"));
+    drawing_of(alloc, name, number(found, "after"), most, live)
+}
+
+/// The drawing of a name. A run is drawn whole, plans are of a run alone, and objects are counted of a graph alone.
+fn drawing_of(
     alloc: Global,
     name: &str,
     after: Option<u32>,
     most: Option<u32>,
     live: Option<u64>,
-) -> Result<Job, Refusal>
-    ensures range { IfOk result IsInRange }
+) -> Result<Drawing, Refusal>
+    ensures range { IfOk result IsDrawable }
     ensures named { IfOk result (IsDrawing name.now after most live) }
 {
     if name == "graph" {
         without(alloc, live, "--live <N>", name)?;
         let most = most.unwrap_or(500);
         within(alloc, "--most <N>", u64::from(most), 1, 4294967295)?;
-        return Ok(Job::DrawGraph { after, most });
+        return Ok(Drawing::Graph { after, most });
     }
     if name == "events" {
         without(alloc, live, "--live <N>", name)?;
         without(alloc, most, "--most <N>", name)?;
-        return Ok(Job::DrawEvents { after });
+        return Ok(Drawing::Events { after });
     }
     let form = form(alloc, name)?;
     without(alloc, most, "--most <N>", name)?;
     without(alloc, after, "--after <N>", name)?;
-    Ok(Job::DrawRun { form, live })
+    Ok(Drawing::Run { form, live })
 }
 
 /// Refuses a number that isn't for what has a name, as `clap` does.

@@ -1,6 +1,7 @@
 -- From the bytes of files to what a request does.
 use Rattle.std.proofs.Common.{◌≡◌, ℕ, ◌+◌, ◌<◌, ◌≤◌, ◌⊎◌, inl, inr, Bool, true, false, List, [], ◌++◌, length, length-take, take, take_all, append-nil, Option, Some, None, ap, ◌∙◌, sym, subst, refl, arith}
 use Rattle.std.specs.Borrow.{Bor}
+use Rattle.std.specs.Io.KnownBytes.{prepend_known}
 use Rattle.std.specs.Str.{bytes_eq}
 use Rattle.std.proofs.Math.Seq.{take-append_seam}
 use Rattle.std.proofs.lemmas.Option.{same_Some}
@@ -32,6 +33,16 @@ begins_on (Some all) new given ended s b = subst (λ (o : Option (List ℕ)). If
 
 pub stays_from : {S : Type 0} (new : Option (List ℕ)) (input : S → Option (List ℕ)) (first old : S) → old ≡ first → Stays (input old) new → Stays (input first) new
 stays_from new input first old e h = subst (λ s. Stays (input s) new) e h
+
+-- a reader that has given nothing has all that it had
+none_before : (o : Option (List ℕ)) → Stays o (prepend_known [] o)
+none_before None = tt
+none_before (Some all) = refl
+
+pub reader_stays : {R : Type 0} (remaining : R → Option (List ℕ)) (reader now : R) (given : List ℕ) → given ≡ [] → now ≡ reader → Stays (remaining reader) (prepend_known given (remaining now))
+reader_stays remaining reader now given first same =
+    subst (λ r. Stays (remaining reader) (prepend_known given (remaining r))) (sym same)
+    (subst (λ (bytes : List ℕ). Stays (remaining reader) (prepend_known bytes (remaining reader))) (sym first) (none_before (remaining reader)))
 
 -- a document is read up to the byte that shows that it is too long
 front_is : (n : ℕ) (xs ys : List ℕ) → n ≡ length xs → take n (xs ++ ys) ≡ xs

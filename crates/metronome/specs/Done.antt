@@ -4,8 +4,11 @@ use Rattle.size_classes.specs.declared.config.Config.{Config}
 use Rattle.heap_model.specs.Event.{present_of}
 use Rattle.trace.specs.Streams.{Given, Taken}
 use Rattle.command_line.specs.declared.job.Job.{Job}
+use Rattle.command_line.specs.declared.job.Drawing.{Drawing}
+use Rattle.command_line.specs.declared.job.Drawing.TheVariants as drawings
+use Rattle.command_line.specs.declared.job.Sizing.{Sizing}
 use Rattle.command_line.specs.declared.job.Sizing.TheVariants.{Demand, Pace, Plan as By_plan}
-use Rattle.command_line.specs.declared.job.Job.TheVariants.{Play, Check, Threads, Inspect, Cycles, Path, Mmu, DrawRun, DrawEvents, DrawGraph, Pages, Plan}
+use Rattle.command_line.specs.declared.job.Job.TheVariants.{Play, Check, Threads, Inspect, Cycles, Path, Mmu, Draw, Pages, Plan}
 use Rattle.trace.specs.declared.player.style.Style.{Style}
 use Rattle.trace.specs.declared.player.style.Style.TheVariants.{Replies, Entries}
 use Rattle.metronome.specs.declared.fault.Ending.{Ending}
@@ -31,22 +34,30 @@ style_of history = if history then Entries else Replies
 abbrev pub layout_of : Bool → Layout
 layout_of csv = if csv then Commas else Columns
 
+-- what is done to draw this of a run
+abbrev pub DrawingDone : Drawing → Config → Given → Taken → Result Ending RunFault → Type 0
+DrawingDone (drawings.Run form live) config = Answered (questions.Run form live) config
+DrawingDone (drawings.Events after) config = AfterPlay (λ p. TextWritten Done (events_picture p)) after config
+DrawingDone (drawings.Graph after most) config = AfterPlay (λ p. GraphTold most (present_of p.course)) after config
+
+-- what is done to tell how many pages suffice
+abbrev pub PagesDone : Sizing → Config → Given → Taken → Result Ending RunFault → Type 0
+PagesDone Demand config = DemandTold config
+PagesDone Pace config = Answered questions.Pace config
+PagesDone By_plan config = Answered questions.Plan config
+
 -- what a job does: for some, what it reports of the player after its play; a plan reads no other file than the
 -- configuration
 abbrev pub JobDone : Job → Config → Given → Taken → Result Ending RunFault → Type 0
-JobDone (Play history) config = TracePlayed (style_of history) config
-JobDone Check config = Answered questions.History config
-JobDone (Threads turns budget) config = ScriptsRun turns budget config
-JobDone (Inspect by after) config = AfterPlay (λ p. HeapReported by p.course.heap) after config
-JobDone (Cycles csv) config = Answered (questions.Cycles (layout_of csv)) config
-JobDone (Path id after) config =
+JobDone (Play words history) config = TracePlayed (style_of history) config
+JobDone (Check words) config = Answered questions.History config
+JobDone (Threads words turns budget) config = ScriptsRun turns budget config
+JobDone (Inspect words by after) config = AfterPlay (λ p. HeapReported by p.course.heap) after config
+JobDone (Cycles words csv) config = Answered (questions.Cycles (layout_of csv)) config
+JobDone (Path words id after) config =
     AfterPlay (λ p. ReportTold (TellsWhy id p.course.heap (present_of p.course))) after config
-JobDone (Mmu windows) config = AfterPlay (λ p. WindowsTold config p.timetable windows.items) None config
-JobDone (DrawRun form live) config = Answered (questions.Run form live) config
-JobDone (DrawEvents after) config = AfterPlay (λ p. TextWritten Done (events_picture p)) after config
-JobDone (DrawGraph after most) config = AfterPlay (λ p. GraphTold most (present_of p.course)) after config
-JobDone (Pages Demand) config = DemandTold config
-JobDone (Pages Pace) config = Answered questions.Pace config
-JobDone (Pages By_plan) config = Answered questions.Plan config
-JobDone (Plan live classes) config =
+JobDone (Mmu words windows) config = AfterPlay (λ p. WindowsTold config p.timetable windows.items) None config
+JobDone (Draw words drawing) config = DrawingDone drawing config
+JobDone (Pages words by) config = PagesDone by config
+JobDone (Plan words live classes) config =
     λ given. ReportTold (IsPlansReport (option_map (λ said. said.items) classes) config live)

@@ -13,7 +13,7 @@ abbrev pub of_settings : ReadFault ConfigFault → RunFault
 of_settings (settings.Refused why) = Config why
 of_settings settings.NoMemory = Text NoMemory
 
--- the faults of words that give no request
+-- the faults of words that ask for no job
 abbrev pub IsOfWords : RunFault → Type 0
 IsOfWords (Words text) = Unit {0}
 IsOfWords (Text NoMemory) = Unit {0}

@@ -20,9 +20,9 @@ unknown_file = record { bytes = None; failed = true }
 abbrev pub no_file : KnownFile
 no_file = record { bytes = Some []; failed = false }
 
--- nothing is known of any file
-abbrev pub unknown_files : KnownFiles
-unknown_files = record { named = λ _. unknown_file; input = unknown_file }
+-- a reader that has these bytes, where they are known; a read of it may fail
+abbrev pub read_from : Option (List ℕ) → KnownFile
+read_from bytes = record { bytes = bytes; failed = true }
 
 -- A source is of a file, from its beginning: it has given nothing, none of its reads has failed, it has the file's bytes,
 -- where they are known, and if ever one of its reads fails, the file's did.

@@ -1,13 +1,14 @@
--- What a run of the program does, by the request that its words give and the bytes of its files.
+-- What a run of the program does, by the job for which its words ask and the bytes of its files.
 use Rattle.std.specs.Prelude.{◌≡◌, ℕ, ◌<◌, ◌≤◌, ◌⊎◌, ◌||◌, IsTrue, if◌then◌else◌, List, [], ◌++◌, length, codes, Option, Some, None, IfSome, Result, Ok, Err}
 use Rattle.std.specs.Borrow.{Bor}
 use Rattle.std.specs.Str.{bytes_eq}
 use Rattle.size_classes.specs.declared.config.Config.{Config}
 use Rattle.size_classes.specs.declared.fault.ConfigFault.{ConfigFault}
 use Rattle.documents.specs.ConfigFile.{IsRead}
+use Rattle.command_line.specs.Job.{words_of}
 use Rattle.command_line.specs.Words.{IsAskedForBy, AsksForHelp}
 use Rattle.command_line.specs.declared.job.Job.{Job}
-use Rattle.command_line.specs.declared.job.Request.{Request}
+use Rattle.command_line.specs.declared.job.Words.{Words}
 use Rattle.documents.specs.declared.toml_table.ReadFault.{ReadFault}
 use Rattle.trace.specs.Streams.{Given, Taken, Begins}
 use Rattle.metronome.specs.declared.fault.Ending.{Ending}
@@ -48,7 +49,7 @@ JobDoneOn file job config taken how = (given : Given) × (given.before ≡ []) �
     × JobDone job config given taken how × (0 < failed_reads how → IsTrue file.failed)
 
 module _ (files : KnownFiles) where
-  -- what is known of a request's other file: of standard input, or of the file of its name; none, where it has no other
+  -- what is known of a job's other file: of standard input, or of the file of its name; none, where it has no other
   -- file
   abbrev pub other_file : Option (Bor (List ℕ)) → KnownFile
   other_file None = no_file
@@ -58,22 +59,22 @@ module _ (files : KnownFiles) where
   abbrev pub ConfigRead : List ℕ → Result Config (ReadFault ConfigFault) → Type 0
   ConfigRead name read = IfSome (files.named name).bytes (λ all. IsRead all read)
 
-  -- A request's configuration was read, and its job done on its other file, or without one; or the configuration was
+  -- The configuration that words name was read, and a job done on their other file, or without one; or the configuration was
   -- refused; or one of the two files couldn't be read.
-  abbrev pub Obeyed : Request → Taken → Result Ending RunFault → Type 0
-  Obeyed request taken how =
-      ((config : Config) × ConfigRead request.config.now (Ok config)
-      × JobDoneOn (other_file request.file) request.job config taken how)
-      ⊎ (((why : ReadFault ConfigFault) × ConfigRead request.config.now (Err why)
+  abbrev pub Obeyed : Words → Job → Taken → Result Ending RunFault → Type 0
+  Obeyed words job taken how =
+      ((config : Config) × ConfigRead words.config.now (Ok config)
+      × JobDoneOn (other_file words.file) job config taken how)
+      ⊎ (((why : ReadFault ConfigFault) × ConfigRead words.config.now (Err why)
       × NothingDone (of_settings why) taken how)
       ⊎ ((fault : RunFault)
-      × IsUnreadable ((files.named request.config.now).failed || (other_file request.file).failed) fault
+      × IsUnreadable ((files.named words.config.now).failed || (other_file words.file).failed) fault
       × NothingDone fault taken how))
 
-  -- The words ask for a request, which was obeyed; or for help, which was written; or they were refused; or memory was.
+  -- The words ask for a job, which was done; or for help, which was written; or they were refused; or memory was.
   abbrev pub RunDone : List (List ℕ) → Taken → Result Ending RunFault → Type 0
   RunDone words taken how =
-      ((request : Request) × IsAskedForBy words request × Obeyed request taken how)
+      ((job : Job) × IsAskedForBy words job × Obeyed (words_of job) job taken how)
       ⊎ ((AsksForHelp words × (help : List ℕ) × TextWritten Done help taken how)
       ⊎ ((fault : RunFault) × IsOfWords fault × NothingDone fault taken how))
 

@@ -17,7 +17,7 @@ mod unread;
 
 use crate::fault::{Ending, RunFault};
 use crate::files::Opener;
-use command_line::{Request, read_words};
+use command_line::{Words, read_words};
 use config::tell_config;
 use document::{read_refused, tell_not_toml, tell_too_long};
 use lines::explain_line;
@@ -41,42 +41,42 @@ pub fn explain<S: AsStr, O: Opener, E: Write>(
     if matches!(how, Ok(Ending::Done)) {
         return;
     }
-    if let Ok(request) = read_words(alloc, words) {
-        let _ = explain_request(alloc, &request, opener, errors, how);
+    if let Ok(job) = read_words(alloc, words) {
+        let _ = explain_words(alloc, job.words(), opener, errors, how);
     }
 }
 
-/// Tells more of how the run of a request ended, where the request asks for that.
-fn explain_request<O: Opener, E: Write>(
+/// Tells more of how the run of words ended, where they ask for that.
+fn explain_words<O: Opener, E: Write>(
     alloc: Global,
-    request: &Request,
+    words: Words,
     opener: &O,
     errors: &mut E,
     how: &Result<Ending, RunFault>,
 ) -> Result<(), Silence>
-    ensures { request.now.explain ≡ false → errors.new ≡ errors.old }
+    ensures { words.entry.explain ≡ false → errors.new ≡ errors.old }
 {
-    if !request.explain {
+    if !words.explain {
         return Ok(());
     }
     match how {
         Ok(Ending::Done) => Ok(()),
-        Ok(Ending::WrongReply) => explain_reply(alloc, request, opener, errors),
-        Err(RunFault::Config(ConfigFault::TooLong)) => tell_too_long(request.config, errors),
+        Ok(Ending::WrongReply) => explain_reply(alloc, words, opener, errors),
+        Err(RunFault::Config(ConfigFault::TooLong)) => tell_too_long(words.config, errors),
         Err(RunFault::Config(ConfigFault::NotToml)) => {
-            tell_not_toml(alloc, opener, request.config, errors)
+            tell_not_toml(alloc, opener, words.config, errors)
         }
         Err(RunFault::Config(fault)) => {
             tell_config(
-                &read_refused(alloc, opener, request.config, errors)?,
+                &read_refused(alloc, opener, words.config, errors)?,
                 errors,
                 *fault,
             )
         }
         Err(RunFault::Text(PlayFault::Line(number, fault))) => {
-            explain_line(alloc, request, opener, errors, *number, *fault)
+            explain_line(alloc, words, opener, errors, *number, *fault)
         }
-        Err(RunFault::Text(PlayFault::Read)) => explain_unread(request, opener, errors),
+        Err(RunFault::Text(PlayFault::Read)) => explain_unread(words, opener, errors),
         Err(RunFault::Text(PlayFault::Write)) => {
             Ok(writeln!(errors, "metronome: a write to standard output failed")?)
         }

@@ -1,13 +1,13 @@
-//! Files by name, and standard input.
-ghost use Rattle.std.specs.Prelude.{◌≡◌, ◌⊎◌, ◌+◌, ◌<◌, ◌≤◌, ℕ, Some, true, IfOk, IfErr, IfSome, IsTrue};
+//! Files by their names.
+ghost use Rattle.std.specs.Prelude.{◌≡◌, ◌⊎◌, ◌+◌, ◌<◌, ◌≤◌, ℕ, List, Some, true, IfOk, IfErr, IfSome, IsTrue};
 ghost use Rattle.trace.specs.Streams.{given_by, Stays};
 ghost use Rattle.metronome.specs.Faults.{IsUnreadable, failed_reads};
-ghost use Rattle.metronome.specs.Files.{KnownFiles, IsOpened, IsFront, document_bytes, unknown_files};
+ghost use Rattle.metronome.specs.Files.{KnownFile, IsOpened, IsFront, document_bytes, unknown_file};
 
 use crate::fault::RunFault;
 use std::alloc::Global;
 use std::fs::{self, Files};
-use std::io::{self, Input, Read};
+use std::io::{self, Read};
 use trace::{PlayFault, ReadSource, Source};
 
 /// The most bytes of a configuration that are read: one more than it may have.
@@ -16,26 +16,19 @@ pub const DOCUMENT_BYTES: usize = 65537;
 /// How many bytes of a source are asked for at a time.
 const PIECE: usize = 4096;
 
-/// What opens the files that the words name, and standard input.
+/// What opens the files that the words name.
 pub trait Opener {
     /// A source of a file's bytes.
     type File: Source + Drop;
 
-    /// A source of the bytes of standard input.
-    type Input: Source + Drop;
-
-    /// What is known of the file of each name, and of standard input.
-    ghost known: { Self → KnownFiles };
+    /// What is known of the file of each name.
+    ghost known: { Self → List ℕ → KnownFile };
 
     /// A source of the file of this name, from its beginning.
     fn open(&self, name: &str) -> io::Result<Self::File>
         ensures opened { IfOk result (IsOpened Self.File.given Self.File.failures Self.File.input
-            ((known self.now).named name.now)) }
-        ensures failed { IfErr result (λ _. IsTrue ((known self.now).named name.now).failed) };
-
-    /// A source of standard input, from its beginning.
-    fn standard_input(&self) -> Self::Input
-        ensures { IsOpened Self.Input.given Self.Input.failures Self.Input.input (known self.now).input result };
+            (known self.now name.now)) }
+        ensures failed { IfErr result (λ _. IsTrue (known self.now name.now).failed) };
 
     /// Whether a file of this name may be read once more, so that it gives the same: it is no pipe and no device, or
     /// opening it tells what is wrong.
@@ -45,26 +38,20 @@ pub trait Opener {
     fn failure(&self, name: &str) -> Option<io::Error>;
 }
 
-/// The files of the machine, and its standard input.
+/// The files of the machine.
 #[derive(Clone, Copy, Drop)]
-pub struct HostFiles<'a, R: Files + Input> {
+pub struct HostFiles<'a, R: Files> {
     pub host: &'a R,
 }
 
-impl<'a, R: Files + Input> Opener for HostFiles<'a, R> {
+impl<'a, R: Files> Opener for HostFiles<'a, R> {
     type File = ReadSource<R::File>;
 
-    type Input = ReadSource<R::Reader>;
-
     // What a file of the machine holds, and whether it can be read, isn't known to any contract.
-    ghost known = { λ _. unknown_files };
+    ghost known = { λ _ _. unknown_file };
 
     fn open(&self, name: &str) -> io::Result<ReadSource<R::File>> {
         Ok(ReadSource::new(fs::open(self.host, name)?))
-    }
-
-    fn standard_input(&self) -> ReadSource<R::Reader> {
-        ReadSource::new(self.host.reader())
     }
 
     fn is_lasting(&self, name: &str) -> bool {
@@ -94,8 +81,8 @@ impl<'a, R: Files + Input> Opener for HostFiles<'a, R> {
 /// A source of the file of this name.
 pub fn open_file<O: Opener>(opener: &O, name: &str) -> Result<O::File, RunFault>
     ensures opened { IfOk result (IsOpened O.File.given O.File.failures O.File.input
-        ((O.known opener.now).named name.now)) }
-    ensures err { IfErr result (IsUnreadable ((O.known opener.now).named name.now).failed) }
+        (O.known opener.now name.now)) }
+    ensures err { IfErr result (IsUnreadable (O.known opener.now name.now).failed) }
 {
     match opener.open(name) {
         Ok(file) => Ok(file),
@@ -144,9 +131,9 @@ pub fn read_bytes<S: Source>(
 
 /// The bytes of a configuration.
 pub fn read_document<O: Opener>(alloc: Global, opener: &O, name: &str) -> Result<Vec<u8>, RunFault>
-    ensures bytes { IfOk result (λ bytes. IfSome ((O.known opener.now).named name.now).bytes
+    ensures bytes { IfOk result (λ bytes. IfSome (O.known opener.now name.now).bytes
         (λ all. bytes.items ≡ document_bytes all)) }
-    ensures err { IfErr result (IsUnreadable ((O.known opener.now).named name.now).failed) }
+    ensures err { IfErr result (IsUnreadable (O.known opener.now name.now).failed) }
 {
     let mut file = open_file(opener, name)?;
     read_bytes(alloc, &mut file, Some(DOCUMENT_BYTES))

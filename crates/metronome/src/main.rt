@@ -13,6 +13,8 @@ mod plan_job;
 mod progress;
 mod room;
 mod run;
+#[cfg(test)]
+mod tests;
 mod told;
 
 use fault::RunFault;
@@ -20,7 +22,7 @@ use files::HostFiles;
 use graph_heap::NoMemory;
 use run::{run, tell};
 use std::env;
-use std::io::{self, ErrorKind};
+use std::io::{self, ErrorKind, Input};
 use std::process::ExitCode;
 use trace::{BufferedSink, WriteSink};
 
@@ -43,6 +45,7 @@ fn main(rt: HostRuntime) -> ExitCode {
             rt.alloc(),
             words.as_slice(),
             &HostFiles { host: &rt },
+            rt.reader(),
             &mut BufferedSink::new(WriteSink::new(io::writer(&rt))),
             &mut rt.stderr(),
         ),

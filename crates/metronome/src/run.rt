@@ -4,9 +4,9 @@ ghost use Rattle.std.specs.Io.KnownBytes.{Appends};
 ghost use Rattle.metronome.specs.declared.fault.Ending.{Ending};
 ghost use Rattle.metronome.specs.declared.fault.RunFault.{RunFault};
 ghost use Rattle.trace.specs.Streams.{given_by, taken_by, Stays};
-ghost use Rattle.command_line.specs.declared.job.Job.TheVariants as jobs;
-ghost use Rattle.metronome.specs.Done.{JobDone, style_of, layout_of};
+ghost use Rattle.metronome.specs.Done.{DrawingDone, JobDone, PagesDone, style_of, layout_of};
 ghost use Rattle.metronome.specs.Faults.{failed_reads, failed_writes};
+ghost use Rattle.metronome.specs.Files.{read_from};
 ghost use Rattle.metronome.specs.Run.{IsGivenOf, Obeyed, RunDone, RunFlushed, Flushes, words_line};
 ghost use Rattle.metronome.specs.Status.{status_of};
 
@@ -19,16 +19,16 @@ use crate::files::{Opener, open_file, read_document};
 use crate::jobs::{play_job, threads_job};
 use crate::plan_job::plan_job;
 use crate::progress::ToldSource;
-use command_line::{Job, Request, Sizing, WordsFault, read_words};
+use command_line::{Drawing, Job, Sizing, Words, WordsFault, read_words};
 use documents::read_config;
 use inspector::Layout;
 use size_classes::Config;
 use std::alloc::Global;
 use std::convert::AsStr;
-use std::io::{self, Write};
+use std::io::{self, Read, Write};
 use std::sync::Wait;
 use std::thread::Threads;
-use trace::{MemorySource, PlayFault, Sink, Source, Style, write_all};
+use trace::{MemorySource, PlayFault, ReadSource, Sink, Source, Style, write_all};
 
 /// What a run has of the machine: threads, memory, and files by their names.
 #[derive(Clone, Copy, Drop)]
@@ -40,27 +40,30 @@ struct Host<'a, O: Opener, T: Threads + Wait + Sync> {
 
 /// Runs the program: does what the words ask for, after the first, which is the program's name, has the sink send on what
 /// waits in it, writes the fault to the error stream if there is one, and answers the exit status. A failed write to the error stream changes
-/// no status, nor does what is told there beside the fault, where the words ask for that.
-pub fn run<S, O, K, E, T>(
+/// no status, nor does what is told there beside the fault, where the words ask for that. `input` is standard input.
+pub fn run<S, O, R, K, E, T>(
     rt: &T,
     alloc: Global,
     words: &[S],
     opener: &O,
+    input: R,
     sink: &mut K,
     errors: &mut E,
 ) -> u8
 where
     S: AsStr,
     O: Opener,
+    R: Read + Drop,
     K: Sink,
     E: Write,
     T: Threads + Wait + Sync,
     ensures { (how : Result Ending RunFault) × (result ≡ status_of how)
-        × RunFlushed (O.known opener.now) (map S.text words.now) (taken_by K.taken K.sent sink.old sink.new) how
+        × RunFlushed (record { named = O.known opener.now; input = read_from (R.remaining input) }) (map S.text words.now)
+        (taken_by K.taken K.sent sink.old sink.new) how
         × (K.failures sink.new ≡ K.failures sink.old + failed_writes how) }
 {
     let host = Host { rt, alloc, opener };
-    let how = flushed(perform(&host, words, sink, errors), sink);
+    let how = flushed(perform(&host, words, input, sink, errors), sink);
     if let Err(fault) = &how {
         tell(errors, fault);
     }
@@ -109,18 +112,26 @@ fn tell_words<E: Write>(errors: &mut E, text: &str) -> io::Result<()>
 }
 
 /// Does what the words ask for. Where they ask for progress, the lines that are read are reported on the error stream.
-fn perform<S: AsStr, O: Opener, K: Sink, E: Write, T: Threads + Wait + Sync>(
+fn perform<S, O, R, K, E, T>(
     host: &Host<O, T>,
     words: &[S],
+    input: R,
     sink: &mut K,
     errors: &mut E,
 ) -> Result<Ending, RunFault>
-    ensures done { RunDone (O.known host.now.opener.now) (map S.text words.now)
+where
+    S: AsStr,
+    O: Opener,
+    R: Read + Drop,
+    K: Sink,
+    E: Write,
+    T: Threads + Wait + Sync,
+    ensures done { RunDone (record { named = O.known host.now.opener.now; input = read_from (R.remaining input) }) (map S.text words.now)
         (taken_by K.taken K.sent sink.old sink.new) result }
     ensures writes { K.failures sink.new ≡ K.failures sink.old + failed_writes result }
 {
-    let request = match read_words(host.alloc, words) {
-        Ok(request) => request,
+    let job = match read_words(host.alloc, words) {
+        Ok(job) => job,
         Err(WordsFault::Help(text)) => {
             write_all(sink, text.as_bytes())?;
             return Ok(Ending::Done);
@@ -128,39 +139,41 @@ fn perform<S: AsStr, O: Opener, K: Sink, E: Write, T: Threads + Wait + Sync>(
         Err(WordsFault::Refused(text)) => return Err(RunFault::Words(text)),
         Err(WordsFault::NoMemory) => return Err(RunFault::Text(PlayFault::NoMemory)),
     };
-    obey(host, &request, sink, errors)
+    obey(host, job.words(), &job, input, sink, errors)
 }
 
-/// Does what a request says, with the files that it names.
-fn obey<O: Opener, K: Sink, E: Write, T: Threads + Wait + Sync>(
+/// Does a job, with the files that these words name.
+fn obey<O: Opener, R: Read + Drop, K: Sink, E: Write, T: Threads + Wait + Sync>(
     host: &Host<O, T>,
-    request: &Request,
+    words: Words,
+    job: &Job,
+    input: R,
     sink: &mut K,
     errors: &mut E,
 ) -> Result<Ending, RunFault>
-    ensures done { Obeyed (O.known host.now.opener.now) request.now
+    ensures done { Obeyed (record { named = O.known host.now.opener.now; input = read_from (R.remaining input) }) words.entry job.now
         (taken_by K.taken K.sent sink.old sink.new) result }
     ensures writes { K.failures sink.new ≡ K.failures sink.old + failed_writes result }
 {
-    let bytes = read_document(host.alloc, host.opener, request.config)?;
+    let bytes = read_document(host.alloc, host.opener, words.config)?;
     let config = read_config(host.alloc, bytes.as_slice())?;
-    let Some(name) = request.file else {
+    let Some(name) = words.file else {
         let nothing = MemorySource::new(&[]);
-        return serve(host, request, &config, nothing, sink, errors);
+        return serve(host, job, &config, nothing, sink, errors);
     };
     if name == "-" {
-        let input = host.opener.standard_input();
-        return serve(host, request, &config, input, sink, errors);
+        let source = ReadSource::new(input);
+        return serve(host, job, &config, source, sink, errors);
     }
     let file = open_file(host.opener, name)?;
-    serve(host, request, &config, file, sink, errors)
+    serve(host, job, &config, file, sink, errors)
 }
 
-/// Does the job of a request, from the source of the other file. Where progress is asked for, the lines that are read
+/// Does a job, from the source of the other file. Where progress is asked for, the lines that are read
 /// are reported on the error stream; nothing else depends on that.
 fn serve<S: Source + Drop, K: Sink, E: Write, O: Opener, T: Threads + Wait + Sync>(
     host: &Host<O, T>,
-    request: &Request,
+    job: &Job,
     config: &Config,
     mut source: S,
     sink: &mut K,
@@ -168,13 +181,12 @@ fn serve<S: Source + Drop, K: Sink, E: Write, O: Opener, T: Threads + Wait + Syn
 ) -> Result<Ending, RunFault>
     requires { S.given source ≡ [] }
     ensures done { (after : S)
-        × JobDone request.now.job config.now (given_by S.given S.ended source after) (taken_by K.taken K.sent sink.old sink.new) result
+        × JobDone job.now config.now (given_by S.given S.ended source after) (taken_by K.taken K.sent sink.old sink.new) result
         × (S.failures after ≡ S.failures source + failed_reads result)
         × IsGivenOf (S.input source) (given_by S.given S.ended source after) result }
     ensures writes { K.failures sink.new ≡ K.failures sink.old + failed_writes result }
 {
-    let job = &request.job;
-    if request.progress {
+    if job.words().progress {
         let mut told = ToldSource::new(source, errors);
         work(host, job, config, &mut told, sink)
     } else {
@@ -198,37 +210,28 @@ fn work<S: Source, K: Sink, O: Opener, T: Threads + Wait + Sync>(
 {
     let alloc = host.alloc;
     match job {
-        Job::Play { history } => play_job(alloc, config, source, sink, style_of(*history)),
-        Job::Check => answer_job(alloc, config, source, sink, Question::History),
-        Job::Threads { turns, budget } => {
+        Job::Play { history, .. } => play_job(alloc, config, source, sink, style_of(*history)),
+        Job::Check { .. } => answer_job(alloc, config, source, sink, Question::History),
+        Job::Threads { turns, budget, .. } => {
             threads_job(host.rt, alloc, config, source, sink, *turns, *budget)
         }
-        Job::Inspect { by, after } => {
+        Job::Inspect { by, after, .. } => {
             after_play(alloc, config, source, sink, *after, Telling::Report(*by))
         }
-        Job::Cycles { csv } => {
+        Job::Cycles { csv, .. } => {
             let question = Question::Cycles(layout_of(*csv));
             answer_job(alloc, config, source, sink, question)
         }
-        Job::Path { id, after } => {
+        Job::Path { id, after, .. } => {
             after_play(alloc, config, source, sink, *after, Telling::Path(*id))
         }
-        Job::Mmu { windows } => {
+        Job::Mmu { windows, .. } => {
             let telling = Telling::Windows(windows.as_slice());
             after_play(alloc, config, source, sink, None, telling)
         }
-        Job::DrawRun { form, live } => {
-            let question = Question::Run(*form, *live);
-            answer_job(alloc, config, source, sink, question)
-        }
-        Job::DrawEvents { after } => {
-            after_play(alloc, config, source, sink, *after, Telling::Events)
-        }
-        Job::DrawGraph { after, most } => {
-            after_play(alloc, config, source, sink, *after, Telling::Graph(*most))
-        }
-        Job::Pages { by } => pages_job(alloc, config, source, sink, *by),
-        Job::Plan { live, classes } => plan_job(alloc, config, *live, classes, sink),
+        Job::Draw { drawing, .. } => draw_job(alloc, config, source, sink, *drawing),
+        Job::Pages { by, .. } => pages_job(alloc, config, source, sink, *by),
+        Job::Plan { live, classes, .. } => plan_job(alloc, config, *live, classes, sink),
     }
 }
 
@@ -250,6 +253,33 @@ fn layout_of(csv: bool) -> Layout
     if csv { Layout::Commas } else { Layout::Columns }
 }
 
+/// Draws the run of a trace.
+fn draw_job<S: Source, K: Sink>(
+    alloc: Global,
+    config: &Config,
+    source: &mut S,
+    sink: &mut K,
+    drawing: Drawing,
+) -> Result<Ending, RunFault>
+    ensures done { DrawingDone drawing config.now (given_by S.given S.ended source.old source.new)
+        (taken_by K.taken K.sent sink.old sink.new) result }
+    ensures reads { S.failures source.new ≡ S.failures source.old + failed_reads result }
+    ensures input { failed_reads result ≡ 0 → Stays (S.input source.old) (S.input source.new) }
+    ensures writes { K.failures sink.new ≡ K.failures sink.old + failed_writes result }
+{
+    match drawing {
+        Drawing::Run { form, live } => {
+            answer_job(alloc, config, source, sink, Question::Run(form, live))
+        }
+        Drawing::Events { after } => {
+            after_play(alloc, config, source, sink, after, Telling::Events)
+        }
+        Drawing::Graph { after, most } => {
+            after_play(alloc, config, source, sink, after, Telling::Graph(most))
+        }
+    }
+}
+
 /// Tells how many pages suffice for a trace.
 fn pages_job<S: Source, K: Sink>(
     alloc: Global,
@@ -258,7 +288,7 @@ fn pages_job<S: Source, K: Sink>(
     sink: &mut K,
     by: Sizing,
 ) -> Result<Ending, RunFault>
-    ensures done { JobDone (jobs.Pages by) config.now (given_by S.given S.ended source.old source.new)
+    ensures done { PagesDone by config.now (given_by S.given S.ended source.old source.new)
         (taken_by K.taken K.sent sink.old sink.new) result }
     ensures reads { S.failures source.new ≡ S.failures source.old + failed_reads result }
     ensures input { failed_reads result ≡ 0 → Stays (S.input source.old) (S.input source.new) }

@@ -1,5 +1,5 @@
 //! Numbers in decimal, separated by blanks.
-ghost use Rattle.std.specs.Prelude.{◌≡◌, ℕ, Option, ◌<◌, ◌≤◌, ◌^◌, ◌==◌, List, ◌++◌, Some, IfSome, IsNone, decimal, get_or, length, option_map, position};
+ghost use Rattle.std.specs.Prelude.{◌≡◌, ℕ, Option, ◌<◌, ◌≤◌, ◌^◌, ◌==◌, List, ◌++◌, Some, IfSome, IsNone, decimal, length, option_map, position};
 ghost use Rattle.trace.specs.Numbers.{DigitAt, DigitsSpell, NoDigitAt, Fronts};
 ghost use Rattle.trace.specs.Reading.{number_in, lead_then, cut_at, after_in, field_in};
 

@@ -6,7 +6,7 @@ use crate::explain::part::Part;
 use crate::explain::quoted::Quoted;
 use crate::explain::silence::Silence;
 use crate::files::{Opener, read_document};
-use command_line::Request;
+use command_line::Words;
 use documents::read_config;
 use quanta::CLOCK_LIMIT;
 use std::alloc::Global;
@@ -20,13 +20,13 @@ const LONGEST: usize = 256;
 /// a pipe or of a device can't be read once more.
 pub(crate) fn explain_line<O: Opener, E: Write>(
     alloc: Global,
-    request: &Request,
+    words: Words,
     opener: &O,
     errors: &mut E,
     number: u64,
     fault: LineFault,
 ) -> Result<(), Silence> {
-    let Some(file) = request.file else {
+    let Some(file) = words.file else {
         return Ok(());
     };
     if file == "-" {
@@ -34,7 +34,7 @@ pub(crate) fn explain_line<O: Opener, E: Write>(
             errors,
             "metronome: line {number} came from standard input, which can't be read again"
         )?;
-        return tell_rule(alloc, request, opener, errors, fault);
+        return tell_rule(alloc, words, opener, errors, fault);
     }
     let name = Quoted(file.as_bytes());
     if !opener.is_lasting(file) {
@@ -42,7 +42,7 @@ pub(crate) fn explain_line<O: Opener, E: Write>(
             errors,
             "metronome: line {number} came from {name}, which can't be read again"
         )?;
-        return tell_rule(alloc, request, opener, errors, fault);
+        return tell_rule(alloc, words, opener, errors, fault);
     }
     let line = line_of(alloc, opener, file, number)?;
     if line.bytes.is_empty() {
@@ -51,7 +51,7 @@ pub(crate) fn explain_line<O: Opener, E: Write>(
     }
     let text = Quoted(line.bytes.as_slice());
     writeln!(errors, "metronome: line {number} of {name} is {text}")?;
-    tell_rule(alloc, request, opener, errors, fault)?;
+    tell_rule(alloc, words, opener, errors, fault)?;
     let version = version_of(alloc, opener, file, number)?;
     tell_wrong(alloc, errors, version, line.bytes.as_slice(), fault)
 }
@@ -59,7 +59,7 @@ pub(crate) fn explain_line<O: Opener, E: Write>(
 /// Tells the rule that a line breaks whatever its fields are.
 fn tell_rule<O: Opener, E: Write>(
     alloc: Global,
-    request: &Request,
+    words: Words,
     opener: &O,
     errors: &mut E,
     fault: LineFault,
@@ -84,7 +84,7 @@ fn tell_rule<O: Opener, E: Write>(
             )?;
         }
         LineFault::NoSuchMutator => {
-            let bytes = read_document(alloc, opener, request.config)?;
+            let bytes = read_document(alloc, opener, words.config)?;
             let config = read_config(alloc, bytes.as_slice()).map_err(|_| Silence)?;
             let (count, last) = (config.mutators, config.mutators.saturating_sub(1));
             writeln!(

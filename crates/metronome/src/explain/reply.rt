@@ -3,7 +3,7 @@ use crate::explain::again::{line_of, version_of};
 use crate::explain::quoted::Quoted;
 use crate::explain::silence::Silence;
 use crate::files::{Opener, open_file, read_document};
-use command_line::Request;
+use command_line::Words;
 use documents::read_config;
 use graph_heap::{Entry, Reference};
 use std::alloc::Global;
@@ -15,11 +15,11 @@ use trace::{EntryLine, read_entry, write_reply};
 /// slow heap. A line of standard input, of a pipe or of a device can't be read once more.
 pub(crate) fn explain_reply<O: Opener, E: Write>(
     alloc: Global,
-    request: &Request,
+    words: Words,
     opener: &O,
     errors: &mut E,
 ) -> Result<(), Silence> {
-    let Some(name) = request.file else {
+    let Some(name) = words.file else {
         return Ok(());
     };
     if name == "-" || !opener.is_lasting(name) {
@@ -29,7 +29,7 @@ pub(crate) fn explain_reply<O: Opener, E: Write>(
         )?;
         return Ok(());
     }
-    let bytes = read_document(alloc, opener, request.config)?;
+    let bytes = read_document(alloc, opener, words.config)?;
     let config = read_config(alloc, bytes.as_slice()).map_err(|_| Silence)?;
     let mut reference = Reference::new(alloc, &config.limits())?;
     let mut source = open_file(opener, name)?;

@@ -2,17 +2,17 @@
 use crate::explain::quoted::Quoted;
 use crate::explain::silence::Silence;
 use crate::files::Opener;
-use command_line::Request;
+use command_line::Words;
 use std::io::Write;
 
-/// Tells of the first file of a request that can't be read, in the order in which they are read, and what the system says.
+/// Tells of the first file of words that can't be read, in the order in which they are read, and what the system says.
 pub(crate) fn explain_unread<O: Opener, E: Write>(
-    request: &Request,
+    words: Words,
     opener: &O,
     errors: &mut E,
 ) -> Result<(), Silence> {
-    if tell_unread(opener, request.config, errors)? {
-        if request.config == "-" {
+    if tell_unread(opener, words.config, errors)? {
+        if words.config == "-" {
             writeln!(
                 errors,
                 "metronome: a configuration is never read from standard input"
@@ -20,7 +20,7 @@ pub(crate) fn explain_unread<O: Opener, E: Write>(
         }
         return Ok(());
     }
-    match request.file {
+    match words.file {
         Some("-") => writeln!(errors, "metronome: a read of standard input failed")?,
         Some(name) => {
             tell_unread(opener, name, errors)?;

@@ -16,7 +16,7 @@ returns-clause-by g c =
     let rows = rows_of (found_of c.in-Some.found.now) in
     let entered : subcommand_rows_of matches ≡ Some (name, rows) = found_so _ _ name rows c.in-Some.ensures.name c.in-Some.ensures.rows in
     let found : subcommand_of metronome words ≡ Some (name, rows) = subcommand_is c.in-Ok.command words matches c.in-Ok.ensures c.in-Ok-try_get_matches_from.ensures.matches ∙ entered in
-    (name, rows, found, c.in_ok-request_of.ensures.asked)
+    (name, rows, found, c.in_ok-job_of.ensures.asked)
 
 pub returns-clause-asked : goal.returns-clause-asked
 returns-clause-asked g c = (map g.S.AsStr.text c.args.words.now, returns-clause-by g c)

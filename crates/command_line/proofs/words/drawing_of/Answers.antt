@@ -1,6 +1,6 @@
 use Rattle.std.proofs.Common.{refl, arith, rules}
 use Rattle.std.specs.Cmp.Lexicographic.{same_text}
-use Rattle.command_line.proofs.words.drawing.Goals as goal
+use Rattle.command_line.proofs.words.drawing_of.Goals as goal
 
 pub returns-then-eq-clause-range : goal.returns-then-eq-clause-range
 returns-then-eq-clause-range c = (search rules, omega arith, omega arith)

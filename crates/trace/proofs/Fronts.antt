@@ -1,6 +1,6 @@
 -- The number that bytes begin with.
 use Rattle.std.proofs.Common.{◌≡◌, ℕ, zero, suc, ◌+◌, ◌-◌, ◌*◌, ◌^◌, ◌<◌, ◌≤◌, ◌⊎◌, inl, inr, List, [], ◌∷◌, ◌++◌, length, take, drop, get_or, Option, Some, None, arith, ap, sym, ◌∙◌, refl, length-append, length-take, take-take, append-nil}
-use Rattle.std.specs.Prelude.{decimal}
+use Rattle.std.specs.Prelude.{decimal, IfSome}
 use Rattle.std.specs.Str.Parse.{AllDigits, digits_value}
 use Rattle.std.proofs.lemmas.Option.{same_Some}
 use Rattle.std.proofs.lemmas.Bool.{cases_lt}
@@ -11,13 +11,17 @@ use Rattle.std.proofs.lemmas.Str.{digit_value_digit}
 use Rattle.std.proofs.lemmas.Str.Parse.{digit_at, digits_value-take-le, numerals_by_value, tells_digits, digits_value_short}
 use Rattle.trace.specs.Numbers.{DigitsSpell, NoDigitAt, Fronts}
 use Rattle.trace.specs.Reading.{number_in, field_in}
-use Rattle.trace.proofs.Numbers.{number_in-spelled, number_in-None}
+use Rattle.trace.proofs.Numbers.{number_in-spelled, number_in-Some, number_in-None}
 use Rattle.trace.proofs.Cuts.{parted}
 use Rattle.trace.proofs.Exact.{narrow, wide, field_in-Some, field_in-spelled}
 
 -- 18 digits and one more write a number below 10 ^ 19
 pub row_small : (bytes : List ℕ) (n count : ℕ) → DigitsSpell bytes n count → count ≤ 18 → n < 10 ^ 18
 row_small bytes n count r few = omega (arith, r.value, digits_value_short (numerals_by_value _ tells_digits) (take count bytes) 18 r.digits (omega (arith, few, length-take count bytes)))
+
+-- 9 digits write a number of 32 bits
+pub row_narrow : (bytes : List ℕ) (n count : ℕ) → DigitsSpell bytes n count → count ≤ 9 → n < 2 ^ 32
+row_narrow bytes n count r few = omega (arith, r.value, digits_value_short (numerals_by_value _ tells_digits) (take count bytes) 9 r.digits (omega (arith, few, length-take count bytes)))
 
 -- a row with a digit more
 pub row_more : (bytes : List ℕ) (n count total : ℕ) → DigitsSpell bytes n count → count < length bytes → 48 ≤ get_or bytes count 0 → get_or bytes count 0 ≤ 57 → total ≡ n * 10 + (get_or bytes count 0 - 48) → DigitsSpell bytes total (count + 1)
@@ -140,6 +144,10 @@ word_is bytes w count f all = sym (number_in-spelled 64 w bytes f.fits f.fits (s
 nothing : NoDigitAt [] 0
 nothing inside low high = omega (arith, inside)
 
+pub whole_number : (bytes : List ℕ) (count : ℕ) (o : Option ℕ) → IfSome o (λ n. Fronts bytes n count) → count ≡ length bytes → IfSome o (λ n. Some n ≡ number_in 64 bytes)
+whole_number bytes count None f all = tt
+whole_number bytes count (Some n) f all = word_is bytes n count f all
+
 pub word_none : (bytes : List ℕ) (o : Option (ℕ × ℕ)) → Only bytes o → ((n : ℕ) → o ≡ Pair n (length bytes) → ⊥) → None ≡ number_in 64 bytes
 word_none bytes o only not = sym (number_in-None 64 bytes (λ n h e. not n (only n [] h (e ∙ sym (append-nil (decimal n))) nothing ∙ ap (Pair n) (ap length (sym e)))))
 
@@ -171,6 +179,10 @@ pub narrow_is : (bytes rest : List ℕ) (w : ℕ) → Some (w, rest) ≡ field_i
 narrow_is bytes rest w e small =
     let f = field_in-Some 64 bytes (w, rest) (sym e) in
     sym (ap (field_in 32) f.0 ∙ field_in-spelled 32 w rest narrow small)
+
+-- a number that is read of 64 bits, and has 32
+pub number_narrow : (bytes : List ℕ) (n : ℕ) → Some n ≡ number_in 64 bytes → n < 2 ^ 32 → Some n ≡ number_in 32 bytes
+number_narrow bytes n e small = let f = number_in-Some 64 n bytes (sym e) in sym (number_in-spelled 32 n bytes small f.0 f.1)
 
 narrow_none : (bytes : List ℕ) → ((a : ℕ × List ℕ) → a.0 < 2 ^ 32 → Some a ≡ field_in 64 bytes → ⊥) → None ≡ field_in 32 bytes
 narrow_none bytes not = none_case (field_in 32 bytes) (λ a e.

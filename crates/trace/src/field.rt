@@ -1,5 +1,5 @@
 //! Numbers in decimal, separated by blanks.
-ghost use Rattle.std.specs.Prelude.{◌≡◌, ℕ, Option, ◌<◌, ◌≤◌, ◌^◌, ◌==◌, List, ◌++◌, Some, IfSome, IsNone, decimal, length, option_map, position};
+ghost use Rattle.std.specs.Prelude.{◌≡◌, ℕ, Option, ◌<◌, ◌≤◌, ◌^◌, ◌==◌, List, ◌++◌, Some, IfSome, IsNone, decimal, get_or, length, option_map, position};
 ghost use Rattle.trace.specs.Numbers.{DigitAt, DigitsSpell, NoDigitAt, Fronts};
 ghost use Rattle.trace.specs.Reading.{number_in, lead_then, cut_at, after_in, field_in};
 
@@ -19,16 +19,18 @@ fn digit_at(bytes: &[u8], i: usize) -> Option<u64>
     }
 }
 
-/// The digits at the front, 19 of them at most: the number that they write, and how many they are.
+/// The digits at the front, up to so many: the number that they write, and how many they are.
 #[inline(always)]
-fn front_digits(bytes: &[u8]) -> (u64, usize)
+fn front_digits(bytes: &[u8], most: usize) -> (u64, usize)
+    requires { most ≤ 19 }
     ensures row { DigitsSpell bytes.now result.0 result.1 }
-    ensures most { result.1 ≤ 19 }
-    ensures end { result.1 < 19 → NoDigitAt bytes.now result.1 }
+    ensures most { result.1 ≤ most }
+    ensures end { result.1 < most → NoDigitAt bytes.now result.1 }
+    ensures small { result.1 ≤ 9 → result.0 < 2 ^ 32 }
 {
     let mut n = 0u64;
     let mut at = 0;
-    while at < LONG {
+    while at < most {
         let Some(digit) = digit_at(bytes, at) else {
             return (n, at);
         };
@@ -36,6 +38,95 @@ fn front_digits(bytes: &[u8]) -> (u64, usize)
         at += 1;
     }
     (n, at)
+}
+
+/// The number that the first digits write, this many, if they are the spelling of one.
+#[inline(always)]
+fn few_digits(bytes: &[u8], count: usize) -> Option<u32>
+    requires some { 0 < count }
+    requires few { count ≤ 9 }
+    ensures fronts { IfSome result (λ n. Fronts bytes.now n count) }
+    ensures narrow { IfSome result (λ n. n < 2 ^ 32) }
+{
+    let (n, found) = front_digits(bytes, count);
+    if found < count {
+        return None;
+    }
+    if bytes[0] == b'0' && count > 1 {
+        return None;
+    }
+    Some(n as u32)
+}
+
+/// A number of this many digits, behind which a blank stands, and what stands after that.
+#[inline(always)]
+fn digits_before_blank(bytes: &[u8], count: usize) -> Option<(u32, &[u8])>
+    requires some { 0 < count }
+    requires few { count ≤ 9 }
+    requires inside { count < length bytes.now }
+    requires blank { get_or bytes.now count 0 ≡ 32 }
+    ensures { IfSome result (λ f. Some (f.0, f.1.now) ≡ field_in 32 bytes.now) }
+{
+    let n = few_digits(bytes, count)?;
+    Some((n, &bytes[count + 1..]))
+}
+
+/// What stands before the first blank, if it is a number of this many digits, and what stands after that.
+#[inline(always)]
+fn short_lead(bytes: &[u8], count: usize) -> Option<(u32, &[u8])>
+    requires some { 0 < count }
+    requires few { count ≤ 9 }
+    ensures { IfSome result (λ f. Some (f.0, f.1.now) ≡ field_in 32 bytes.now) }
+{
+    if count < bytes.len() && bytes[count] == b' ' {
+        digits_before_blank(bytes, count)
+    } else {
+        None
+    }
+}
+
+/// The same of up to three digits, which most numbers have.
+#[inline(always)]
+fn few_lead(bytes: &[u8]) -> Option<(u32, &[u8])>
+    ensures { IfSome result (λ f. Some (f.0, f.1.now) ≡ field_in 32 bytes.now) }
+{
+    if let Some(found) = short_lead(bytes, 1) {
+        return Some(found);
+    }
+    if let Some(found) = short_lead(bytes, 2) {
+        return Some(found);
+    }
+    short_lead(bytes, 3)
+}
+
+/// The number that all the bytes spell, if it has this many digits.
+#[inline(always)]
+fn short_number(bytes: &[u8], count: usize) -> Option<u32>
+    requires some { 0 < count }
+    requires few { count ≤ 9 }
+    ensures wide { IfSome result (λ n. Some n ≡ number_in 64 bytes.now) }
+    ensures narrow { IfSome result (λ n. n < 2 ^ 32) }
+{
+    if bytes.len() == count {
+        few_digits(bytes, count)
+    } else {
+        None
+    }
+}
+
+/// The same of up to three digits.
+#[inline(always)]
+fn few_number(bytes: &[u8]) -> Option<u32>
+    ensures wide { IfSome result (λ n. Some n ≡ number_in 64 bytes.now) }
+    ensures narrow { IfSome result (λ n. n < 2 ^ 32) }
+{
+    if let Some(n) = short_number(bytes, 1) {
+        return Some(n);
+    }
+    if let Some(n) = short_number(bytes, 2) {
+        return Some(n);
+    }
+    short_number(bytes, 3)
 }
 
 /// The number at the front, where its first 19 digits are read.
@@ -70,7 +161,7 @@ fn front_number(bytes: &[u8]) -> Option<(u64, usize)>
     ensures only { (m : ℕ) (rest : List ℕ) → m < 2 ^ 64 → bytes.now ≡ decimal m ++ rest → NoDigitAt rest 0
         → result ≡ Some (m, length (decimal m)) }
 {
-    let (n, count) = front_digits(bytes);
+    let (n, count) = front_digits(bytes, LONG);
     if count == LONG {
         return long_number(bytes, n);
     }
@@ -129,14 +220,64 @@ pub(crate) trait Leading: Copy {
         ensures { option_map (λ c. (c.0, c.1.now)) result ≡ lead_in bytes.now };
 }
 
+/// The same of up to five digits.
+#[inline(always)]
+fn some_number(bytes: &[u8]) -> Option<u32>
+    ensures wide { IfSome result (λ n. Some n ≡ number_in 64 bytes.now) }
+    ensures narrow { IfSome result (λ n. n < 2 ^ 32) }
+{
+    if let Some(n) = few_number(bytes) {
+        return Some(n);
+    }
+    if let Some(n) = short_number(bytes, 4) {
+        return Some(n);
+    }
+    short_number(bytes, 5)
+}
+
+/// The word that the bytes spell, of whatever digits. Such readers stand apart, so that those of few digits are short.
+#[inline(never)]
+fn any_word(bytes: &[u8]) -> Option<u64>
+    ensures { result ≡ number_in 64 bytes.now }
+{
+    let (w, count) = front_number(bytes)?;
+    if count == bytes.len() { Some(w) } else { None }
+}
+
+/// A number of 32 bits, of whatever digits.
+#[tactic(auto, unfolding(crate::specs::Reading::number_in))]
+#[inline(never)]
+fn any_number(bytes: &[u8]) -> Option<u32>
+    ensures { result ≡ number_in 32 bytes.now }
+{
+    let n = any_word(bytes)?;
+    if n < 4294967296 { Some(n as u32) } else { None }
+}
+
+/// What stands before the first blank, a number of 32 bits, of whatever digits, and what stands after that.
+#[tactic(auto, unfolding(crate::specs::Reading::field_in))]
+#[inline(never)]
+fn any_lead(bytes: &[u8]) -> Option<(u32, &[u8])>
+    ensures { option_map (λ c. (c.0, c.1.now)) result ≡ field_in 32 bytes.now }
+{
+    let (w, rest) = u64::lead(bytes)?;
+    if w < 4294967296 {
+        Some((w as u32, rest))
+    } else {
+        None
+    }
+}
+
 /// A word, which has 64 bits.
 impl Spelled for u64 {
     ghost read_in = { number_in 64 };
 
     #[inline(always)]
     fn read(bytes: &[u8]) -> Option<u64> {
-        let (w, count) = front_number(bytes)?;
-        if count == bytes.len() { Some(w) } else { None }
+        if let Some(n) = some_number(bytes) {
+            return Some(u64::from(n));
+        }
+        any_word(bytes)
     }
 }
 
@@ -144,7 +285,7 @@ impl Leading for u64 {
     ghost lead_in = { field_in 64 };
 
     #[tactic(auto, using(crate::proofs::Cuts::rest_of))]
-    #[inline(always)]
+    #[inline(never)]
     fn lead(bytes: &[u8]) -> Option<(u64, &[u8])> {
         let (w, count) = front_number(bytes)?;
         if count < bytes.len() && bytes[count] == b' ' {
@@ -159,26 +300,24 @@ impl Leading for u64 {
 impl Spelled for u32 {
     ghost read_in = { number_in 32 };
 
-    #[tactic(auto, unfolding(crate::specs::Reading::number_in))]
     #[inline(always)]
     fn read(bytes: &[u8]) -> Option<u32> {
-        let n = u64::read(bytes)?;
-        if n < 4294967296 { Some(n as u32) } else { None }
+        if let Some(n) = few_number(bytes) {
+            return Some(n);
+        }
+        any_number(bytes)
     }
 }
 
 impl Leading for u32 {
     ghost lead_in = { field_in 32 };
 
-    #[tactic(auto, unfolding(crate::specs::Reading::field_in))]
     #[inline(always)]
     fn lead(bytes: &[u8]) -> Option<(u32, &[u8])> {
-        let (w, rest) = u64::lead(bytes)?;
-        if w < 4294967296 {
-            Some((w as u32, rest))
-        } else {
-            None
+        if let Some(found) = few_lead(bytes) {
+            return Some(found);
         }
+        any_lead(bytes)
     }
 }
 

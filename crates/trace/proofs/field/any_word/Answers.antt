@@ -1,6 +1,6 @@
 use Rattle.std.proofs.Common.{None, length, arith}
 use Rattle.trace.proofs.Fronts.{Pair, no_pair, pair_count, word_is, word_none}
-use Rattle.trace.proofs.field.U64Spelled.read.Goals as goal
+use Rattle.trace.proofs.field.any_word.Goals as goal
 
 pub returns-in_err-w : goal.returns-in_err-w
 returns-in_err-w c = rw c.from_residual.ensures (word_none c.args.bytes.now None c.in_err-w.ensures.only (λ n e. no_pair n (length c.args.bytes.now) e))

@@ -1,5 +1,5 @@
 use Rattle.trace.proofs.Fronts.{narrow_is, narrow_wide, narrow_gone}
-use Rattle.trace.proofs.field.U32Leading.lead.Goals as goal
+use Rattle.trace.proofs.field.any_lead.Goals as goal
 
 pub returns-in_err-w : goal.returns-in_err-w
 returns-in_err-w c = rw c.from_residual.ensures (narrow_gone c.args.bytes.now c.in_err-w.ensures)

@@ -53,8 +53,8 @@ impl Model for Recorded {
     ghost invariant = { λ a. IsCourse (recorded_of a).course };
 }
 
-/// What a caller gets for a command: its entry in the history, and the place of that entry, from 0.
-/// `Recorded::call` alone makes one.
+/// The receipt for a command: its entry in the history, and the place of that entry, from 0. Only `Recorded::call` makes
+/// one.
 #[derive(Clone, Copy, Debug, PartialEq, Eq)]
 pub struct Receipt {
     entry: Entry,
@@ -133,7 +133,7 @@ impl Recorded {
             reply,
         };
         let place = self.history.len();
-        self.history.push(entry)?;
+        self.history.push_reserved(entry);
         Ok(Receipt { entry, place })
     }
 
@@ -158,7 +158,7 @@ impl Recorded {
         self.heap.quantum(budget)
     }
 
-    /// Does one event. What a cycle or a budget is refused is passed over.
+    /// Does one event. It passes over a refused cycle or budget.
     fn event(&mut self, event: Event) -> Result<(), NoMemory>
         ensures runs { RunsFront self.old.course (event ∷ []) self.new.course result }
         ensures room { commands_in (event ∷ []) ≤ self.old.room → IsOk result }
@@ -178,7 +178,7 @@ impl Recorded {
         Ok(())
     }
 
-    /// What the type promises, of whatever events led here and of whatever are done next. It does nothing.
+    /// States the promises of the type, for all events that led here and all that are done next. It does nothing.
     pub fn promise(&self)
         ensures headline { AlwaysHolds self.now.course }
         ensures space { FindsSpace self.now.course }
@@ -187,14 +187,13 @@ impl Recorded {
         let _history = &self.history;
     }
 
-    /// Does events one after the other, in whatever order. It stops where memory is refused for the
-    /// entry of a command, and that command isn't done. Whatever events are done, each reply is that of
-    /// one sequential heap, which never moves or frees an object, at the command's place in one history
-    /// that only grows; what is freed is unreachable there; when a sweep ends, the heap holds exactly
-    /// what was reachable when its cycle began and what was made since; and a cycle ends soon. From a heap
-    /// that was just made no reply is the refusal for lack of space, where the events keep to a demand that
-    /// fits its configuration, or to a pace that does (`space::pace_fits`); nor, where moving follows each
-    /// sweep and may empty all pages, where they keep to a budget of pages, whatever the sizes of the objects.
+    /// Does events one after the other, in any order. If memory is refused for the entry of a command, it stops, and that
+    /// command isn't done. For all events, each reply is that of one sequential heap, which never moves or frees an object,
+    /// at the command's place in one history that only grows. Each freed object is unreachable there. When a sweep ends, the
+    /// heap holds exactly the objects that were reachable when its cycle began and those made since. A cycle ends soon. From
+    /// a heap that was just made no reply is the refusal for lack of space if the events keep to a demand that fits its
+    /// configuration, or to a pace that does (`space::pace_fits`). Nor is one if moving follows each sweep and may empty all
+    /// pages, and the events keep to a budget of pages, whatever the sizes of the objects.
     pub fn run(&mut self, events: &[Event]) -> Result<(), NoMemory>
         ensures headline { AlwaysHolds self.old.course }
         ensures space { FindsSpace self.old.course }

@@ -7,6 +7,7 @@ ghost use Rattle.metronome.specs.Told.{TextWritten};
 ghost use Rattle.metronome.specs.Answered.{EntriesTaken, verdict, told_of, TellsPace, Offers, in_form, IsRunText, IsAnswer, Answered};
 
 use crate::fault::{Ending, RunFault};
+use crate::notes::Notes;
 use command_line::Form;
 use graph_heap::Reference;
 use inspector::pages_needed::pace_report;
@@ -43,14 +44,23 @@ pub struct Answer {
     ending: Ending,
 }
 
-/// Checks the entries of a history from the opening graph heap.
-fn check<S: Source>(alloc: Global, config: &Config, source: &mut S) -> Result<Checked, PlayFault>
+/// Checks the entries of a history from the opening graph heap. The first wrong one is noted.
+fn check<S: Source>(
+    alloc: Global,
+    config: &Config,
+    source: &mut S,
+    notes: &mut Notes,
+) -> Result<Checked, PlayFault>
     ensures checked { EntriesTaken config.now (given_by S.given S.ended source.old source.new) result }
     ensures reads { S.failures source.new ≡ S.failures source.old + reads_failed result }
     ensures input { reads_failed result ≡ 0 → Stays (S.input source.old) (S.input source.new) }
 {
     let mut reference = Reference::new(alloc, &config.limits())?;
-    check_entries(source, &mut reference)
+    let checked = check_entries(source, &mut reference);
+    if let Ok(Checked::Wrong(number)) = checked {
+        notes.keep_wrong(number, reference);
+    }
+    checked
 }
 
 /// What is reported of a history that was checked.
@@ -122,6 +132,7 @@ fn answer_to<S: Source>(
     config: &Config,
     source: &mut S,
     question: Question,
+    notes: &mut Notes,
 ) -> Result<Answer, PlayFault>
     ensures answer { IsAnswer question config.now (given_by S.given S.ended source.old source.new) result }
     ensures reads { S.failures source.new ≡ S.failures source.old + reads_failed result }
@@ -129,7 +140,7 @@ fn answer_to<S: Source>(
 {
     match question {
         Question::History => {
-            let checked = check(alloc, config, source)?;
+            let checked = check(alloc, config, source, notes)?;
             offer(history_line(alloc, checked), ending_of(checked))
         }
         Question::Cycles(layout) => {
@@ -175,6 +186,7 @@ pub fn answer_job<S: Source, K: Sink>(
     source: &mut S,
     sink: &mut K,
     question: Question,
+    notes: &mut Notes,
 ) -> Result<Ending, RunFault>
     ensures done { Answered question config.now (given_by S.given S.ended source.old source.new)
         (taken_by K.taken K.sent sink.old sink.new) result }
@@ -182,6 +194,6 @@ pub fn answer_job<S: Source, K: Sink>(
     ensures input { failed_reads result ≡ 0 → Stays (S.input source.old) (S.input source.new) }
     ensures writes { K.failures sink.new ≡ K.failures sink.old + failed_writes result }
 {
-    let answer = answer_to(alloc, config, source, question)?;
+    let answer = answer_to(alloc, config, source, question, notes)?;
     write_answer(&answer, sink)
 }

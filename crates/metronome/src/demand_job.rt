@@ -7,6 +7,7 @@ ghost use Rattle.metronome.specs.Demand.{NeededTold, DemandTold};
 use crate::fault::{Ending, RunFault};
 use crate::files::read_bytes;
 use crate::measuring::measure_text;
+use crate::notes::Notes;
 use crate::room::find_room;
 use crate::told::tell_text;
 use inspector::pages_needed::needed_report;
@@ -31,12 +32,13 @@ fn tell_needed<K: Sink>(
 }
 
 /// Reads a trace into memory, since it is measured more than once, and writes what it needs on a heap of the configuration,
-/// and on how many pages it finds room.
+/// and on how many pages it finds room. The trace is noted.
 pub fn demand_job<S: Source, K: Sink>(
     alloc: Global,
     config: &Config,
     source: &mut S,
     sink: &mut K,
+    notes: &mut Notes,
 ) -> Result<Ending, RunFault>
     ensures done { DemandTold config.now (given_by S.given S.ended source.old source.new)
         (taken_by K.taken K.sent sink.old sink.new) result }
@@ -45,5 +47,7 @@ pub fn demand_job<S: Source, K: Sink>(
     ensures writes { K.failures sink.new ≡ K.failures sink.old + failed_writes result }
 {
     let text = read_bytes(alloc, source, None)?;
-    tell_needed(alloc, config, text.as_slice(), sink)
+    let told = tell_needed(alloc, config, text.as_slice(), sink);
+    notes.keep_text(text);
+    told
 }

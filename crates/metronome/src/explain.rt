@@ -1,87 +1,133 @@
-//! What is told of a run beside the line of its fault, where its words ask for that. It is told as far as it can be: where
-//! memory, a file or the error stream is refused, no more is said.
-ghost use Rattle.std.specs.Prelude.{◌≡◌, false};
+//! What is told of a run beside the line of its fault, where its words ask for that. It is told from what the run has read, as far
+//! as memory and the error stream allow.
+ghost use Rattle.std.specs.Prelude.{◌≡◌, IsNone};
 
-mod again;
 mod config;
-mod document;
-mod example;
-mod fields;
-mod lines;
-mod odd_bytes;
-mod part;
-mod quoted;
-mod reply;
-mod silence;
-mod unread;
 
 use crate::fault::{Ending, RunFault};
-use crate::files::Opener;
-use command_line::{Words, read_words};
-use config::tell_config;
-use document::{read_refused, tell_not_toml, tell_too_long};
-use lines::explain_line;
-use reply::explain_reply;
-use silence::Silence;
-use size_classes::ConfigFault;
+use crate::notes::Notes;
+use command_line::Words;
+use config::explain_config;
 use std::alloc::Global;
-use std::convert::AsStr;
-use std::io::Write;
-use trace::PlayFault;
-use unread::explain_unread;
+use std::fmt;
+use std::io::{self, Write};
+use trace::{EntryLine, LineFault, PlayFault, Quoted, Refused, TextLine, read_entry, write_reply};
 
-/// Tells more of how a run ended, whose words may ask for that. They are read once more, since the run has ended.
-pub fn explain<S: AsStr, O: Opener, E: Write>(
-    alloc: Global,
-    words: &[S],
-    opener: &O,
-    errors: &mut E,
-    how: &Result<Ending, RunFault>,
-) {
-    if matches!(how, Ok(Ending::Done)) {
-        return;
-    }
-    if let Ok(job) = read_words(alloc, words) {
-        let _ = explain_words(alloc, job.words(), opener, errors, how);
+/// The name of the file of a trace, of scripts or of a history, as it is told.
+#[derive(Clone, Copy)]
+struct Origin<'a>(&'a str);
+
+impl fmt::Display for Origin<'_> {
+    fn fmt<W: fmt::Write>(&self, f: &mut fmt::Formatter<W>) -> fmt::Result {
+        if self.0 == "-" {
+            return f.write_str("standard input");
+        }
+        let quoted = Quoted(self.0.as_bytes());
+        write!(f, "{quoted}")
     }
 }
 
-/// Tells more of how the run of words ended, where they ask for that.
-fn explain_words<O: Opener, E: Write>(
+/// Tells more of how a run ended, if its words asked for that.
+pub fn explain<E: Write>(
     alloc: Global,
-    words: Words,
-    opener: &O,
     errors: &mut E,
+    notes: Notes,
     how: &Result<Ending, RunFault>,
-) -> Result<(), Silence>
-    ensures { words.entry.explain ≡ false → errors.new ≡ errors.old }
+) -> io::Result<()>
+    ensures { IsNone notes.entry.words → errors.new ≡ errors.old }
 {
-    if !words.explain {
+    let Some(words) = notes.words else {
         return Ok(());
-    }
+    };
     match how {
         Ok(Ending::Done) => Ok(()),
-        Ok(Ending::WrongReply) => explain_reply(alloc, words, opener, errors),
-        Err(RunFault::Config(ConfigFault::TooLong)) => tell_too_long(words.config, errors),
-        Err(RunFault::Config(ConfigFault::NotToml)) => {
-            tell_not_toml(alloc, opener, words.config, errors)
-        }
+        Ok(Ending::WrongReply) => explain_reply(errors, words, notes),
         Err(RunFault::Config(fault)) => {
-            tell_config(
-                &read_refused(alloc, opener, words.config, errors)?,
-                errors,
-                *fault,
-            )
+            let bytes = notes.document.as_deref().unwrap_or(&[]);
+            explain_config(alloc, errors, words.config, bytes, *fault)
         }
         Err(RunFault::Text(PlayFault::Line(number, fault))) => {
-            explain_line(alloc, words, opener, errors, *number, *fault)
+            explain_line(errors, words, &notes, *number, *fault)
         }
-        Err(RunFault::Text(PlayFault::Read)) => explain_unread(words, opener, errors),
+        Err(RunFault::Text(PlayFault::Read)) => explain_unread(errors, words, &notes),
         Err(RunFault::Text(PlayFault::Write)) => {
-            Ok(writeln!(errors, "metronome: a write to standard output failed")?)
+            writeln!(errors, "metronome: a write to standard output failed")
         }
         Err(RunFault::Words(_) | RunFault::NotComplete | RunFault::Text(PlayFault::NoMemory)) => {
             Ok(())
         }
     }
+}
+
+/// Tells a line, and where it comes from.
+fn tell_line<E: Write>(errors: &mut E, words: Words, text: TextLine) -> io::Result<()> {
+    let (number, origin) = (text.number, Origin(words.file.unwrap_or("-")));
+    let line = Quoted(text.bytes);
+    writeln!(errors, "metronome: line {number} of {origin} is {line}")
+}
+
+/// Tells a line that is refused, and what is wrong with it.
+fn explain_line<E: Write>(
+    errors: &mut E,
+    words: Words,
+    notes: &Notes,
+    number: u64,
+    fault: LineFault,
+) -> io::Result<()> {
+    let (Some(tail), Some(config)) = (&notes.text, &notes.config) else {
+        return Ok(());
+    };
+    let Some(text) = tail.line(number) else {
+        return Ok(());
+    };
+    tell_line(errors, words, text)?;
+    let refused = Refused {
+        text,
+        fault,
+        mutators: config.mutators,
+    };
+    writeln!(errors, "metronome: {refused}")
+}
+
+/// Tells the first wrong entry of a history, and which reply was due there.
+fn explain_reply<E: Write>(errors: &mut E, words: Words, notes: Notes) -> io::Result<()> {
+    let (Some(tail), Some(mut wrong)) = (notes.text, notes.wrong) else {
+        return Ok(());
+    };
+    let Some(text) = tail.line(wrong.number) else {
+        return Ok(());
+    };
+    tell_line(errors, words, text)?;
+    let Some(EntryLine::Entry(entry)) = read_entry(text.version, text.bytes) else {
+        return Ok(());
+    };
+    let Ok(reply) = wrong.before.reply(entry.mutator, &entry.command) else {
+        return Ok(());
+    };
+    let mut out = [0; 256];
+    let end = write_reply(&reply, &mut out, 0);
+    let due = Quoted(&out[..end]);
+    writeln!(errors, "metronome: the reply that was due is {due}")
+}
+
+/// Tells which file can't be read, and what the system said of it. Where the configuration was read, it is the other one.
+fn explain_unread<E: Write>(errors: &mut E, words: Words, notes: &Notes) -> io::Result<()> {
+    let name = Quoted(words.config.as_bytes());
+    if notes.config.is_some() {
+        let origin = Origin(words.file.unwrap_or("-"));
+        write!(errors, "metronome: {origin} can't be read")?;
+    } else {
+        write!(errors, "metronome: {name} can't be read")?;
+    }
+    if let Some(error) = notes.error {
+        write!(errors, ": {error}")?;
+    }
+    writeln!(errors, "")?;
+    if words.config == "-" {
+        writeln!(
+            errors,
+            "metronome: a configuration is never read from standard input"
+        )?;
+    }
+    Ok(())
 }

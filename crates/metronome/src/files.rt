@@ -5,9 +5,10 @@ ghost use Rattle.metronome.specs.Faults.{IsUnreadable, failed_reads};
 ghost use Rattle.metronome.specs.Files.{KnownFile, IsOpened, IsFront, document_bytes, unknown_file};
 
 use crate::fault::RunFault;
+use crate::notes::Notes;
 use std::alloc::Global;
 use std::fs::{self, Files};
-use std::io::{self, Read};
+use std::io;
 use trace::{PlayFault, ReadSource, Source};
 
 /// The most bytes of a configuration that are read: one more than it may have.
@@ -29,13 +30,6 @@ pub trait Opener {
         ensures opened { IfOk result (IsOpened Self.File.given Self.File.failures Self.File.input
             (known self.now name.now)) }
         ensures failed { IfErr result (λ _. IsTrue (known self.now name.now).failed) };
-
-    /// Whether a file of this name may be read once more, so that it gives the same: it is no pipe and no device, or
-    /// opening it tells what is wrong.
-    fn is_lasting(&self, name: &str) -> bool;
-
-    /// Why the file of this name can't be read to its end, if it can't.
-    fn failure(&self, name: &str) -> Option<io::Error>;
 }
 
 /// The files of the machine.
@@ -53,40 +47,20 @@ impl<'a, R: Files> Opener for HostFiles<'a, R> {
     fn open(&self, name: &str) -> io::Result<ReadSource<R::File>> {
         Ok(ReadSource::new(fs::open(self.host, name)?))
     }
-
-    fn is_lasting(&self, name: &str) -> bool {
-        match fs::metadata(self.host, name) {
-            Ok(found) => found.is_file() || found.is_dir(),
-            Err(_) => true,
-        }
-    }
-
-    fn failure(&self, name: &str) -> Option<io::Error> {
-        let mut file = match fs::open(self.host, name) {
-            Ok(file) => file,
-            Err(error) => return Some(error),
-        };
-        let mut piece = [0; PIECE];
-        for _ in 0..u64::MAX {
-            match file.read(&mut piece) {
-                Ok(0) => return None,
-                Ok(_) => {}
-                Err(error) => return Some(error),
-            }
-        }
-        None
-    }
 }
 
-/// A source of the file of this name.
-pub fn open_file<O: Opener>(opener: &O, name: &str) -> Result<O::File, RunFault>
+/// A source of the file of this name. Where it can't be opened, what the system says is noted.
+pub fn open_file<O: Opener>(opener: &O, name: &str, notes: &mut Notes) -> Result<O::File, RunFault>
     ensures opened { IfOk result (IsOpened O.File.given O.File.failures O.File.input
         (O.known opener.now name.now)) }
     ensures err { IfErr result (IsUnreadable (O.known opener.now name.now).failed) }
 {
     match opener.open(name) {
         Ok(file) => Ok(file),
-        Err(_) => Err(RunFault::Text(PlayFault::Read)),
+        Err(error) => {
+            notes.error = Some(error);
+            Err(RunFault::Text(PlayFault::Read))
+        }
     }
 }
 
@@ -130,11 +104,18 @@ pub fn read_bytes<S: Source>(
 }
 
 /// The bytes of a configuration.
-pub fn read_document<O: Opener>(alloc: Global, opener: &O, name: &str) -> Result<Vec<u8>, RunFault>
+pub fn read_document<O: Opener>(
+    alloc: Global,
+    opener: &O,
+    name: &str,
+    notes: &mut Notes,
+) -> Result<Vec<u8>, RunFault>
     ensures bytes { IfOk result (λ bytes. IfSome (O.known opener.now name.now).bytes
         (λ all. bytes.items ≡ document_bytes all)) }
     ensures err { IfErr result (IsUnreadable (O.known opener.now name.now).failed) }
 {
-    let mut file = open_file(opener, name)?;
-    read_bytes(alloc, &mut file, Some(DOCUMENT_BYTES))
+    let mut file = open_file(opener, name, notes)?;
+    let read = read_bytes(alloc, &mut file, Some(DOCUMENT_BYTES));
+    notes.error = file.error();
+    read
 }

@@ -9,10 +9,12 @@ mod fault;
 mod files;
 mod jobs;
 mod measuring;
+mod notes;
 mod plan_job;
 mod progress;
 mod room;
 mod run;
+mod tail;
 #[cfg(test)]
 mod tests;
 mod told;

@@ -1,20 +1,14 @@
-//! Telling how many lines were read.
-ghost use Rattle.std.specs.Prelude.{◌≡◌, ◌*◌, ◌<◌, ◌≤◌, [], OnOk};
+//! Telling of a source: how many lines were read, and where it ends.
+ghost use Rattle.std.specs.Prelude.{◌≡◌, ◌*◌, ◌<◌, ◌≤◌, [], true, OnOk};
 ghost use Rattle.std.specs.Io.KnownBytes.{Appends};
 ghost use Rattle.metronome.specs.Progress.{line_ends, progress_line};
 
+use crate::tail::{Tail, count_line_ends};
 use std::io::{self, Write};
 use trace::{ReadFailed, Source};
 
 /// How many lines the first report takes.
 const FIRST_TOLD: u64 = 65536;
-
-/// How many lines end in these bytes.
-fn count_line_ends(bytes: &[u8]) -> u64
-    ensures { result ≡ line_ends bytes.now }
-{
-    bytes.iter().filter(|byte| **byte == b'\n').count() as u64
-}
 
 /// Reports that this many lines were read.
 fn tell_lines<W: Write>(errors: &mut W, lines: u64) -> io::Result<()>
@@ -23,32 +17,52 @@ fn tell_lines<W: Write>(errors: &mut W, lines: u64) -> io::Result<()>
     writeln!(errors, "metronome: {lines} lines read")
 }
 
-/// A source whose lines are counted, and their number reported on an error stream: at 65536 lines, and whenever it has
-/// doubled. A failed write to that stream changes nothing.
+/// Takes the next bytes of a text whose end is kept; that is no more where memory is refused.
+fn keep(tail: &mut Option<Tail>, bytes: &[u8]) {
+    let is_lost = match tail {
+        Some(tail) => tail.take(bytes).is_err(),
+        None => false,
+    };
+    if is_lost {
+        *tail = None;
+    }
+}
+
+/// A source of which more is told on an error stream, where that is asked for. Of progress: its lines are counted, and their
+/// number is reported at 65536 lines, and whenever it has doubled. Of faults: the end of what it gave is kept. A failed write
+/// to that stream, and memory that is refused, change nothing of what it gives.
 #[derive(Drop)]
 pub struct ToldSource<S: Source + Drop, W: Write + Drop> {
     source: S,
     errors: W,
-    /// How many line ends it gave.
+    /// Whether its lines are counted.
+    counts: bool,
+    /// How many line ends it gave, where they are counted.
     lines: u64,
     /// Half of the lines that the next report takes.
     half: u64,
-    ghost counted: { lines ≡ line_ends (S.given source) },
+    /// The end of what it gave, where that is kept.
+    tail: Option<Tail>,
+    ghost counted: { counts ≡ true → lines ≡ line_ends (S.given source) },
 }
 
 impl<S: Source + Drop, W: Write + Drop> ToldSource<S, W> {
     /// This source, which has given nothing yet.
-    pub fn new(source: S, errors: W) -> ToldSource<S, W>
+    pub fn new(source: S, errors: W, counts: bool, tail: Option<Tail>) -> ToldSource<S, W>
         requires { S.given source ≡ [] }
         ensures source { result.source ≡ source }
         ensures errors { result.errors ≡ errors }
+        ensures counts { result.counts ≡ counts }
+        ensures tail { result.tail ≡ tail }
         ensures half { result.half ≡ 32768 }
     {
         ToldSource {
             source,
             errors,
+            counts,
             lines: 0,
             half: FIRST_TOLD / 2,
+            tail,
         }
     }
 
@@ -67,6 +81,13 @@ impl<S: Source + Drop, W: Write + Drop> ToldSource<S, W> {
         self.half *= 2;
         tell_lines(&mut self.errors, self.half)
     }
+
+    /// The end of what it gave, where that is kept.
+    pub fn into_tail(self) -> Option<Tail>
+        ensures { result ≡ self.tail }
+    {
+        self.tail
+    }
 }
 
 impl<S: Source + Drop, W: Write + Drop> Source for ToldSource<S, W> {
@@ -84,8 +105,15 @@ impl<S: Source + Drop, W: Write + Drop> Source for ToldSource<S, W> {
 
     fn read(&mut self, buffer: &mut [u8]) -> Result<usize, ReadFailed> {
         let n = self.source.read(buffer)?;
-        self.lines += count_line_ends(&buffer[..n]);
-        let _ = self.tell();
+        keep(&mut self.tail, &buffer[..n]);
+        if self.counts {
+            self.lines += count_line_ends(&buffer[..n]);
+            let _ = self.tell();
+        }
         Ok(n)
+    }
+
+    fn error(&self) -> Option<io::Error> {
+        self.source.error()
     }
 }

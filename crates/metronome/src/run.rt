@@ -17,6 +17,7 @@ use crate::explain::explain;
 use crate::fault::{Ending, RunFault};
 use crate::files::{Opener, open_file, read_document};
 use crate::jobs::{play_job, threads_job};
+use crate::notes::Notes;
 use crate::plan_job::plan_job;
 use crate::progress::ToldSource;
 use command_line::{Drawing, Job, Sizing, Words, WordsFault, read_words};
@@ -63,11 +64,12 @@ where
         × (K.failures sink.new ≡ K.failures sink.old + failed_writes how) }
 {
     let host = Host { rt, alloc, opener };
-    let how = flushed(perform(&host, words, input, sink, errors), sink);
+    let mut notes = Notes::new();
+    let how = flushed(perform(&host, words, input, sink, errors, &mut notes), sink);
     if let Err(fault) = &how {
         tell(errors, fault);
     }
-    explain(alloc, words, opener, errors, &how);
+    let _ = explain(alloc, errors, notes, &how);
     status_of(&how)
 }
 
@@ -112,12 +114,13 @@ fn tell_words<E: Write>(errors: &mut E, text: &str) -> io::Result<()>
 }
 
 /// Does what the words ask for. Where they ask for progress, the lines that are read are reported on the error stream.
-fn perform<S, O, R, K, E, T>(
+fn perform<'a, S, O, R, K, E, T>(
     host: &Host<O, T>,
-    words: &[S],
+    words: &'a [S],
     input: R,
     sink: &mut K,
     errors: &mut E,
+    notes: &mut Notes<'a>,
 ) -> Result<Ending, RunFault>
 where
     S: AsStr,
@@ -139,7 +142,9 @@ where
         Err(WordsFault::Refused(text)) => return Err(RunFault::Words(text)),
         Err(WordsFault::NoMemory) => return Err(RunFault::Text(PlayFault::NoMemory)),
     };
-    obey(host, job.words(), &job, input, sink, errors)
+    let asked = job.words();
+    notes.ask(asked);
+    obey(host, asked, &job, input, sink, errors, notes)
 }
 
 /// Does a job, with the files that these words name.
@@ -150,34 +155,39 @@ fn obey<O: Opener, R: Read + Drop, K: Sink, E: Write, T: Threads + Wait + Sync>(
     input: R,
     sink: &mut K,
     errors: &mut E,
+    notes: &mut Notes,
 ) -> Result<Ending, RunFault>
     ensures done { Obeyed (record { named = O.known host.now.opener.now; input = read_from (R.remaining input) }) words.entry job.now
         (taken_by K.taken K.sent sink.old sink.new) result }
     ensures writes { K.failures sink.new ≡ K.failures sink.old + failed_writes result }
 {
-    let bytes = read_document(host.alloc, host.opener, words.config)?;
-    let config = read_config(host.alloc, bytes.as_slice())?;
+    let bytes = read_document(host.alloc, host.opener, words.config, notes)?;
+    let read = read_config(host.alloc, bytes.as_slice());
+    notes.keep_document(bytes);
+    let config = read?;
+    notes.config = Some(config);
     let Some(name) = words.file else {
         let nothing = MemorySource::new(&[]);
-        return serve(host, job, &config, nothing, sink, errors);
+        return serve(host, job, &config, nothing, sink, errors, notes);
     };
     if name == "-" {
         let source = ReadSource::new(input);
-        return serve(host, job, &config, source, sink, errors);
+        return serve(host, job, &config, source, sink, errors, notes);
     }
-    let file = open_file(host.opener, name)?;
-    serve(host, job, &config, file, sink, errors)
+    let file = open_file(host.opener, name, notes)?;
+    serve(host, job, &config, file, sink, errors, notes)
 }
 
-/// Does a job, from the source of the other file. Where progress is asked for, the lines that are read
-/// are reported on the error stream; nothing else depends on that.
+/// Does a job, from the source of the other file. Where progress is asked for, the lines that are read are reported on the
+/// error stream; where explanations are, the end of what was read is noted. Nothing else depends on that.
 fn serve<S: Source + Drop, K: Sink, E: Write, O: Opener, T: Threads + Wait + Sync>(
     host: &Host<O, T>,
     job: &Job,
     config: &Config,
-    mut source: S,
+    source: S,
     sink: &mut K,
     errors: &mut E,
+    notes: &mut Notes,
 ) -> Result<Ending, RunFault>
     requires { S.given source ≡ [] }
     ensures done { (after : S)
@@ -186,12 +196,12 @@ fn serve<S: Source + Drop, K: Sink, E: Write, O: Opener, T: Threads + Wait + Syn
         × IsGivenOf (S.input source) (given_by S.given S.ended source after) result }
     ensures writes { K.failures sink.new ≡ K.failures sink.old + failed_writes result }
 {
-    if job.words().progress {
-        let mut told = ToldSource::new(source, errors);
-        work(host, job, config, &mut told, sink)
-    } else {
-        work(host, job, config, &mut source, sink)
-    }
+    let tail = notes.tail(host.alloc);
+    let mut told = ToldSource::new(source, errors, job.words().progress, tail);
+    let how = work(host, job, config, &mut told, sink, notes);
+    let error = told.error();
+    notes.keep_end(told.into_tail(), error);
+    how
 }
 
 /// Does a job, from the source of the other file.
@@ -201,6 +211,7 @@ fn work<S: Source, K: Sink, O: Opener, T: Threads + Wait + Sync>(
     config: &Config,
     source: &mut S,
     sink: &mut K,
+    notes: &mut Notes,
 ) -> Result<Ending, RunFault>
     ensures done { JobDone job.now config.now (given_by S.given S.ended source.old source.new)
         (taken_by K.taken K.sent sink.old sink.new) result }
@@ -211,7 +222,7 @@ fn work<S: Source, K: Sink, O: Opener, T: Threads + Wait + Sync>(
     let alloc = host.alloc;
     match job {
         Job::Play { history, .. } => play_job(alloc, config, source, sink, style_of(*history)),
-        Job::Check { .. } => answer_job(alloc, config, source, sink, Question::History),
+        Job::Check { .. } => answer_job(alloc, config, source, sink, Question::History, notes),
         Job::Threads { turns, budget, .. } => {
             threads_job(host.rt, alloc, config, source, sink, *turns, *budget)
         }
@@ -220,7 +231,7 @@ fn work<S: Source, K: Sink, O: Opener, T: Threads + Wait + Sync>(
         }
         Job::Cycles { csv, .. } => {
             let question = Question::Cycles(layout_of(*csv));
-            answer_job(alloc, config, source, sink, question)
+            answer_job(alloc, config, source, sink, question, notes)
         }
         Job::Path { id, after, .. } => {
             after_play(alloc, config, source, sink, *after, Telling::Path(*id))
@@ -229,8 +240,8 @@ fn work<S: Source, K: Sink, O: Opener, T: Threads + Wait + Sync>(
             let telling = Telling::Windows(windows.as_slice());
             after_play(alloc, config, source, sink, None, telling)
         }
-        Job::Draw { drawing, .. } => draw_job(alloc, config, source, sink, *drawing),
-        Job::Pages { by, .. } => pages_job(alloc, config, source, sink, *by),
+        Job::Draw { drawing, .. } => draw_job(alloc, config, source, sink, *drawing, notes),
+        Job::Pages { by, .. } => pages_job(alloc, config, source, sink, *by, notes),
         Job::Plan { live, classes, .. } => plan_job(alloc, config, *live, classes, sink),
     }
 }
@@ -260,6 +271,7 @@ fn draw_job<S: Source, K: Sink>(
     source: &mut S,
     sink: &mut K,
     drawing: Drawing,
+    notes: &mut Notes,
 ) -> Result<Ending, RunFault>
     ensures done { DrawingDone drawing config.now (given_by S.given S.ended source.old source.new)
         (taken_by K.taken K.sent sink.old sink.new) result }
@@ -269,7 +281,8 @@ fn draw_job<S: Source, K: Sink>(
 {
     match drawing {
         Drawing::Run { form, live } => {
-            answer_job(alloc, config, source, sink, Question::Run(form, live))
+            let question = Question::Run(form, live);
+            answer_job(alloc, config, source, sink, question, notes)
         }
         Drawing::Events { after } => {
             after_play(alloc, config, source, sink, after, Telling::Events)
@@ -287,6 +300,7 @@ fn pages_job<S: Source, K: Sink>(
     source: &mut S,
     sink: &mut K,
     by: Sizing,
+    notes: &mut Notes,
 ) -> Result<Ending, RunFault>
     ensures done { PagesDone by config.now (given_by S.given S.ended source.old source.new)
         (taken_by K.taken K.sent sink.old sink.new) result }
@@ -295,8 +309,8 @@ fn pages_job<S: Source, K: Sink>(
     ensures writes { K.failures sink.new ≡ K.failures sink.old + failed_writes result }
 {
     match by {
-        Sizing::Demand => demand_job(alloc, config, source, sink),
-        Sizing::Pace => answer_job(alloc, config, source, sink, Question::Pace),
-        Sizing::Plan => answer_job(alloc, config, source, sink, Question::Plan),
+        Sizing::Demand => demand_job(alloc, config, source, sink, notes),
+        Sizing::Pace => answer_job(alloc, config, source, sink, Question::Pace, notes),
+        Sizing::Plan => answer_job(alloc, config, source, sink, Question::Plan, notes),
     }
 }

@@ -33,14 +33,6 @@ impl<'a> Opener for Texts<'a> {
         }
         Err(io::Error::from(ErrorKind::NotFound))
     }
-
-    fn is_lasting(&self, _name: &str) -> bool {
-        true
-    }
-
-    fn failure(&self, _name: &str) -> Option<io::Error> {
-        None
-    }
 }
 
 /// Runs a row with its texts, and looks at its status and at what it writes.

@@ -10,7 +10,9 @@ mod laws;
 pub mod line;
 pub mod line_handler;
 pub mod line_reader;
+mod misread;
 mod player;
+mod quoted;
 mod replies;
 pub mod streams;
 mod text;
@@ -25,10 +27,12 @@ pub use laws::{one_cutting, one_more_line};
 pub use line::{Line, is_skipped, read_line, read_numbered};
 pub use line_handler::{InputEnd, LineHandler, each_line};
 pub use line_reader::LineReader;
+pub use misread::Refused;
 pub use player::{
     Mark, Observed, Observer, PhaseName, Player, QuantumStart, Style, Survey, TickFault, observe,
     play, play_first, play_up_to, plays_are_promised, survey_run,
 };
+pub use quoted::Quoted;
 pub use streams::{
     BufferedSink, FailAt, MemorySink, MemorySource, ReadFailed, ReadSource, Sink, Source,
     WriteFailed, WriteSink, write_all,

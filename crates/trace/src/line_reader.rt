@@ -13,10 +13,10 @@ use std::marker::Model;
 use std::simd::prelude::*;
 
 /// How many bytes are read at once, at most.
-const CAPACITY: usize = 65536;
+pub const CAPACITY: usize = 65536;
 
 /// How many bytes a line has, at most, before its LF.
-const LONGEST: usize = 256;
+pub(crate) const LONGEST: usize = 256;
 
 /// How many bytes are compared at once.
 const NEAR: usize = 32;

@@ -21,7 +21,7 @@ const REFUSALS: [Refusal; 10] = [
 
 /// The refusal of a number.
 #[tactic(auto, unfolding(crate::specs::Reading::refusal_in))]
-fn refusal(number: u64) -> Option<Refusal>
+pub(crate) fn refusal(number: u64) -> Option<Refusal>
     ensures { result ≡ refusal_in number }
 {
     REFUSALS

@@ -1,31 +1,110 @@
 //! What is wrong with a configuration.
-use crate::explain::document::{Listed, Refused, Told};
-use crate::explain::quoted::Quoted;
-use crate::explain::silence::Silence;
+use crate::files::DOCUMENT_BYTES;
+use documents::open_document;
 use size_classes::{ConfigFault, Key, LEAST_BUDGET, MOST_BUDGET, Ranges};
-use std::io::Write;
-use toml::Table;
+use std::alloc::Global;
+use std::fmt;
+use std::io::{self, Write};
+use toml::{Table, Value};
+use trace::Quoted;
 
-/// Tells what is wrong with the keys of a configuration that is refused.
-pub(crate) fn tell_config<E: Write>(
-    refused: &Refused<'_>,
+/// A value as it is told.
+#[derive(Clone, Copy)]
+struct Told<'a>(&'a Value);
+
+impl fmt::Display for Told<'_> {
+    fn fmt<W: fmt::Write>(&self, f: &mut fmt::Formatter<W>) -> fmt::Result {
+        match self.0 {
+            Value::String(text) => {
+                let quoted = Quoted(text.as_bytes());
+                write!(f, "the text {quoted}")
+            }
+            Value::Integer(number) => write!(f, "{number}"),
+            Value::Float(number) => write!(f, "{number}"),
+            Value::Boolean(yes) => write!(f, "{yes}"),
+            Value::Datetime(_) => f.write_str("a date or a time"),
+            Value::Array(_) => f.write_str("an array"),
+            Value::Table(_) => f.write_str("a table"),
+        }
+    }
+}
+
+/// Tells what is wrong with the bytes of a configuration that is refused.
+pub(crate) fn explain_config<E: Write>(
+    alloc: Global,
     errors: &mut E,
+    name: &str,
+    bytes: &[u8],
     fault: ConfigFault,
-) -> Result<(), Silence> {
+) -> io::Result<()> {
+    let name = Quoted(name.as_bytes());
+    match fault {
+        ConfigFault::TooLong => {
+            let most = DOCUMENT_BYTES - 1;
+            writeln!(
+                errors,
+                "metronome: {name} has more than {most} bytes, which are the most that it may have"
+            )
+        }
+        ConfigFault::NotToml => tell_not_toml(alloc, errors, name, bytes),
+        _ => match open_document(alloc, bytes, fault, fault) {
+            Ok(table) => tell_key(errors, name, &table, fault),
+            Err(_) => Ok(()),
+        },
+    }
+}
+
+/// Tells why bytes aren't TOML, in the words of its reader.
+fn tell_not_toml<E: Write>(
+    alloc: Global,
+    errors: &mut E,
+    name: Quoted,
+    bytes: &[u8],
+) -> io::Result<()> {
+    let text = match std::str::from_utf8(bytes) {
+        Ok(text) => text,
+        Err(error) => {
+            let before = error.valid_up_to();
+            return writeln!(
+                errors,
+                "metronome: {name} isn't UTF-8 after its first {before} bytes"
+            );
+        }
+    };
+    let Err(error) = toml::table_from_str(alloc, text) else {
+        return Ok(());
+    };
+    if error.is_memory() {
+        return Ok(());
+    }
+    let told = format!(in alloc; "{error}")?;
+    write!(errors, "metronome: {name}")?;
+    for line in told.lines() {
+        write!(errors, ": {line}")?;
+    }
+    writeln!(errors, "")
+}
+
+/// Tells what is wrong with the keys of a configuration.
+fn tell_key<E: Write>(
+    errors: &mut E,
+    name: Quoted,
+    table: &Table,
+    fault: ConfigFault,
+) -> io::Result<()> {
     match fault {
         ConfigFault::TooLong | ConfigFault::NotToml => Ok(()),
-        ConfigFault::UnknownKey => tell_unknown(refused, errors),
+        ConfigFault::UnknownKey => tell_unknown(errors, name, table),
         ConfigFault::Missing(key) | ConfigFault::NotWhole(key) | ConfigFault::OutOfRange(key) => {
-            tell_range(refused, errors, key)
+            tell_range(errors, name, table, key)
         }
-        ConfigFault::BudgetOutOfRange => tell_budget(refused, errors),
+        ConfigFault::BudgetOutOfRange => tell_budget(errors, name, table),
     }
 }
 
 /// Tells of the first key that isn't known, in the order of names, and which there are.
-fn tell_unknown<E: Write>(refused: &Refused<'_>, errors: &mut E) -> Result<(), Silence> {
-    let name = refused.name;
-    for (key, _value) in refused.table.iter() {
+fn tell_unknown<E: Write>(errors: &mut E, name: Quoted, table: &Table) -> io::Result<()> {
+    for (key, _value) in table.iter() {
         if !Key::ALL.iter().any(|known| known.name() == key.as_str()) {
             let unknown = Quoted(key.as_bytes());
             writeln!(
@@ -35,9 +114,13 @@ fn tell_unknown<E: Write>(refused: &Refused<'_>, errors: &mut E) -> Result<(), S
             break;
         }
     }
-    let known = Listed(&Key::ALL);
-    writeln!(errors, "metronome: the keys are {known}")?;
-    Ok(())
+    write!(errors, "metronome: the keys are ")?;
+    let mut between = "";
+    for key in &Key::ALL {
+        write!(errors, "{between}{key}")?;
+        between = ", ";
+    }
+    writeln!(errors, "")
 }
 
 /// The number that stands at a key, or the key's default, or 0.
@@ -49,37 +132,33 @@ fn number_at(table: &Table, key: Key) -> i64 {
 }
 
 /// Tells what stands at a key, and its range.
-fn tell_range<E: Write>(refused: &Refused<'_>, errors: &mut E, key: Key) -> Result<(), Silence> {
-    let name = refused.name;
-    let row = key.row(Ranges::File, number_at(&refused.table, Key::Mutators));
+fn tell_range<E: Write>(errors: &mut E, name: Quoted, table: &Table, key: Key) -> io::Result<()> {
+    let row = key.row(Ranges::File, number_at(table, Key::Mutators));
     let (least, greatest) = (row.least, row.greatest);
-    match refused.table.get(key.name()) {
+    match table.get(key.name()) {
         Some(value) => {
             let told = Told(value);
             writeln!(
                 errors,
                 "metronome: {name}: {key} is {told}, and may be a whole number from {least} to {greatest}"
-            )?;
+            )
         }
         None => {
             writeln!(
                 errors,
                 "metronome: {name}: {key} has to be set, to a whole number from {least} to {greatest}"
-            )?;
+            )
         }
     }
-    Ok(())
 }
 
 /// Tells what budget a quantum would have, and its range.
-fn tell_budget<E: Write>(refused: &Refused<'_>, errors: &mut E) -> Result<(), Silence> {
-    let name = refused.name;
-    let ticks = number_at(&refused.table, Key::CollectorTicks);
-    let rate = number_at(&refused.table, Key::Rate);
+fn tell_budget<E: Write>(errors: &mut E, name: Quoted, table: &Table) -> io::Result<()> {
+    let ticks = number_at(table, Key::CollectorTicks);
+    let rate = number_at(table, Key::Rate);
     let budget = ticks.saturating_mul(rate);
     writeln!(
         errors,
         "metronome: {name}: collector_ticks * rate is {ticks} * {rate} = {budget}, and may be from {LEAST_BUDGET} to {MOST_BUDGET}"
-    )?;
-    Ok(())
+    )
 }

@@ -5,6 +5,7 @@ ghost use Rattle.trace.specs.Streams.{failed};
 use crate::streams::fault::{ReadFailed, WriteFailed};
 use crate::streams::sink::Sink;
 use crate::streams::source::Source;
+use std::io;
 
 /// A source or a sink, of which one read or write fails. All its other calls are passed on. It is for tests.
 #[derive(Drop)]
@@ -74,6 +75,10 @@ impl<S: Source + Drop> Source for FailAt<S> {
             return Err(ReadFailed);
         }
         self.inner.read(buffer)
+    }
+
+    fn error(&self) -> Option<io::Error> {
+        self.inner.error()
     }
 }
 

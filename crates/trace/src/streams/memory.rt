@@ -8,6 +8,7 @@ use crate::streams::sink::Sink;
 use crate::streams::source::Source;
 use crate::streams::transcript::Transcript;
 use std::alloc::Global;
+use std::io;
 
 /// Copies as many bytes as there is room for to the front of a buffer, and answers how many.
 fn copy_front(from: &[u8], to: &mut [u8]) -> usize
@@ -59,6 +60,10 @@ impl<'a> Source for MemorySource<'a> {
         let n = copy_front(&self.bytes[self.at..], buffer);
         self.at += n;
         Ok(n)
+    }
+
+    fn error(&self) -> Option<io::Error> {
+        None
     }
 }
 

@@ -3,6 +3,7 @@ ghost use Rattle.std.specs.Prelude.{◌≡◌, ℕ, ◌+◌, ◌<◌, ◌≤◌,
 ghost use Rattle.trace.specs.Streams.{failed, Begins, Stays};
 
 use crate::streams::fault::ReadFailed;
+use std::io;
 
 /// What bytes are read from. Contracts see the bytes that it has given so far, whether its input has
 /// ended, and how many of its calls have failed.
@@ -32,6 +33,9 @@ pub trait Source {
         ensures cause { failures self.new ≡ failures self.old + failed result }
         // What is known of the input stays, unless the read fails.
         ensures input { OnOk result (Stays (input self.old) (input self.new)) };
+
+    /// What the system said of the call that failed last, if it said anything. It is for users to read.
+    fn error(&self) -> Option<io::Error>;
 
     /// A source gives at most 18446744073709551615 bytes in all.
     ghost few: { (source : Self) → length (given source) < 2 ^ 64 };

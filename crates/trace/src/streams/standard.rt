@@ -10,7 +10,7 @@ use crate::streams::fault::{ReadFailed, WriteFailed};
 use crate::streams::sink::Sink;
 use crate::streams::source::Source;
 use crate::streams::transcript::Transcript;
-use std::io::{Read, Write};
+use std::io::{self, Read, Write};
 
 /// A reader of std as a source. It counts the bytes that it gives: a read that would pass
 /// 18446744073709551615 bytes in all is a failed call. It is at its end from the first read on that
@@ -20,6 +20,7 @@ pub struct ReadSource<R: Read + Drop> {
     reader: R,
     count: u64,
     ended: bool,
+    error: Option<io::Error>,
     transcript: Transcript,
     ghost counted: { length transcript.bytes ≡ count },
     ghost few: { length transcript.bytes < 2 ^ 64 },
@@ -40,6 +41,7 @@ impl<R: Read + Drop> ReadSource<R> {
             reader,
             count: 0,
             ended: false,
+            error: None,
             transcript: Transcript::new(),
         }
     }
@@ -69,11 +71,16 @@ impl<R: Read + Drop> Source for ReadSource<R> {
                 self.ended = n == 0 && !buffer.is_empty();
                 Ok(n)
             }
-            _ => {
+            failed => {
+                self.error = failed.err();
                 self.transcript.note_failure();
                 Err(ReadFailed)
             }
         }
+    }
+
+    fn error(&self) -> Option<io::Error> {
+        self.error
     }
 }
 

@@ -17,6 +17,6 @@ returns-in_err-text-clause-writes g c = omega (arith, unreadable_unwritten c.fro
 
 pub returns-clause-done : goal.returns-clause-done
 returns-clause-done g c =
-    let Told : List ℕ → Type 0 = λ text. NeededTold c.args.config.now text (taken_by g.K.Sink.taken g.K.Sink.sent c.args.sink.now c.tell_needed.new.sink) c.tell_needed.result in
+    let Told : List ℕ → Type 0 = λ text. NeededTold c.args.config.now text (taken_by g.K.Sink.taken g.K.Sink.sent c.args.sink.now c.tell_needed-told.new.sink) c.tell_needed-told.result in
     let rest = rest_read (given_by g.S.Source.given g.S.Source.ended c.args.source.now c.read_bytes.new.source) c.in_ok-text.text.items c.in_ok-text.ensures.front in
-    inl (c.in_ok-text.text.items, rest, subst Told c.as_slice.ensures.value c.tell_needed.ensures.told)
+    inl (c.in_ok-text.text.items, rest, subst Told c.as_slice.ensures.value c.tell_needed-told.ensures.told)

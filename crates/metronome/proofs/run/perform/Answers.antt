@@ -22,4 +22,4 @@ pub returns-clause-done : goal.returns-clause-done
 returns-clause-done g c =
     let files : KnownFiles = record { named = g.O.Opener.known c.args.host.now.opener.now; input = read_from (g.R.Read.remaining c.args.input) } in
     let taken = taken_by g.K.Sink.taken g.K.Sink.sent c.args.sink.now c.obey.new.sink in
-    inl (c.in-Ok.job, c.in-Ok.ensures.by, subst (λ words. Obeyed files words c.in-Ok.job taken c.obey.result) c.words.ensures c.obey.ensures.done)
+    inl (c.in-Ok.job, c.in-Ok.ensures.by, subst (λ words. Obeyed files words c.in-Ok.job taken c.obey.result) c.words-asked.ensures c.obey.ensures.done)

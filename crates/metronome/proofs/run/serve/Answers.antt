@@ -3,15 +3,15 @@ use Rattle.metronome.proofs.Below.{done_below, counts_below}
 use Rattle.metronome.proofs.Obeying.{begins_on, stays_from}
 use Rattle.metronome.proofs.run.serve.Goals as goal
 
-pub returns-then-words-clause-done : goal.returns-then-words-clause-done
-returns-then-words-clause-done g c =
+pub returns-clause-done : goal.returns-clause-done
+returns-clause-done g c =
     let told = c.new-told.result in
-    let read = c.work.new.source in
+    let read = c.work-how.new.source in
     let after = read.source in
     let is = c.new-told.ensures.source in (
       after,
-      done_below told read (λ t. t.source) c.args.source is g.S.Source.given g.S.Source.ended c.args.job.now c.args.config.now (taken_by g.K.Sink.taken g.K.Sink.sent c.args.sink.now c.work.new.sink) c.work.result c.work.ensures.done,
-      counts_below told read (λ t. t.source) c.args.source is g.S.Source.failures c.work.result c.work.ensures.reads,
+      done_below told read (λ t. t.source) c.args.source is g.S.Source.given g.S.Source.ended c.args.job.now c.args.config.now (taken_by g.K.Sink.taken g.K.Sink.sent c.args.sink.now c.work-how.new.sink) c.work-how.result c.work-how.ensures.done,
+      counts_below told read (λ t. t.source) c.args.source is g.S.Source.failures c.work-how.result c.work-how.ensures.reads,
       (λ none. begins_on (g.S.Source.input c.args.source) (g.S.Source.input after) (g.S.Source.given after) (g.S.Source.ended after)
-          (stays_from (g.S.Source.input after) g.S.Source.input c.args.source told.source is (c.work.ensures.input none)) (g.met.S.Source.begins after)),
+          (stays_from (g.S.Source.input after) g.S.Source.input c.args.source told.source is (c.work-how.ensures.input none)) (g.met.S.Source.begins after)),
     )

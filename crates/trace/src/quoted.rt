@@ -9,7 +9,7 @@ const MOST_SHOWN: usize = 80;
 /// A text as it is quoted: its first 80 characters, where a control character is written in hexadecimal, and whether more
 /// follows. What isn't UTF-8 isn't shown.
 #[derive(Clone, Copy)]
-pub(crate) struct Quoted<'a>(pub(crate) &'a [u8]);
+pub struct Quoted<'a>(pub &'a [u8]);
 
 /// How many bytes in front are UTF-8.
 fn count_valid(bytes: &[u8]) -> usize

@@ -30,7 +30,7 @@ typedef struct metronome_page_view {
     uint32_t receiving; /* 1 where a block was moved to it since the last sweep */
 } metronome_page_view;
 
-/* A cycle of a heap that keeps no plan. */
+/* A cycle. */
 typedef struct metronome_cycle {
     uint64_t number;      /* which one it is, from 1 */
     uint64_t quanta;      /* quanta that found it running */
@@ -53,8 +53,8 @@ uint32_t metronome_free_pages(metronome *heap, uint64_t *free_pages) METRONOME_N
 uint32_t metronome_count(metronome *heap, metronome_counts *counts) METRONOME_NONNULL;
 
 /*
- * The last cycle that ended: for a program's log, after a quantum that ended in METRONOME_IDLE. Each number is 0 where none has ended
- * yet, and where the heap keeps a plan, of which metronome_kept tells. OK, NO_HEAP.
+ * The last cycle that ended: for a program's log, after a quantum that ended in METRONOME_IDLE, or after a new object where a plan is
+ * kept. Each number is 0 if no cycle has ended yet. OK, NO_HEAP.
  */
 uint32_t metronome_last_cycle(metronome *heap, metronome_cycle *cycle) METRONOME_NONNULL;
 

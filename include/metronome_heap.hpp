@@ -146,7 +146,7 @@ public:
     std::uint32_t try_units(std::uint64_t &units) noexcept { return metronome_units(handle(), &units); }
     std::uint32_t try_free_pages(std::uint64_t &pages) noexcept { return metronome_free_pages(handle(), &pages); }
     std::uint32_t try_count(metronome_counts &counts) noexcept { return metronome_count(handle(), &counts); }
-    // The last cycle that ended; each number is 0 where none has, and where the heap keeps a plan.
+    // The last cycle that ended; each number is 0 if none has.
     std::uint32_t try_last_cycle(metronome_cycle &cycle) noexcept { return metronome_last_cycle(handle(), &cycle); }
     std::uint32_t try_page(std::size_t number, metronome_page_view &page) noexcept {
         return metronome_page(handle(), number, &page);

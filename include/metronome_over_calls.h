@@ -1,43 +1,54 @@
 /*
- * metronome_over_calls.h: frames of slots and a pace for the collector, as plain C over the calls of metronome.h, which includes
- * it. Of it nothing is proved.
+ * metronome_over_calls.h: frames of slots, a whole cycle, and a pace for the collector. metronome.h includes it. It is
+ * plain C over the calls of metronome.h, and nothing of it is proved.
  */
 #ifndef METRONOME_OVER_CALLS_H
 #define METRONOME_OVER_CALLS_H
 
 #include "metronome.h"
 
-/* ---- Frames: slots that are taken and given back as a stack ---- */
+/* ---- Frames: slots that are taken and given back like a stack ---- */
 
-/* A row of slots of one mutator. Those from `next` to `end - 1` are free, and hold null; nothing else may write to them. */
+/* A row of slots of one mutator. The slots from `next` to `end - 1` are free and hold null. Nothing else may write to
+ * free slots. */
 typedef struct metronome_row {
     uint32_t mutator;
     uint32_t next;
     uint32_t end;
 } metronome_row;
 
-/* The row of slots `first` to `end - 1` of a mutator, none of them taken: all of its slots, say, with 0 and the setting. */
+/* The row of slots `first` to `end - 1` of a mutator, none of them taken. For example, 0 and the setting `slots` make
+ * a row of all slots. */
 #define METRONOME_ROW(mutator, first, end) { (mutator), (first), (end) }
 
-/* A frame: the first slot that is taken in it, if one is. */
+/* A frame: the number of the first slot that is taken in it, if one is taken. */
 typedef uint32_t metronome_frame;
 
-/* Opens a frame: what is taken from now on belongs to it, up to the next frame that is opened and not closed. */
+/* Opens a frame, and returns it. Slots that are taken from now on belong to this frame, except those that are taken
+ * while a later frame is open. */
 METRONOME_NONNULL static inline metronome_frame metronome_open_frame(const metronome_row *row) {
     return row->next;
 }
 
-/* Takes the next slot of the row, which holds null, and tells its number. OK; SLOTS_USED where no slot is left, and neither
- * the row nor *slot has changed then: close a frame first, or make the heap with more slots (256 at most). */
+/* Takes the next slot of the row, which holds null, and stores its number in *slot.
+ *
+ * Returns OK, or SLOTS_USED if no slot is left; the row and *slot then stay as they were. Close a frame first, or make
+ * the heap with more slots (256 at most). */
 METRONOME_NONNULL static inline uint32_t metronome_take_slot(metronome_row *row, uint32_t *slot) {
     if (row->next >= row->end) return METRONOME_SLOTS_USED;
     *slot = row->next++;
     return METRONOME_OK;
 }
 
-/* Closes a frame, and those that were opened after it: null into each of their slots, which are free again. What is to be
- * kept is copied into a slot of an outer frame before. Needs a live mutator. OK; NOT_LIVE, NO_HEAP, or where the row isn't one
- * of the heap's NO_MUTATOR or BAD_SLOT, and all slots stay taken then. */
+/* Closes a frame, and all frames that were opened after it. Sets each of their slots to null; the slots are then free
+ * again. To keep an object, copy it into a slot of an outer frame first. The mutator must be live. If no slot was
+ * taken since the frame was opened, nothing is done. Time grows with the slots that are freed.
+ *
+ * Returns OK, or leaves all slots taken and returns one of these:
+ *   * NOT_LIVE: The mutator isn't live.
+ *   * NO_MUTATOR: The heap has no such mutator.
+ *   * BAD_SLOT: The row has slots that the mutator doesn't have. Some slots of the frame may be null now.
+ *   * NO_HEAP: The handle is closed. */
 METRONOME_NONNULL static inline uint32_t metronome_close_frame(metronome *heap, metronome_row *row, metronome_frame frame) {
     if (row->next <= frame) return METRONOME_OK;
     metronome_progress progress = metronome_clear_slots(heap, row->mutator, frame, row->next - frame);
@@ -46,18 +57,20 @@ METRONOME_NONNULL static inline uint32_t metronome_close_frame(metronome *heap, 
     return progress.status;
 }
 
-/* ---- The collector, paced by what is made ---- */
+/* ---- The collector, paced by the words that are made ---- */
 
-/* Ends the cycle that is running, if one is, and does two more, in quanta of `budget` units. The first of the two frees all objects
- * that are unreachable now. The second frees the pages that the first emptied by moving. A program with a deadline paces itself
- * (metronome_pace); others do this if a new object is refused:
+/* Ends the cycle that is running, if one is, and does two more, in quanta of `budget` units. The first of the two frees
+ * all objects that are unreachable now. The second frees the pages that the first emptied by moving. It spends at most
+ * three times the units of a cycle (metronome_cycle_limit).
+ *
+ * A program with a deadline uses metronome_pace instead. A program without one does this if a new object is refused:
  *
  *     metronome_answer answer = metronome_new_plain(&heap, 0, slot, 1, 2);
  *     if (answer.kind == METRONOME_REFUSED && answer.number == METRONOME_NO_SPACE
  *         && metronome_whole_cycle(&heap, 100000) == METRONOME_OK)
  *         answer = metronome_new_plain(&heap, 0, slot, 1, 2);
  *
- * OK, BAD_BUDGET, NO_HEAP. */
+ * Returns OK, BAD_BUDGET if the budget isn't 256 to 1000000, or NO_HEAP if the handle is closed. */
 METRONOME_NONNULL static inline uint32_t metronome_whole_cycle(metronome *heap, uint32_t budget) {
     metronome_spent spent = { 0, METRONOME_IDLE };
     uint32_t phase = METRONOME_IDLE;
@@ -69,42 +82,57 @@ METRONOME_NONNULL static inline uint32_t metronome_whole_cycle(metronome *heap, 
     return status;
 }
 
-/* A pace: how often the collector works, by the words that the program makes. */
+/* A pace: it says how often the collector works, measured in words that the program makes. */
 typedef struct metronome_pacing {
-    uint64_t begin_below; /* a cycle begins where fewer pages than this are free; above `pages`, one is always running */
-    uint64_t words;       /* 1 or more: a quantum each time that this many words were made */
-    uint32_t budget;      /* 256 to 1000000: the units of a quantum */
-    uint64_t owed;        /* words made since the last quantum; 0 at first */
+    uint64_t begin_below; /* If fewer pages than this are free, a cycle begins. With a value above `pages`, one is
+                           * always running */
+    uint64_t words;       /* A quantum is due each time that this many words were made: 1 or more */
+    uint32_t budget;      /* How many units a quantum has: 256 to 1000000 */
+    uint64_t owed;        /* How many words were made since the last quantum; 0 at first */
 } metronome_pacing;
 
 #define METRONOME_PACING(begin_below, words, budget) { (begin_below), (words), (budget), 0 }
 
-/* Tells the pace that `words` words are about to be made; an object of n cells takes n + 4, and an array 4 more for each 252 of
- * its cells, and its spines (docs/MANUAL.md). Each time that the pace's number of words is reached, it begins a cycle if none
- * is running and too few pages are free, and spends a quantum of the cycle that is running. A program calls it before each new
- * object. It takes no longer than a quantum, but where more words come at once than the pace has for one: an array of many
- * words owes many quanta. A heap that keeps a plan (metronome_keep) needs no pace, and what its plan promises is proved; this is for
+/* Counts `words` words that are about to be made, and lets the collector work if they reach the pace. A program calls
+ * it before each new object. An object of n cells takes n + 4 words. An array takes 4 more words for each 252 of its
+ * cells, and the words of its spines (docs/MANUAL.md).
+ *
+ * Each time that the pace's number of words is reached, this call begins a cycle if none is running and fewer than
+ * begin_below pages are free. If a cycle is running then, it spends a quantum on it. It takes no longer than a
+ * quantum, except if more words come at once than the pace has for one: a large array may need many quanta.
+ *
+ * If a heap keeps a plan (metronome_keep), it needs no pace, and the promise of its plan is proved. A pace is for
  * programs that choose for themselves when the collector works.
  *
- * HOW TO CHOOSE THE NUMBERS. The budget is the longest pause of the collector, in units; before these what each mutator recorded
- * since the last quantum is hung into a list, by one link. No time of a unit is promised. In the longest quantum of 256 units on
- * each of some heaps made for it, at commit 7978a954 on a loaded Xeon of 2.5 GHz, one took 69 ns on pages full of large objects, 15
- * to 20 ns where pages with an object each were emptied, 7 to 9 ns where large blocks were freed, and 2 to 10 ns on the others
- * (docs/PERFORMANCE.md, "The worst quantum"). A cycle takes at most Q quanta, as metronome.h says. Of blocks of one size at most B
- * are made between two quanta: those for which `words` have room, and those of one object more, which of an array are all its
- * pieces. No object is refused for lack of space where begin_below pages have room for L + (2 * Q + 1) * B blocks of each size, of
- * which live objects need L, and for 1 + defrag_pages pages of each size besides. In short, with a budget of 1000 or more, a few
- * sizes, no moving, and half of the pages live: words = (budget - 255) / 20 and begin_below = pages. That is reckoned for the worst
- * program, and not proved, and it is dear: at commit 100eeb26 GCBench of depth 13 on 4096 pages took 1,351 ns a node with it, and
- * 62 ns with (budget - 255) / 8 and pages / 2, both with a budget of 1000.
+ * HOW TO CHOOSE THE NUMBERS. The budget is the longest pause of the collector, in units. Before these units, a quantum
+ * also adds the records of each mutator to a list, by one link. The time of a unit is not promised;
+ * docs/PERFORMANCE.md has measurements ("The worst quantum").
  *
- * For a program's own numbers, record a run (metronome_record.h) of settings whose collector_ticks * rate is the budget.
- * `metronome pages --pace` tells Q, and of each size L, B and what was made between two cycles, and whether the pages suffice;
- * that they do for every run at this pace is proved of the heap, if each quantum has at least that budget. That a program keeps to
- * the pace is not proved. To keep it, the program calls this before each new object, makes objects of the recorded sizes in the
- * recorded shares, keeps no more of them live, and makes no more between two cycles than the run that was recorded.
+ * In short, take a budget of 1000 or more, objects of a few sizes, no moving, and at most half of the pages live. Then
+ * use words = (budget - 255) / 20 and begin_below = pages. For example, 64 pages and a budget of 1000 need 37 and 64.
  *
- * OK; NO_HEAP; BAD_BUDGET if `words` is 0, or if a quantum is due and the budget is out of its range. */
+ * In general, there are three numbers:
+ *
+ *   * Q is the most quanta that a cycle takes (metronome.h has the formula).
+ *   * L is how many blocks of a size live objects need.
+ *   * B is how many blocks of that size may be made between two quanta: those for which `words` have room, and those
+ *     of one more object. If that object is an array, all its pieces count.
+ *
+ * No object is refused for lack of space if begin_below pages have room for two things: L + (2 * Q + 1) * B blocks of
+ * each size, and 1 + defrag_pages more pages of each size.
+ *
+ * Both rules are calculated for the worst program; they are tested, not proved (docs/EMBEDDING.md, "A pace by hand").
+ * The short rule is slow. For example, GCBench in docs/PERFORMANCE.md runs with words = (budget - 255) / 8 instead.
+ *
+ * To find a program's own numbers, record a run (metronome_record.h) with settings whose collector_ticks * rate is the
+ * budget. `metronome pages --pace` prints Q, and for each size L, B and the blocks that were made between two cycles.
+ * It also prints whether the pages suffice. If it prints that they do, they suffice for every run at this pace: that
+ * is proved of the heap. It is not proved that a program keeps to the pace. A program does if it calls this before
+ * each new object, and if no more of its objects are live than in the recorded run.
+ *
+ * Returns OK, or one of these:
+ *   * BAD_BUDGET: pacing->words is 0, or a quantum is due and its budget isn't 256 to 1000000.
+ *   * NO_HEAP: The pace's number of words is reached, and the handle is closed. */
 METRONOME_NONNULL static inline uint32_t metronome_pace(metronome *heap, metronome_pacing *pacing, uint64_t words) {
     if (pacing->words == 0) return METRONOME_BAD_BUDGET;
     for (pacing->owed += words; pacing->owed >= pacing->words; pacing->owed -= pacing->words) {

@@ -39,14 +39,37 @@ void __tsan_release(void *at);
 /* ---- A gate ---- */
 
 /* A gate, at which threads wait for the turn of one heap. Each thread that takes turns there goes through it. All zeros at first,
- * as METRONOME_GATE; its fields belong to the calls below. It stays where it is as long as a thread uses it, best on a cache line
- * that nothing else is written on. */
+ * as METRONOME_GATE, or METRONOME_GATE_FAIR; its fields belong to the calls below. It stays where it is as long as a thread uses it,
+ * best on a cache line that nothing else is written on.
+ *
+ * METRONOME_GATE is fast, and not fair. A thread that gives the turn back and comes again at once often takes it again, before a thread
+ * that was woken is there. So a thread may wait for any number of turns.
+ *
+ * METRONOME_GATE_FAIR(turns) is fair. A thread that finds the turn taken gets a place in a line. From then on these turns may come
+ * before its own, and no others:
+ *
+ * - the one that is running,
+ * - one of each other thread that came before it,
+ * - `turns` of threads that came after it, in its whole wait.
+ *
+ * With 0, threads get the turn in the order in which they come. With more, fewer turns have to wait until a thread is awake: with 3 a
+ * thread that always comes again at once has up to 4 turns in a row. `turns` is less than UINT32_MAX.
+ *
+ * A thread that calls metronome_seat_enter itself has no place, and may pass the line by as often as it likes. The line knows no
+ * priorities: docs/EMBEDDING.md says how threads of several priorities wait. docs/PERFORMANCE.md has what turns cost. */
 typedef struct metronome_gate {
-    uint32_t waiting; /* how many threads wait, or are about to */
-    uint32_t asleep;  /* 1 where one of these may be asleep that nobody is about to wake */
+    uint32_t waiting; /* how many threads wait, or are about to, at a gate that isn't fair */
+    uint32_t asleep;  /* there 1 if one of these may be asleep that nobody is about to wake; at a fair gate the marks of such threads */
+    uint32_t fair;    /* 0, or at a fair gate one more than its number of turns */
+    uint32_t next;    /* the place in line that is given next; places count from 0, and wrap */
+    uint32_t first;   /* the place that is first in line; `next` if nobody waits */
+    uint32_t passed;  /* how many turns were taken before those in line by threads that came later; set in turns */
+    uint32_t until;   /* the place that was `next` when the last of these turns began; set in turns */
+    uint32_t wakes;   /* how often threads in line were woken: they sleep as long as it stays */
 } metronome_gate;
 
-#define METRONOME_GATE { 0, 0 }
+#define METRONOME_GATE { 0, 0, 0, 0, 0, 0, 0, 0 }
+#define METRONOME_GATE_FAIR(turns) { 0, 0, (uint32_t)(turns) + 1, 0, 0, 0, 0, 0 }
 
 /* How often a thread asks for the turn, 1 or more, before it sleeps. With fewer a thread that gives the turn back takes it again
  * more often, and threads do more calls in all; with more a short turn is waited for with no call of the system. */
@@ -63,18 +86,54 @@ static inline void metronome_gate_pause(void) {
 #endif
 }
 
-/* Sleeps as long as `asleep` is 1 and nobody wakes it; or for less. */
-METRONOME_NONNULL static inline void metronome_gate_sleep(metronome_gate *gate) {
+METRONOME_NONNULL static inline uint32_t metronome_gate_look(uint32_t *at) {
+    return __atomic_load_n(at, __ATOMIC_SEQ_CST);
+}
+
+/* Sleeps if *at is `value`, until a thread with one of these marks is woken; or for less. */
+METRONOME_NONNULL static inline void metronome_gate_sleep(uint32_t *at, uint32_t value, uint32_t marks) {
 #ifdef __linux__
-    syscall(SYS_futex, &gate->asleep, FUTEX_WAIT_PRIVATE, 1, NULL, NULL, 0);
+    syscall(SYS_futex, at, FUTEX_WAIT_BITSET_PRIVATE, (long)value, NULL, NULL, (long)marks);
 #else
-    (void)gate;
+    (void)at, (void)value, (void)marks;
     sched_yield();
 #endif
 }
 
-/* Waits for the turn. Who waits says so before it asks once more, and who gives the turn back looks for who waits after that: so a
- * thread sleeps only where another is going to look. */
+/* Wakes as many threads that sleep there and have one of these marks, or all, if they are fewer. */
+METRONOME_NONNULL static inline void metronome_gate_rouse(uint32_t *at, int32_t threads, uint32_t marks) {
+#ifdef __linux__
+    syscall(SYS_futex, at, FUTEX_WAKE_BITSET_PRIVATE, (long)threads, NULL, NULL, (long)marks);
+#else
+    (void)at, (void)threads, (void)marks;
+#endif
+}
+
+/* The mark of a place. Places that are 32 apart share one: who is woken for another's place looks, and sleeps again. */
+static inline uint32_t metronome_gate_mark(uint32_t place) {
+    return (uint32_t)1 << place % 32;
+}
+
+/* Wakes one of the threads that sleep, unless one is awake that was woken since: it asks, and looks after the others when it
+ * leaves. At a fair gate that is the first in line. Where none waits it is a look. metronome_gate_leave does it; a program calls it
+ * where a turn was given back in another way. */
+METRONOME_NONNULL static inline void metronome_gate_wake(metronome_gate *gate) {
+    if (gate->fair == 0) {
+        if (metronome_gate_look(&gate->waiting) == 0) return;
+        if (__atomic_exchange_n(&gate->asleep, 0, __ATOMIC_SEQ_CST) == 0) return;
+        metronome_gate_rouse(&gate->asleep, 1, UINT32_MAX);
+        return;
+    }
+    uint32_t first = metronome_gate_look(&gate->first), mark = metronome_gate_mark(first);
+    if (metronome_gate_look(&gate->next) == first) return;
+    if ((metronome_gate_look(&gate->asleep) & mark) == 0) return;
+    if ((__atomic_fetch_and(&gate->asleep, ~mark, __ATOMIC_SEQ_CST) & mark) == 0) return;
+    __atomic_fetch_add(&gate->wakes, 1, __ATOMIC_SEQ_CST);
+    metronome_gate_rouse(&gate->wakes, INT32_MAX, mark);
+}
+
+/* Waits for the turn at a gate that isn't fair. Who waits says so before it asks once more, and who gives the turn back looks for who
+ * waits after that: so a thread sleeps only where another is going to look. */
 METRONOME_NONNULL static inline uint32_t metronome_gate_wait(metronome_gate *gate, metronome_seat *seat) {
     uint32_t status;
     __atomic_fetch_add(&gate->waiting, 1, __ATOMIC_SEQ_CST);
@@ -82,32 +141,94 @@ METRONOME_NONNULL static inline uint32_t metronome_gate_wait(metronome_gate *gat
         __atomic_store_n(&gate->asleep, 1, __ATOMIC_SEQ_CST);
         status = metronome_seat_enter(seat);
         if (status != METRONOME_TAKEN) break;
-        metronome_gate_sleep(gate);
+        metronome_gate_sleep(&gate->asleep, 1, UINT32_MAX);
     }
     __atomic_fetch_sub(&gate->waiting, 1, __ATOMIC_SEQ_CST);
     return status;
 }
 
-/* Wakes one of the threads that sleep, unless one is awake that was woken since: it asks, and looks after the others when it
- * leaves. Where none waits it is a look. metronome_gate_leave does it; a program calls it where a turn was given back in another
- * way. */
-METRONOME_NONNULL static inline void metronome_gate_wake(metronome_gate *gate) {
-    if (__atomic_load_n(&gate->waiting, __ATOMIC_SEQ_CST) == 0) return;
-    if (__atomic_exchange_n(&gate->asleep, 0, __ATOMIC_SEQ_CST) == 0) return;
-#ifdef __linux__
-    syscall(SYS_futex, &gate->asleep, FUTEX_WAKE_PRIVATE, 1, NULL, NULL, 0);
-#endif
+/* ---- A fair gate ---- */
+
+/* Whether a place is `other` or behind it. */
+static inline int metronome_gate_is_at(uint32_t place, uint32_t other) {
+    return place - other < (uint32_t)1 << 31;
 }
 
-/* Takes the turn, and waits for it where another seat has it. Where none has it, it is a call of metronome_seat_enter and no call
- * of the system. OK, INSIDE, NO_HEAP, BAD_HANDLE. */
-METRONOME_NONNULL static inline uint32_t metronome_gate_enter(metronome_gate *gate, metronome_seat *seat) {
-    uint32_t status = metronome_seat_enter(seat);
+/* In the turn of a thread that came when `next` was the next place: whether it may have this turn. It may if all at places before
+ * have had theirs; else it passes them by, if as many turns as the gate has didn't do so yet. */
+METRONOME_NONNULL static inline int metronome_gate_passes(metronome_gate *gate, uint32_t next) {
+    uint32_t passed = metronome_gate_look(&gate->passed);
+    if (metronome_gate_is_at(metronome_gate_look(&gate->first), next)) return 1;
+    if (passed + 1 >= gate->fair) return 0;
+    __atomic_store_n(&gate->until, metronome_gate_look(&gate->next), __ATOMIC_RELAXED);
+    __atomic_store_n(&gate->passed, passed + 1, __ATOMIC_RELAXED);
+    return 1;
+}
+
+/* Asks for the turn as a thread that comes. TAKEN also if threads in line were passed by as often as the gate has turns. */
+METRONOME_NONNULL static inline uint32_t metronome_gate_ask(metronome_gate *gate, metronome_seat *seat) {
+    uint32_t next = metronome_gate_look(&gate->next), status;
+    uint64_t place;
+    if (metronome_gate_look(&gate->first) == next) return metronome_seat_enter(seat);
+    if (metronome_gate_look(&gate->passed) + 1 >= gate->fair) {
+        status = metronome_seat_place(seat, &place); /* what else it would be told */
+        return status == METRONOME_OK ? (uint32_t)METRONOME_TAKEN : status;
+    }
+    status = metronome_seat_enter(seat);
+    if (status != METRONOME_OK || metronome_gate_passes(gate, next)) return status;
+    metronome_seat_leave(seat);
+    metronome_gate_wake(gate);
+    return METRONOME_TAKEN;
+}
+
+/* Asks for the turn from a place in line. */
+METRONOME_NONNULL static inline uint32_t metronome_gate_ask_from(metronome_gate *gate, metronome_seat *seat, uint32_t place) {
+    return metronome_gate_look(&gate->first) == place ? metronome_seat_enter(seat) : (uint32_t)METRONOME_TAKEN;
+}
+
+/* Waits for the turn in line. A thread marks its place before it asks once more, and who gives the turn back looks for the first one's
+ * mark after that: so a thread sleeps only if another is going to look. Nobody but a thread that then wakes all with a mark takes the
+ * mark away. In its turn the thread makes the next place the first one. If none is left there that was passed by, later threads may
+ * pass again. */
+METRONOME_NONNULL static inline uint32_t metronome_gate_wait_in_line(metronome_gate *gate, metronome_seat *seat) {
+    uint32_t place = __atomic_fetch_add(&gate->next, 1, __ATOMIC_SEQ_CST), mark = metronome_gate_mark(place);
+    uint32_t status = metronome_gate_ask_from(gate, seat, place);
     for (int tries = 1; status == METRONOME_TAKEN && tries < METRONOME_GATE_TRIES; tries++) {
         metronome_gate_pause();
-        status = metronome_seat_enter(seat);
+        status = metronome_gate_ask_from(gate, seat, place);
     }
-    if (status == METRONOME_TAKEN) status = metronome_gate_wait(gate, seat);
+    while (status == METRONOME_TAKEN) {
+        uint32_t wakes = metronome_gate_look(&gate->wakes);
+        __atomic_fetch_or(&gate->asleep, mark, __ATOMIC_SEQ_CST);
+        status = metronome_gate_ask_from(gate, seat, place);
+        if (status != METRONOME_TAKEN) break;
+        metronome_gate_sleep(&gate->wakes, wakes, mark);
+        status = metronome_gate_ask_from(gate, seat, place);
+    }
+    if (status == METRONOME_OK && metronome_gate_is_at(place + 1, __atomic_load_n(&gate->until, __ATOMIC_RELAXED)))
+        __atomic_store_n(&gate->passed, 0, __ATOMIC_RELAXED);
+    __atomic_store_n(&gate->first, place + 1, __ATOMIC_SEQ_CST);
+    if (status != METRONOME_OK) metronome_gate_wake(gate);
+    return status;
+}
+
+/* ---- At either gate ---- */
+
+/* Takes the turn, and waits for it where another seat has it. Where none has it, and nobody waits for it, it is a call of
+ * metronome_seat_enter and no call of the system. OK, INSIDE, NO_HEAP, BAD_HANDLE. */
+METRONOME_NONNULL static inline uint32_t metronome_gate_enter(metronome_gate *gate, metronome_seat *seat) {
+    uint32_t status;
+    if (gate->fair != 0) {
+        status = metronome_gate_ask(gate, seat);
+        if (status == METRONOME_TAKEN) status = metronome_gate_wait_in_line(gate, seat);
+    } else {
+        status = metronome_seat_enter(seat);
+        for (int tries = 1; status == METRONOME_TAKEN && tries < METRONOME_GATE_TRIES; tries++) {
+            metronome_gate_pause();
+            status = metronome_seat_enter(seat);
+        }
+        if (status == METRONOME_TAKEN) status = metronome_gate_wait(gate, seat);
+    }
 #ifdef METRONOME_GATE_TELLS
     __tsan_acquire(gate);
 #endif

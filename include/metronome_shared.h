@@ -16,9 +16,9 @@
  * and no thread's: a seat may go from thread to thread, its turn too. What a program reads and writes in its turns needs no further
  * lock: who takes the turn finds all that was written before it was given back.
  *
- * NOT PROMISED is that a seat ever gets the turn, nor how soon, nor in what order seats get it. A seat whose thread ends in its
- * turn keeps it, so that it is TAKEN for ever: unless another thread, once that one has ended, calls metronome_seat_leave or
- * metronome_seat_destroy on it.
+ * NOT PROMISED is that a seat ever gets the turn, nor how soon, nor in what order seats get it. At a fair gate, METRONOME_GATE_FAIR,
+ * a thread waits for a bounded number of turns, which is tested. A seat whose thread ends in its turn keeps it, so that it is TAKEN
+ * for ever: unless another thread, once that one has ended, calls metronome_seat_leave or metronome_seat_destroy on it.
  *
  * WHAT C MUST NOT DO with a metronome_seat is what it must not do with a metronome, as metronome.h says. A seat that was never set
  * is answered with BAD_HANDLE, unless it has by chance the one value that the library leaves in an open one.

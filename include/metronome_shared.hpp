@@ -25,9 +25,14 @@ public:
     Gate(const Gate &) = delete;
     Gate &operator=(const Gate &) = delete;
 
+    // A fair gate, as by METRONOME_GATE_FAIR.
+    static Gate fair(std::uint32_t turns) noexcept { return Gate(turns); }
+
     metronome_gate *handle() noexcept { return &gate; }
 
 private:
+    explicit Gate(std::uint32_t turns) noexcept : gate METRONOME_GATE_FAIR(turns) {}
+
     metronome_gate gate = METRONOME_GATE;
 };
 

@@ -1,8 +1,9 @@
 /*
  * shared WAY THREADS CALLS_A_TURN CALLS: so many calls by threads at one heap, get and put in turn, each at an object of its thread's
- * own. WAY says what a thread goes through for each turn: `gate`, seats that wait at a gate; `seats`, seats that wait at a mutex; or
- * `mutex`, one handle with a mutex round it. It prints the nanoseconds of a call: the time from where the first thread begins to
- * where the last one ends, over all calls.
+ * own. WAY says what a thread goes through for each turn: `gate`, seats that wait at a gate; `fair:TURNS`, seats that wait at a fair
+ * one; `seats`, seats that wait at a mutex; `lends`, at one that lends its holder the priority of who waits; or `mutex`, one handle
+ * with a mutex round it. It prints the nanoseconds of a call: the time from where the first thread begins to where the last one
+ * ends, over all calls.
  */
 #define _POSIX_C_SOURCE 200809L
 #include "measure.h"
@@ -13,6 +14,8 @@
 
 enum { MOST = 64 };
 enum way { GATE, SEATS, MUTEX };
+
+static const char FAIR[] = "fair:";
 
 /* Each on a cache line of its own. */
 static struct { _Alignas(128) metronome_gate it; } gate = { METRONOME_GATE };
@@ -92,10 +95,21 @@ static void open_heap(void) {
     for (uint32_t m = threads - 1; m > 0; m--) need(metronome_seat_another(&seats[0].it, &seats[m].it, m) == METRONOME_OK);
 }
 
+/* Takes the way that a word says: makes the gate a fair one, or the mutex one that lends priorities. */
+static void take_way(const char *word) {
+    pthread_mutexattr_t kind;
+    way = strcmp(word, "mutex") == 0 ? MUTEX : strcmp(word, "seats") == 0 || strcmp(word, "lends") == 0 ? SEATS : GATE;
+    if (strncmp(word, FAIR, sizeof FAIR - 1) == 0)
+        gate.it = (metronome_gate)METRONOME_GATE_FAIR(atoi(word + sizeof FAIR - 1));
+    if (strcmp(word, "lends") != 0) return;
+    need(pthread_mutexattr_init(&kind) == 0 && pthread_mutexattr_setprotocol(&kind, PTHREAD_PRIO_INHERIT) == 0);
+    need(pthread_mutex_init(&lock.it, &kind) == 0);
+}
+
 int main(int count, char **words) {
     pthread_t running[MOST];
     if (count != 5) return 2;
-    way = strcmp(words[1], "gate") == 0 ? GATE : strcmp(words[1], "seats") == 0 ? SEATS : MUTEX;
+    take_way(words[1]);
     threads = (uint32_t)atoi(words[2]);
     batch = (uint32_t)atoi(words[3]);
     if (threads < 1 || threads > MOST || batch < 1) return 2;

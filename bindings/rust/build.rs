@@ -4,7 +4,7 @@ use std::process::{exit, Command};
 
 const FOLDER: &str = "METRONOME_LIB_DIR";
 
-/// What pkg-config says of the library's folder, or why it says nothing.
+/// Returns the library's folder by pkg-config, or why there is none.
 fn told_by_pkg_config() -> Result<String, String> {
     let asked = Command::new("pkg-config").args(["--variable=libdir", "metronome"]).output();
     let told = asked.map_err(|fault| format!("pkg-config: {fault}"))?;

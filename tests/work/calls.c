@@ -2,7 +2,7 @@
 
 #include <stdlib.h>
 
-/* What slots hold: an object with 252 references, one of two words, arrays of two parts, what was read, a new object. */
+/* The slots: for an object with 252 references, one of two words, arrays of two parts, a loaded reference, a new object. */
 enum { HOLDER, WORDS, REFS, LONG, READ, OTHER, NEW, NONE, ARRAY = 2 * LARGEST, MOST = PAGE_WORDS / HEADER };
 
 /* The mutator whose calls are counted: the last one. */

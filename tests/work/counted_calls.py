@@ -10,12 +10,12 @@ SOURCES = [f"{HERE}/{name}.c" for name in ("work", "heaps", "calls", "drawn")]
 
 PHASES = ["roots", "marking", "sweeping", "moving"]
 
-# What callgrind writes of a call: its name, and its instructions.
+# The lines of callgrind for a call: its name, and its instructions.
 PART = re.compile(r"^desc: Trigger: Client Request: (.*)$|^totals: (\d+)$", re.M)
 
 
 def kinds():
-    """Of each kind of heap its name, the phases for which it is made, and what it is."""
+    """Returns, for each kind of heap, its name, the phases for which it is made, and its description."""
     with open(f"{HERE}/heaps.c", encoding="utf-8") as file:
         for name, what, first, last in re.findall(r'^    \{ "(\w+)", "([^"]+)", (\w+), (\w+),', file.read(), re.M):
             yield name, PHASES[PHASES.index(first.lower()) : PHASES.index(last.lower()) + 1], what

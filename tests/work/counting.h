@@ -1,4 +1,4 @@
-/* What counts the instructions of calls: callgrind, which runs the program, writes them down under names. */
+/* Counts the instructions of calls: callgrind, which runs the program, writes them down under names. */
 #ifndef COUNTING_H
 #define COUNTING_H
 
@@ -16,15 +16,15 @@
         write_down((name), (more)); \
     } while (0)
 
-/* What was counted since the last time is written down under a name, and where. */
+/* Writes down the count since the last time, under a name in two words. */
 static inline void write_down(const char *name, const char *more) {
     char text[100];
     snprintf(text, sizeof text, "%s %s", name, more);
     CALLGRIND_DUMP_STATS_AT(text);
 }
 
-/* Counts calls of each function in each phase, on a heap of so many pages and mutators, of which so many pages aren't full (all
- * where 0 is said). */
+/* Counts calls of each function in each phase, on a heap of `pages` pages and `mutators` mutators. `room` of its pages aren't full
+ * (all if it is 0). */
 void count_calls(int pages, int mutators, int room, const char *where);
 
 #endif

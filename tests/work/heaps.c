@@ -23,12 +23,12 @@ void make(uint32_t mutator, uint32_t slot, uint32_t words) {
     need(metronome_new_plain(&heap, mutator, slot, 0, words).kind == METRONOME_MADE, "no object");
 }
 
-/* An array of references into a slot. */
+/* Makes an array of references in a slot. */
 static void make_array(uint32_t slot, uint32_t refs) {
     need(metronome_new_refs(&heap, 0, slot, refs).kind == METRONOME_MADE, "no array");
 }
 
-/* Fills all pages but so many with objects of 252 words, eight a page, to which an array leads, and a static to that. */
+/* Fills all pages except `room` with objects of 252 words, eight a page; an array leads to them, and a static to the array. */
 static void fill(int pages, int room) {
     uint32_t parts = ((uint32_t)(pages - room) * 8 + LARGEST - 1) / LARGEST;
     make_array(0, parts * LARGEST);
@@ -62,7 +62,7 @@ static void finish(void) {
     while (spent.phase != METRONOME_IDLE);
 }
 
-/* Each of the first `each` slots of each mutator holds an object of its own. */
+/* Gives each of the first `each` slots of each mutator an object of its own. */
 static void fill_slots(int mutators, int each) {
     for (int i = 0; i < mutators * each; i++) make((uint32_t)(i / each), (uint32_t)(i % each), 0);
 }
@@ -78,8 +78,8 @@ static void nulls(int pages, int mutators) {
     begin();
 }
 
-/* Each mutator overwrites so many references, each to an object that isn't marked, in an array. So are the objects to which the
- * first mutator's slots lead. */
+/* Each mutator overwrites as many references in an array, each to an object that isn't marked. The objects to which the first
+ * mutator's slots lead aren't marked either. */
 static void overwrite(int pages, int mutators, int each, int room) {
     enum { EMPTY = SLOTS - 2, ARRAY };
     uint32_t count = (uint32_t)(mutators * each);
@@ -150,7 +150,7 @@ static void moved(int pages, int mutators) {
     begin();
 }
 
-/* Pages of blocks of so many words, all of which are freed, but the first of each page where that is kept. */
+/* Pages of objects of `words` words, all of which are freed, except the first of each page if `keeps` says so. */
 static void garbage(int pages, int mutators, int room, uint32_t words, int keeps) {
     create(pages, mutators, 0, room);
     int of_page = PAGE_WORDS / (int)(words + HEADER), used = pages < room ? pages : room;

@@ -1,4 +1,4 @@
-/* Heaps on which units and calls take many instructions, for what counts them. */
+/* Heaps on which units and calls take many instructions, to count them. */
 #ifndef HEAPS_H
 #define HEAPS_H
 
@@ -9,19 +9,19 @@ enum { SLOTS = 256, BUDGET = 256, PAGE_WORDS = 2048, HEADER = 4, RECORDS = 64, L
 /* The heap that was made last. */
 extern metronome heap;
 
-/* Ends with a message where a condition doesn't hold. */
+/* Ends with a message if a condition doesn't hold. */
 void need(int holds, const char *what);
 
-/* Makes a heap that empties up to so many pages, all of which are touched, so that no call clears one. What is made in it later
- * goes on pages that are free now: so many, where the heap has more pages, whose others are then full of objects that a static
- * leads to; all where `room` is 0. */
+/* Makes a heap that empties up to `emptied` pages. All its pages are touched, so no call clears one. Objects that are made later go
+ * on pages that are free now: `room` of them, if the heap has more, and the others are then full of objects to which a static
+ * leads; all if `room` is 0. */
 void create(int pages, int mutators, int emptied, int room);
 
-/* A new object of cells that are words. */
+/* Makes an object of word cells. */
 void make(uint32_t mutator, uint32_t slot, uint32_t words);
 
-/* A kind of heap: its name and what it is, the first and the last phase in which its units take many instructions, how many pages
- * it takes to spend a quantum there, and what makes it, up to where its cycle has begun. */
+/* A kind of heap: its name and a description, the first and the last phase in which its units take many instructions, how many
+ * pages it takes to spend a quantum there, and the function that makes it, up to the beginning of its cycle. */
 struct kind {
     const char *name;
     const char *what;

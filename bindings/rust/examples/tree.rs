@@ -7,7 +7,7 @@ use metronome::{Heap, Mutator, Refusal, Result, Root, Settings};
 /// The static that holds the root of the tree. A node has a word, and refers to the nodes of lesser words and of greater ones.
 const TREE: u32 = 0;
 
-/// Where a word is or would be: the side of the node that `here` holds in the end, None where that has the word itself.
+/// Finds the place of a word, present or not: the side of the node that `here` holds in the end, None if that has the word itself.
 fn find(here: &Root<'_>, word: u64) -> Result<Option<u32>> {
     loop {
         let found = here.get(0)?;

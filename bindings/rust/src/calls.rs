@@ -7,7 +7,7 @@ use crate::heap::Cycle;
 use crate::log::EntryTold;
 use crate::refusal::{Refusal, Result};
 
-/// The version of metronome.h of which these declarations are.
+/// The version of metronome.h that these declarations are for.
 pub(crate) const VERSION: u32 = 2;
 
 pub(crate) const OK: u32 = 0;
@@ -40,30 +40,30 @@ impl SeatHandle {
 pub struct Settings {
     /// 1 to 1048576: pages of 2048 words of 8 bytes. A configuration file goes up to 4096.
     pub pages: i64,
-    /// 1 to 64.
+    /// How many mutators there are: 1 to 64.
     pub mutators: i64,
-    /// 1 to 256: slots of each mutator.
+    /// How many slots each mutator has: 1 to 256.
     pub slots: i64,
-    /// 0 to 256.
+    /// How many statics there are: 0 to 256.
     pub statics: i64,
-    /// 1 to `i64::MAX`: the greatest identity that is given to an object.
+    /// The greatest identity that is given to an object: 1 to `i64::MAX`.
     pub identities: i64,
-    /// 0 to 1048577: a sweep that leaves fewer free pages is followed by moving.
+    /// Moving follows each sweep that leaves fewer free pages: 0 to 1048577.
     pub defrag_below: i64,
-    /// 0 to 1048576: pages that a cycle empties at most.
+    /// The most pages that a cycle empties: 0 to 1048576.
     pub defrag_pages: i64,
-    /// 1 to 1000000. This and the next two make up a schedule. `collector_ticks * rate` is also the budget of a plan.
+    /// 1 to 1000000. This and the next two are a schedule. `collector_ticks * rate` is also the budget of a plan.
     pub collector_ticks: i64,
-    /// 1 to 1000000.
+    /// 1 to 1000000. The library only checks its range.
     pub mutator_ticks: i64,
     /// 1 to 1000000; `collector_ticks * rate` is 256 to 1000000.
     pub rate: i64,
-    /// 0 to `mutators`: how many are live before a [`crate::Mutator`] of them is made.
+    /// How many mutators are live before a [`crate::Mutator`] of them is made: 0 to `mutators`.
     pub live: i64,
 }
 
 impl Settings {
-    /// Numbers of pages, of mutators and of slots of each; the defaults of the others.
+    /// Returns settings with these numbers of pages, of mutators and of slots of each, and the defaults of the others.
     pub const fn new(pages: i64, mutators: i64, slots: i64) -> Settings {
         Settings {
             pages,
@@ -80,7 +80,7 @@ impl Settings {
         }
     }
 
-    /// What a cycle takes at most in a heap of these settings. Refused: `BadSetting`, `BadSchedule`.
+    /// Returns the most units and quanta of a cycle in a heap of these settings. Refused: `BadSetting`, `BadSchedule`.
     pub fn cycle_limit(&self) -> Result<CycleLimit> {
         let mut limit = CycleLimit::default();
         // SAFETY: both live through the call.
@@ -89,7 +89,7 @@ impl Settings {
     }
 }
 
-/// The version of metronome.h of which the installed library is.
+/// Returns the version of metronome.h that the installed library is for.
 pub fn version() -> u32 {
     // SAFETY: it may be called at any time.
     unsafe { metronome_version() }
@@ -103,7 +103,7 @@ pub(crate) struct Answer {
     pub(crate) number: u64,
 }
 
-/// What kind an answer is, in the order of their numbers.
+/// The kinds of answers, in the order of their numbers.
 #[derive(Clone, Copy, PartialEq, Eq)]
 pub(crate) enum Kind {
     Refused,
@@ -195,11 +195,11 @@ pub(crate) struct SpentTold {
 pub struct Counts {
     /// All pages.
     pub pages: u64,
-    /// Those that are free.
+    /// Free pages.
     pub free_pages: u64,
     /// Slots of all mutators, and statics.
     pub root_cells: u64,
-    /// Those that don't hold null.
+    /// Root cells that don't hold null.
     pub roots_used: u64,
     /// Objects that lie in the heap: all that can be reached, and garbage that isn't freed yet.
     pub objects: u64,
@@ -209,17 +209,17 @@ pub struct Counts {
     pub old_copies: u64,
 }
 
-/// A page: 2048 words in blocks of one size. Of a free page each number is 0.
+/// A page: 2048 words in blocks of one size. Each number of a free page is 0.
 #[repr(C)]
 #[derive(Clone, Copy, Debug, Default, PartialEq, Eq)]
 pub struct Page {
     /// The words of a block; the page has 2048 / `size` of them.
     pub size: u32,
-    /// How many blocks hold parts of objects, or old copies of such.
+    /// How many blocks hold parts of objects, or old copies of parts.
     pub held: u32,
-    /// 1 where its blocks are being moved away, and it gets no new one.
+    /// 1 if its blocks are being moved away, and it gets no new one; else 0.
     pub leaving: u32,
-    /// 1 where a block was moved to it since the last sweep.
+    /// 1 if a block was moved to it since the last sweep; else 0.
     pub receiving: u32,
 }
 
@@ -233,7 +233,7 @@ pub(crate) struct BlockTold {
     pub(crate) old: u32,
 }
 
-/// What a cycle takes at most.
+/// The most units and quanta of a cycle.
 #[repr(C)]
 #[derive(Clone, Copy, Debug, Default, PartialEq, Eq)]
 pub struct CycleLimit {

@@ -28,9 +28,9 @@ pub enum Phase {
     Idle,
     /// Slots and statics are scanned.
     Roots,
-    /// What they lead to is marked.
+    /// The objects to which they lead are marked.
     Marking,
-    /// What isn't marked is freed.
+    /// Unmarked objects are freed.
     Sweeping,
     /// Sparse pages are emptied.
     Moving,
@@ -43,7 +43,7 @@ impl Phase {
     }
 }
 
-/// What a quantum did.
+/// The outcome of a quantum.
 #[derive(Clone, Copy, Debug, PartialEq, Eq)]
 pub struct Spent {
     /// Units of work.
@@ -56,13 +56,13 @@ pub struct Spent {
 #[repr(C)]
 #[derive(Clone, Copy, Debug, Default, PartialEq, Eq)]
 pub struct Cycle {
-    /// Which one it is, from 1.
+    /// Its number, from 1.
     pub number: u64,
-    /// Quanta that found it running.
+    /// How many quanta found it running.
     pub quanta: u64,
-    /// The units that they spent.
+    /// The units that these quanta spent.
     pub units: u64,
-    /// The most units that one of them spent.
+    /// The most units that a quantum spent.
     pub longest: u64,
     /// Free pages when it began.
     pub free_before: u64,
@@ -80,7 +80,7 @@ pub struct Pacing {
 }
 
 impl Pacing {
-    /// A cycle begins where fewer pages than `begin_below` are free, and a quantum of `budget` units is spent each time that
+    /// A cycle begins if fewer pages than `begin_below` are free. A quantum of `budget` units is spent each time that
     /// `words` words were made.
     pub const fn new(begin_below: u64, words: u64, budget: u32) -> Pacing {
         Pacing { begin_below, words, budget, owed: 0 }
@@ -102,7 +102,8 @@ impl Heap {
         })
     }
 
-    /// The same, and from now on each call is written down, until [`Heap::end_recording`] or until the heap is dropped.
+    /// Makes a heap as [`Heap::new`] does. From now on each call is recorded, until [`Heap::end_recording`] or until
+    /// the heap is dropped.
     pub fn recorded(settings: &Settings, mut recording: Recording) -> Result<Heap> {
         let heap = Heap::new(settings)?;
         recording.begin(settings);
@@ -110,7 +111,7 @@ impl Heap {
         Ok(heap)
     }
 
-    /// Ends the recording, if there is one. Err where something of it wasn't taken: then it ends before that.
+    /// Ends the recording, if there is one. Err if a line wasn't taken: then the recording ends before that line.
     pub fn end_recording(&self) -> io::Result<()> {
         self.recording.take().map_or(Ok(()), Recording::end)
     }
@@ -120,28 +121,28 @@ impl Heap {
         self.recording.borrow().is_some()
     }
 
-    /// Writes down a command of a mutator, where the heap is recorded.
+    /// Records a command of a mutator, if the heap is recorded.
     pub(crate) fn note(&self, mutator: u32, line: fmt::Arguments<'_>, answer: &Answer, shape: &ShapeTold) {
         if let Some(recording) = self.recording.borrow_mut().as_mut() {
             recording.command(mutator, line, Reply { answer, shape });
         }
     }
 
-    /// Writes down what the collector was asked for, where the heap is recorded.
+    /// Records a request to the collector, if the heap is recorded.
     fn note_collector(&self, line: fmt::Arguments<'_>) {
         if let Some(recording) = self.recording.borrow_mut().as_mut() {
             recording.collector(line);
         }
     }
 
-    /// Clears the first `pages` pages, or all where there are fewer, so that no later call has to: `usize::MAX` for all. Nothing
-    /// else changes.
+    /// Clears the first `pages` pages, or all if there are fewer, so that no later call has to: `usize::MAX` for all.
+    /// Nothing else changes.
     pub fn touch(&self, pages: usize) {
         // SAFETY: the heap is open, and lives through the call.
         unsafe { calls::metronome_touch(self.handle(), pages) };
     }
 
-    /// Mutator `number`, which is live until it goes out of scope. Refused: `AlreadyLive` where there is one of that number,
+    /// Makes mutator `number` live, until it goes out of scope. Refused: `AlreadyLive` if it is live already,
     /// `NoMutator`.
     pub fn mutator(&self, number: u32) -> Result<Mutator<'_>> {
         let bit = 1u64.checked_shl(number).ok_or(Refusal::NoMutator)?;
@@ -163,15 +164,15 @@ impl Heap {
         self.handle.get()
     }
 
-    /// The heap keeps a plan from here on: before each new object the collector works as much as the plan wants for it. So as
-    /// long as what is live keeps to `live_words` no object is refused for lack of space. Refused: `NoPlan` where the heap was used
-    /// already, or the plan doesn't fit in it.
+    /// Makes the heap keep a plan from here on: before each new object the collector works as much as the plan
+    /// requires. As long as live objects keep to `live_words`, no object is refused for lack of space. Refused:
+    /// `NoPlan` if the heap was used already, or the plan doesn't fit in it.
     pub fn keep(&self, flow: &Flow) -> Result<()> {
         // SAFETY: the heap is open, and both live through the call.
         done(unsafe { calls::metronome_keep(self.handle(), flow) })
     }
 
-    /// What the collector did because the plan wanted it, since [`Heap::keep`]. Refused: `NoPlan` where none is kept.
+    /// Returns the work that the collector did for the plan since [`Heap::keep`]. Refused: `NoPlan` if none is kept.
     pub fn kept(&self) -> Result<Work> {
         let mut work = Work::default();
         // SAFETY: the heap is open, and both live through the call.
@@ -179,7 +180,7 @@ impl Heap {
         Ok(work)
     }
 
-    /// Begins a cycle. Answers whether one began: none was running.
+    /// Begins a cycle. Returns whether one began: none was running.
     pub fn begin(&self) -> bool {
         // SAFETY: the heap is open, and lives through the call.
         let status = unsafe { calls::metronome_begin(self.handle()) };
@@ -207,7 +208,8 @@ impl Heap {
         Ok(())
     }
 
-    /// Tells the pace that `words` words are about to be made: an object of n cells takes n + 4. Refused: `BadBudget`.
+    /// Lets the collector work before `words` words are made, as the pace says: an object of n cells takes n + 4.
+    /// Refused: `BadBudget`.
     pub fn pace(&self, pacing: &mut Pacing, words: u64) -> Result<()> {
         if pacing.words == 0 {
             return Err(Refusal::BadBudget);
@@ -227,7 +229,7 @@ impl Heap {
         Ok(())
     }
 
-    /// The phase of the collector.
+    /// Returns the phase of the collector.
     pub fn phase(&self) -> Phase {
         let mut phase = 0;
         // SAFETY: the heap is open, and both live through the call.
@@ -235,7 +237,7 @@ impl Heap {
         Phase::of(phase)
     }
 
-    /// The units that were spent since the last cycle began.
+    /// Returns the units that were spent since the last cycle began.
     pub fn units(&self) -> u64 {
         let mut units = 0;
         // SAFETY: the heap is open, and both live through the call.
@@ -251,7 +253,7 @@ impl Heap {
         pages
     }
 
-    /// All counts. It looks at each block of the heap, and so takes time by its size.
+    /// Counts the pages, roots, objects and parts. It looks at each block, so its time grows with the heap's size.
     pub fn count(&self) -> Counts {
         let mut counts = Counts::default();
         // SAFETY: the heap is open, and both live through the call.
@@ -259,8 +261,7 @@ impl Heap {
         counts
     }
 
-    /// The last cycle that ended, for a program's log; `None` before one has, and where the heap keeps a plan, of which
-    /// [`Heap::kept`] tells.
+    /// The last cycle that ended, for a program's log; `None` before one has.
     pub fn last_cycle(&self) -> Option<Cycle> {
         let mut cycle = Cycle::default();
         // SAFETY: the heap is open, and both live through the call.
@@ -268,7 +269,7 @@ impl Heap {
         (cycle.number > 0).then_some(cycle)
     }
 
-    /// A page, by its number from 0; one that there isn't is given as a free one.
+    /// Returns a page, by its number from 0. A page that doesn't exist is reported as free.
     pub fn page(&self, number: usize) -> Page {
         let mut page = Page::default();
         // SAFETY: the heap is open, and both live through the call.
@@ -285,7 +286,7 @@ impl fmt::Debug for Heap {
 
 impl Drop for Heap {
     fn drop(&mut self) {
-        // Who wants to know whether all was written ends the recording before.
+        // A caller that must know whether every line was taken ends the recording before.
         let _ = self.end_recording();
         // SAFETY: the handle lives through the call, and nothing borrows the heap any more.
         unsafe { calls::metronome_destroy(self.handle()) }

@@ -1,8 +1,9 @@
-//! A real-time garbage-collected heap, over the installed archive of `metronome.h`. This crate is plain Rust: of it nothing is
-//! proved. What is proved of the calls below it, docs/EMBEDDING.md of the library says.
+//! A real-time garbage-collected heap, over the installed archive of `metronome.h`. This crate is plain Rust, and
+//! nothing is proved of it. docs/EMBEDDING.md of the library says what is proved of the calls below it.
 //!
-//! A [`Heap`] goes from thread to thread, but is used in one at a time. A [`Mutator`] is a row of slots, and a [`Root`] one of
-//! these: what it holds is kept, and when it goes out of scope its slot holds null and is free again.
+//! A [`Heap`] goes from thread to thread, but is used in one at a time. A [`Mutator`] is a row of slots, and a [`Root`]
+//! is one of these slots. The object that a root holds is kept. When the root goes out of scope, its slot holds null
+//! and is free again.
 //!
 //! ```
 //! use metronome::{Heap, Refusal, Settings};
@@ -19,7 +20,7 @@
 //! }
 //! ```
 //!
-//! A heap that threads share is a [`Shared`]: each thread has a [`Seat`] at it, and does its calls in a [`Turn`].
+//! A heap that threads share is a [`Shared`]: each thread has a [`Seat`] at it, and makes its calls in a [`Turn`].
 //!
 //! A heap takes one call at a time, so it isn't `Sync`:
 //!

@@ -4,73 +4,74 @@ use crate::heap::{Phase, Spent};
 use crate::refusal::Result;
 use crate::root::Shape;
 
-/// What there is at a place of a log.
+/// An entry at a place of a log, or why there is none.
 #[derive(Clone, Copy, Debug, PartialEq, Eq)]
 pub enum Logged {
-    /// No entry any more: it isn't one of the last that are kept.
+    /// The entry is gone: it isn't one of the last that are kept.
     Gone,
     /// A command.
     Entered(Entry),
-    /// A cycle was to begin: whether it did, as none was running.
+    /// A request to begin a cycle: whether one began, because none was running.
     Begin(bool),
-    /// A quantum of this budget: what it spent, or that it is refused as `BadBudget`.
+    /// A quantum of this budget: its outcome, or that it is refused as `BadBudget`.
     Quantum(u32, Result<Spent>),
-    /// No entry yet: it is the place behind the last one.
+    /// No entry yet: this is the place behind the last one.
     NotYet,
 }
 
 /// A command that was done, or that the heap refused.
 #[derive(Clone, Copy, Debug, PartialEq, Eq)]
 pub struct Entry {
-    /// Whose command it was.
+    /// The mutator that gave the command.
     pub mutator: u32,
     /// The command.
     pub command: Command,
     /// The number of its answer, or why it was refused.
     pub answer: Result<u64>,
-    /// The shape that was told.
+    /// The shape that was returned.
     pub shape: Option<Shape>,
 }
 
-/// A command of a mutator. Objects are named by their slots: `dst` is where to, `obj` the object whose cell `i` it is.
+/// A command of a mutator. Objects are named by their slots: `dst` is the slot that gets a value, `obj` the slot of the
+/// object that has cell `i`.
 #[allow(missing_docs)] // the fields
 #[derive(Clone, Copy, Debug, PartialEq, Eq)]
 pub enum Command {
-    /// A new object.
+    /// Makes an object.
     New { dst: u32, shape: Shape },
-    /// A reference cell into a slot.
+    /// Loads a reference cell into a slot.
     Load { dst: u32, obj: u32, i: u32 },
-    /// A slot into a reference cell.
+    /// Stores a slot into a reference cell.
     Store { obj: u32, i: u32, src: u32 },
-    /// The same, if the cell holds what another slot does.
+    /// Stores a slot into a reference cell, if that holds the same as another slot.
     CompareStore { obj: u32, i: u32, expect: u32, replacement: u32 },
     /// Reads a word cell.
     Get { obj: u32, i: u32 },
     /// Writes a word cell.
     Put { obj: u32, i: u32, word: u64 },
-    /// The same, if the cell holds a word.
+    /// Writes a word cell, if it holds a word.
     ComparePut { obj: u32, i: u32, old: u64, replacement: u64 },
-    /// A slot into another.
+    /// Copies a slot into another.
     Copy { dst: u32, src: u32 },
-    /// Null into a slot.
+    /// Sets a slot to null.
     Clear { dst: u32 },
-    /// A static into a slot.
+    /// Loads a static into a slot.
     LoadStatic { dst: u32, k: u32 },
-    /// A slot into a static.
+    /// Stores a slot into a static.
     StoreStatic { k: u32, src: u32 },
-    /// The same, if the static holds what another slot does.
+    /// Stores a slot into a static, if that holds the same as another slot.
     CompareStatic { k: u32, expect: u32, replacement: u32 },
-    /// Whether two slots hold the same.
+    /// Compares two slots.
     Same { a: u32, b: u32 },
-    /// The identity and the shape of an object.
+    /// Returns the identity and the shape of an object.
     Describe { a: u32 },
-    /// The mutator becomes live.
+    /// Makes the mutator live.
     Join,
-    /// The mutator is live no more.
+    /// Sets each slot of the mutator to null; the mutator is then no longer live.
     Retire,
 }
 
-/// What the collector is asked to do, among the kinds of commands.
+/// Requests to the collector, among the kinds of commands.
 const BEGIN: u32 = 16;
 const QUANTUM: u32 = 17;
 

@@ -7,11 +7,11 @@ use crate::heap::Heap;
 use crate::refusal::{Refusal, Result};
 use crate::root::{Compared, Root};
 
-/// A mutator of a heap, live until it goes out of scope. Then null is in each of its slots.
+/// A mutator of a heap, live until it goes out of scope. Then each of its slots holds null.
 pub struct Mutator<'h> {
     heap: &'h Heap,
     number: u32,
-    /// The slots that are no roots.
+    /// The slots that aren't roots.
     free: RefCell<Vec<u32>>,
 }
 
@@ -29,8 +29,8 @@ impl<'h> Mutator<'h> {
         Ok(Mutator { heap, number, free: RefCell::new((0..slots).rev().collect()) })
     }
 
-    /// A command of this mutator, with its line of a trace, but for the mutator. The closure gets the heap's handle, which is open,
-    /// the mutator's number, and where the shape goes that the command tells.
+    /// Does a command of this mutator, with its line of a trace, except for the mutator. The closure gets the heap's
+    /// handle, which is open, the mutator's number, and the place for the shape that the command returns.
     pub(crate) fn tell(
         &self,
         line: fmt::Arguments<'_>,
@@ -42,41 +42,41 @@ impl<'h> Mutator<'h> {
         (answer, shape)
     }
 
-    /// One that tells no shape.
+    /// Does a command that returns no shape.
     pub(crate) fn command(&self, line: fmt::Arguments<'_>, call: impl FnOnce(*mut Handle, u32) -> Answer) -> Answer {
         self.tell(line, |heap, m, _| call(heap, m)).0
     }
 
-    /// A list of commands of this mutator, where the heap isn't recorded.
+    /// Does a list of commands of this mutator, if the heap isn't recorded.
     pub(crate) fn list(&self, call: impl FnOnce(*mut Handle, u32) -> ProgressTold) -> ProgressTold {
         call(self.heap.handle(), self.number)
     }
 
-    /// Whether its commands are written down, each with a line of its own.
+    /// Whether its commands are recorded, each with a line of its own.
     pub(crate) fn is_recorded(&self) -> bool {
         self.heap.is_recorded()
     }
 
-    /// Lets a slot, which holds null, be a root again.
+    /// Makes a slot, which holds null, free for another root.
     pub(crate) fn give_back(&self, slot: u32) {
         self.free.borrow_mut().push(slot);
     }
 
-    /// A root that holds null. Refused: `SlotsUsed`.
+    /// Makes a root that holds null. Refused: `SlotsUsed`.
     pub fn null(&self) -> Result<Root<'_>> {
         let slot = self.free.borrow_mut().pop().ok_or(Refusal::SlotsUsed)?;
         Ok(Root::new(self, slot))
     }
 
-    /// A new object of `refs` reference cells, all null, and `words` word cells, all 0: at most 252 cells. Refused: `SlotsUsed`,
-    /// `TooLarge`, `IdentitiesSpent`, `NoSpace`.
+    /// Makes an object of `refs` reference cells, all null, and `words` word cells, all 0: at most 252 cells. Refused:
+    /// `SlotsUsed`, `TooLarge`, `IdentitiesSpent`, `NoSpace`.
     pub fn new_plain(&self, refs: u32, words: u32) -> Result<Root<'_>> {
         let root = self.null()?;
         self.new_plain_into(refs, words, &root)?;
         Ok(root)
     }
 
-    /// The same, into an existing root.
+    /// Does as [`Mutator::new_plain`], into an existing root.
     pub fn new_plain_into(&self, refs: u32, words: u32, into: &Root<'_>) -> Result<()> {
         let dst = into.slot_of(self)?;
         // SAFETY: the heap is open, and lives through the call.
@@ -84,8 +84,9 @@ impl<'h> Mutator<'h> {
         self.command(format_args!("new {dst} plain {refs} {words}"), call).number().map(drop)
     }
 
-    /// A new object of `refs` reference cells and `words` word cells, of which the first hold what these roots do, and these
-    /// words: at most 252 together. Refused as [`Mutator::new_plain`], and as `BadIndex` where there are fewer cells.
+    /// Makes an object of `refs` reference cells and `words` word cells, at most 252 together. The first reference
+    /// cells hold the objects of these roots, the first word cells these words. Refused as [`Mutator::new_plain`], and
+    /// as `BadIndex` if there are fewer cells.
     pub fn new_with(&self, refs: u32, words: u32, held: &[&Root<'_>], contents: &[u64]) -> Result<Root<'_>> {
         let root = self.null()?;
         let slots = held.iter().map(|it| it.slot_of(self)).collect::<Result<Vec<_>>>()?;
@@ -104,7 +105,7 @@ impl<'h> Mutator<'h> {
         Ok(root)
     }
 
-    /// A new array of this many reference cells, all null: at most 4000000. Refused as [`Mutator::new_plain`].
+    /// Makes an array of this many reference cells, all null: at most 4000000. Refused as [`Mutator::new_plain`].
     pub fn new_refs(&self, refs: u32) -> Result<Root<'_>> {
         let root = self.null()?;
         let dst = root.slot_of(self)?;
@@ -114,7 +115,7 @@ impl<'h> Mutator<'h> {
         Ok(root)
     }
 
-    /// A new array of this many word cells, all 0: at most 4000000. Refused as [`Mutator::new_plain`].
+    /// Makes an array of this many word cells, all 0: at most 4000000. Refused as [`Mutator::new_plain`].
     pub fn new_words(&self, words: u32) -> Result<Root<'_>> {
         let root = self.null()?;
         let dst = root.slot_of(self)?;
@@ -124,7 +125,7 @@ impl<'h> Mutator<'h> {
         Ok(root)
     }
 
-    /// What static `k` holds. Refused: `SlotsUsed`, `BadStatic`.
+    /// Loads static `k` into a new root. Refused: `SlotsUsed`, `BadStatic`.
     pub fn load_static(&self, k: u32) -> Result<Root<'_>> {
         let root = self.null()?;
         let dst = root.slot_of(self)?;
@@ -134,7 +135,7 @@ impl<'h> Mutator<'h> {
         Ok(root)
     }
 
-    /// What a root holds, into static `k`. Refused: `OtherMutator`, `BadStatic`.
+    /// Stores the reference in a root into static `k`. Refused: `OtherMutator`, `BadStatic`.
     pub fn store_static(&self, k: u32, from: &Root<'_>) -> Result<()> {
         let src = from.slot_of(self)?;
         // SAFETY: the heap is open, and lives through the call.
@@ -142,7 +143,8 @@ impl<'h> Mutator<'h> {
         self.command(format_args!("storestatic {k} {src}"), call).number().map(drop)
     }
 
-    /// What `replacement` holds, into static `k`, if that holds what `expect` does. Refused: `OtherMutator`, `BadStatic`.
+    /// Stores the reference in `replacement` into static `k`, if that holds the same as `expect`. Refused:
+    /// `OtherMutator`, `BadStatic`.
     pub fn compare_static(&self, k: u32, expect: &Root<'_>, replacement: &Root<'_>) -> Result<Compared> {
         let (expect, new) = (expect.slot_of(self)?, replacement.slot_of(self)?);
         // SAFETY: the heap is open, and lives through the call.

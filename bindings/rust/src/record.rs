@@ -4,10 +4,10 @@ use std::io::{self, Write};
 
 use crate::calls::{Answer, Kind, Settings, ShapeTold};
 
-/// Where the calls of a heap are written down: its settings as a configuration, and each command, beginning and quantum as a line
-/// of a trace of version 2. `metronome pages run.toml run.trace` then tells how many pages the program needs, `inspect` and `draw`
-/// what fills its heap, and `play` does it again. Calls that only tell a figure are no events of a heap, and aren't written, nor is
-/// a quantum that is refused.
+/// A recording of the calls of a heap: its settings as a configuration, and each command, beginning and quantum as a
+/// line of a trace of version 2. `metronome pages run.toml run.trace` then prints how many pages the program needs,
+/// `inspect` and `draw` show its heap, and `play` repeats the run. Calls that only return a figure are no events of a
+/// heap, and aren't recorded. Nor is a quantum that is refused.
 ///
 /// ```
 /// use metronome::{Heap, Recording, Settings};
@@ -24,23 +24,23 @@ pub struct Recording {
     settings: Box<dyn Write + Send>,
     trace: Box<dyn Write + Send>,
     history: Option<Box<dyn Write + Send>>,
-    /// Why a line wasn't taken. None is written after it.
+    /// Why a line wasn't taken. No line is written after it.
     fault: Option<io::Error>,
 }
 
 impl Recording {
-    /// The settings go to the first of these, and a line for each call to the second. Many short lines are written: a file is best
-    /// given in a `BufWriter`.
+    /// Makes a recording. The settings go to the first of these, and a line for each call to the second. Many short
+    /// lines are written, so give a file in a `BufWriter`.
     pub fn new(settings: impl Write + Send + 'static, trace: impl Write + Send + 'static) -> Recording {
         Recording { settings: Box::new(settings), trace: Box::new(trace), history: None, fault: None }
     }
 
-    /// Each command goes here too, with its reply, as `metronome play --history` gives them.
+    /// Writes each command here too, with its reply, as `metronome play --history` does.
     pub fn with_history(self, history: impl Write + Send + 'static) -> Recording {
         Recording { history: Some(Box::new(history)), ..self }
     }
 
-    /// Writes what comes before the first line.
+    /// Writes the lines before the first event.
     pub(crate) fn begin(&mut self, settings: &Settings) {
         self.attempt(|it| {
             write_settings(&mut it.settings, settings)?;
@@ -50,7 +50,7 @@ impl Recording {
         });
     }
 
-    /// Writes what the collector was asked for.
+    /// Writes a request to the collector.
     pub(crate) fn collector(&mut self, line: fmt::Arguments<'_>) {
         self.attempt(|it| writeln!(it.trace, "{line}"));
     }
@@ -63,7 +63,7 @@ impl Recording {
         });
     }
 
-    /// Ends the recording: Err where something of it wasn't taken.
+    /// Ends the recording: Err if a line wasn't taken.
     pub(crate) fn end(mut self) -> io::Result<()> {
         self.attempt(|it| {
             it.trace.flush()?;
@@ -72,7 +72,7 @@ impl Recording {
         self.fault.map_or(Ok(()), Err)
     }
 
-    /// Writes, unless something wasn't taken before.
+    /// Writes, unless a line wasn't taken before.
     fn attempt(&mut self, write: impl FnOnce(&mut Recording) -> io::Result<()>) {
         if self.fault.is_none() {
             self.fault = write(self).err();
@@ -104,7 +104,7 @@ fn write_settings(out: &mut impl Write, of: &Settings) -> io::Result<()> {
     keys.iter().try_for_each(|(key, value)| writeln!(out, "{key} = {value}"))
 }
 
-/// A reply as an entry of a history ends: the answer, and the shape that it tells.
+/// A reply, as an entry of a history ends: the answer, and the shape that it has.
 pub(crate) struct Reply<'a> {
     pub(crate) answer: &'a Answer,
     pub(crate) shape: &'a ShapeTold,

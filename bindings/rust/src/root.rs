@@ -6,9 +6,9 @@ use crate::calls::{self, ShapeTold};
 use crate::mutator::Mutator;
 use crate::refusal::{Refusal, Result};
 
-/// A slot of a mutator, which is this root's alone until it is dropped. It holds null or an object, which is kept.
+/// A slot of a mutator, which belongs only to this root until it is dropped. It holds null or an object, which is kept.
 ///
-/// A root is used with others of its own mutator: with one of another the call is refused as `OtherMutator`.
+/// A root is used with others of its own mutator. A call with a root of another mutator is refused as `OtherMutator`.
 pub struct Root<'m> {
     mutator: &'m Mutator<'m>,
     slot: u32,
@@ -20,9 +20,9 @@ const MOST_WORDS: usize = 252;
 /// The outcome of a comparison.
 #[derive(Clone, Copy, Debug, PartialEq, Eq)]
 pub enum Compared {
-    /// It held, and the cell was written.
+    /// The comparison held, and the cell was written.
     Stored,
-    /// It failed: the word, or the identity of the object (0 for null), that stands there.
+    /// The comparison failed: the word, or the identity of the object (0 for null), that stands there.
     Kept(u64),
 }
 
@@ -58,10 +58,10 @@ impl Shape {
     }
 }
 
-/// What there is to tell of an object.
+/// The identity and the shape of an object.
 #[derive(Clone, Copy, Debug, PartialEq, Eq)]
 pub struct Description {
-    /// Its number: 1 for the first one that was made in its heap, and so on.
+    /// Its identity: 1 for the first object that was made in its heap, and so on.
     pub identity: u64,
     /// Its shape.
     pub shape: Shape,
@@ -72,7 +72,7 @@ impl<'m> Root<'m> {
         Root { mutator, slot }
     }
 
-    /// The slot, where the root is one of this mutator.
+    /// Returns the slot, if the root is one of this mutator.
     pub(crate) fn slot_of(&self, mutator: &Mutator<'_>) -> Result<u32> {
         if ptr::eq(self.mutator, mutator) {
             Ok(self.slot)
@@ -81,14 +81,15 @@ impl<'m> Root<'m> {
         }
     }
 
-    /// What reference cell `i` of this root's object holds. Refused: `SlotsUsed`, `NullSlot`, `WrongKind`, `BadIndex`.
+    /// Loads reference cell `i` of this root's object into a new root. Refused: `SlotsUsed`, `NullSlot`, `WrongKind`,
+    /// `BadIndex`.
     pub fn load(&self, i: u32) -> Result<Root<'m>> {
         let root = self.mutator.null()?;
         self.load_into(i, &root)?;
         Ok(root)
     }
 
-    /// The same, into an existing root: this one, say.
+    /// Does as [`Root::load`], into an existing root, which may be this one.
     pub fn load_into(&self, i: u32, into: &Root<'_>) -> Result<()> {
         let dst = into.slot_of(self.mutator)?;
         let obj = self.slot;
@@ -97,7 +98,7 @@ impl<'m> Root<'m> {
         self.mutator.command(format_args!("load {dst} {obj} {i}"), call).number().map(drop)
     }
 
-    /// What another root holds, into reference cell `i` of this root's object. Refused as [`Root::load`].
+    /// Stores the reference in another root into reference cell `i` of this root's object. Refused as [`Root::load`].
     pub fn store(&self, i: u32, from: &Root<'_>) -> Result<()> {
         let (obj, src) = (self.slot, from.slot_of(self.mutator)?);
         // SAFETY: the heap is open, and lives through the call.
@@ -105,7 +106,8 @@ impl<'m> Root<'m> {
         self.mutator.command(format_args!("store {obj} {i} {src}"), call).number().map(drop)
     }
 
-    /// What `replacement` holds, into reference cell `i`, if that holds what `expect` does. Refused as [`Root::load`].
+    /// Stores the reference in `replacement` into reference cell `i`, if that holds the same as `expect`. Refused as
+    /// [`Root::load`].
     pub fn compare_store(&self, i: u32, expect: &Root<'_>, replacement: &Root<'_>) -> Result<Compared> {
         let (expect, new) = (expect.slot_of(self.mutator)?, replacement.slot_of(self.mutator)?);
         let obj = self.slot;
@@ -138,8 +140,8 @@ impl<'m> Root<'m> {
         self.mutator.command(format_args!("casput {obj} {i} {old} {new}"), call).compared().map(Compared::of)
     }
 
-    /// Reads as many word cells as there is room for, at most 252, from cell `first` on. What isn't read stays. Refused as
-    /// [`Root::get`], and as `TooLarge` where there is room for more.
+    /// Reads as many word cells as `words` has room for, at most 252, from cell `first` on. Words that aren't read keep
+    /// their old value. Refused as [`Root::get`], and as `TooLarge` if there is room for more.
     pub fn get_words(&self, first: u32, words: &mut [u64]) -> Result<()> {
         if self.mutator.is_recorded() && words.len() <= MOST_WORDS {
             return (0..).zip(words).try_for_each(|(i, word)| self.get(first.saturating_add(i)).map(|told| *word = told));
@@ -150,7 +152,7 @@ impl<'m> Root<'m> {
         self.mutator.list(call).all().map(drop)
     }
 
-    /// Writes at most 252 words into as many word cells, from cell `first` on. Those before one that is refused are written.
+    /// Writes at most 252 words into as many word cells, from cell `first` on. Words before a refused one are written.
     /// Refused as [`Root::get_words`].
     pub fn put_words(&self, first: u32, words: &[u64]) -> Result<()> {
         if self.mutator.is_recorded() && words.len() <= MOST_WORDS {
@@ -162,9 +164,9 @@ impl<'m> Root<'m> {
         self.mutator.list(call).all().map(drop)
     }
 
-    /// What `count` reference cells of this root's object hold, at most 252, from cell `first` on, into as many of another
-    /// root's, from cell `to_first` on, one after the other: each by way of the root `through`, which holds the last one then.
-    /// Refused as [`Root::load`], and as `TooLarge`.
+    /// Copies `count` reference cells of this root's object, at most 252, from cell `first` on, into another root's,
+    /// from cell `to_first` on. It copies one after the other, each by way of the root `through`, which holds the last
+    /// one in the end. Refused as [`Root::load`], and as `TooLarge`.
     pub fn copy_refs(&self, first: u32, to: &Root<'_>, to_first: u32, count: u32, through: &Root<'_>) -> Result<()> {
         let (by, into) = (through.slot_of(self.mutator)?, to.slot_of(self.mutator)?);
         if self.mutator.is_recorded() && count as usize <= MOST_WORDS {
@@ -178,7 +180,7 @@ impl<'m> Root<'m> {
         self.mutator.list(call).all().map(drop)
     }
 
-    /// What another root holds, into this one, and null into that one. Refused: `OtherMutator`.
+    /// Moves the reference in another root into this one, and sets that one to null. Refused: `OtherMutator`.
     pub fn take(&self, from: &Root<'_>) -> Result<()> {
         if self.mutator.is_recorded() {
             self.assign(from)?;
@@ -192,7 +194,7 @@ impl<'m> Root<'m> {
         self.mutator.list(|heap, m| unsafe { calls::metronome_move(heap, m, dst, src) }).all().map(drop)
     }
 
-    /// What another root holds, into this one. Refused: `OtherMutator`.
+    /// Copies the reference in another root into this one. Refused: `OtherMutator`.
     pub fn assign(&self, from: &Root<'_>) -> Result<()> {
         let (dst, src) = (self.slot, from.slot_of(self.mutator)?);
         // SAFETY: the heap is open, and lives through the call.
@@ -200,14 +202,14 @@ impl<'m> Root<'m> {
         self.mutator.command(format_args!("copy {dst} {src}"), call).number().map(drop)
     }
 
-    /// A further root of the same object. Refused: `SlotsUsed`.
+    /// Makes another root of the same object. Refused: `SlotsUsed`.
     pub fn another(&self) -> Result<Root<'m>> {
         let root = self.mutator.null()?;
         root.assign(self)?;
         Ok(root)
     }
 
-    /// Null into this root.
+    /// Sets this root to null.
     pub fn clear(&self) {
         let dst = self.slot;
         // SAFETY: the heap is open, and lives through the call.
@@ -222,7 +224,7 @@ impl<'m> Root<'m> {
         self.mutator.command(format_args!("same {a} {b}"), call).number().map(|is| is != 0)
     }
 
-    /// The object that the root holds, None for null.
+    /// Returns the object that the root holds, None for null.
     pub fn describe(&self) -> Option<Description> {
         let a = self.slot;
         // SAFETY: the heap is open, and both live through the call.

@@ -6,8 +6,9 @@ use crate::calls::{self, done, SeatHandle, Settings};
 use crate::refusal::{Refusal, Result};
 use crate::turn::Turn;
 
-/// A heap that threads share. It calls for the mutators that it gave to no [`Seat`], and each thread that has a seat for those of
-/// its own. Clones are of the same heap, which gives its memory back once the last of them and of its seats is gone.
+/// A heap that threads share. It calls for the mutators that it gave to no [`Seat`]; each thread that has a seat calls
+/// for its own. Clones are of the same heap, which gives its memory back when the last clone and the last seat are
+/// gone.
 ///
 /// ```
 /// use metronome::{Refusal, Settings, Shared};
@@ -38,7 +39,7 @@ pub struct Shared {
     gate: Arc<Gate>,
 }
 
-/// What the seats of a heap have in common: the lock at which they wait for the turn, and under it the first of them.
+/// The lock that the seats of a heap share, at which they wait for the turn. The heap's first seat is under it.
 struct Gate {
     lock: Mutex<SeatHandle>,
 }
@@ -47,12 +48,12 @@ struct Gate {
 unsafe impl Send for SeatHandle {}
 
 impl Gate {
-    /// Waits for the lock. Who panicked in a turn gave it back, and the heap is whole.
+    /// Waits for the lock. A thread that panicked in its turn gave the turn back, and the heap is whole.
     fn lock(&self) -> MutexGuard<'_, SeatHandle> {
         self.lock.lock().unwrap_or_else(PoisonError::into_inner)
     }
 
-    /// The lock, unless another thread has it.
+    /// Takes the lock, unless another thread has it.
     fn try_lock(&self) -> Result<MutexGuard<'_, SeatHandle>> {
         match self.lock.try_lock() {
             Ok(held) => Ok(held),
@@ -77,21 +78,22 @@ impl Shared {
         Shared::opened(|handle| unsafe { calls::metronome_seat_create_for(handle, settings, calls::VERSION) })
     }
 
-    /// The same, of a heap that keeps the last `ring` entries of its log, for [`Turn::entry`]: 72 bytes each, all taken here.
+    /// Makes a heap that keeps the last `ring` entries of its log, for [`Turn::entry`]: 72 bytes each, all taken here.
+    /// Refused as [`Shared::new`].
     pub fn logged(settings: &Settings, ring: usize) -> Result<Shared> {
         // SAFETY: as above.
         Shared::opened(|handle| unsafe { calls::metronome_seat_create_logged_for(handle, settings, ring, calls::VERSION) })
     }
 
-    /// The heap whose first seat a call makes.
+    /// Returns the heap whose first seat a call makes.
     fn opened(create: impl FnOnce(&mut SeatHandle) -> u32) -> Result<Shared> {
         let mut handle = SeatHandle::NONE;
         done(create(&mut handle))?;
         Ok(Shared { gate: Arc::new(Gate { lock: Mutex::new(handle) }) })
     }
 
-    /// A seat that calls for the mutators from number `from` on that no seat has yet. It waits for the turn. Refused: `NotYours`
-    /// where a seat has `from`, or there is neither such a mutator nor the one before it; `NoMemory`.
+    /// Makes a seat that calls for the mutators from number `from` on that no seat has yet. It waits for the turn.
+    /// Refused: `NotYours` if a seat has `from`, or if neither that mutator nor the one before it exists; `NoMemory`.
     pub fn seat(&self, from: u32) -> Result<Seat> {
         let mut handle = SeatHandle::NONE;
         // SAFETY: both live through the call; the first is open and used under the lock, and the other holds none.
@@ -107,13 +109,14 @@ impl Shared {
         unsafe { Turn::entered(seat, held) }
     }
 
-    /// The length of the log: how many commands, beginnings and quanta were done. It waits for the turn, as [`Seat::place`] doesn't.
+    /// Returns the length of the log: how many commands, beginnings and quanta were done. It waits for the turn, which
+    /// [`Seat::place`] doesn't.
     pub fn place(&self) -> u64 {
         place_of(&mut self.gate.lock())
     }
 }
 
-/// What a seat outside of its turn is told.
+/// Returns the length of the log that a seat sees outside of its turn.
 fn place_of(handle: &mut SeatHandle) -> u64 {
     let mut place = 0;
     // SAFETY: both live through the call, and the seat is open.
@@ -129,8 +132,8 @@ pub struct Seat {
 }
 
 impl Seat {
-    /// One more seat, which calls for this one's mutators from number `from` on. Refused: `NotYours` where these aren't this
-    /// seat's; `NoMemory`.
+    /// Makes one more seat, which calls for this one's mutators from number `from` on. Refused: `NotYours` if these
+    /// aren't this seat's; `NoMemory`.
     pub fn another(&mut self, from: u32) -> Result<Seat> {
         let mut handle = SeatHandle::NONE;
         // SAFETY: both live through the call; the first is open, and the other holds none.
@@ -145,15 +148,15 @@ impl Seat {
         unsafe { Turn::entered(&mut self.handle, held) }
     }
 
-    /// Takes the turn, and never waits. Refused: `Taken` where another seat has it.
+    /// Takes the turn, and never waits. Refused: `Taken` if another seat has it.
     pub fn try_enter(&mut self) -> Result<Turn<'_>> {
         let held = self.gate.try_lock()?;
         // SAFETY: the seat is open, and is borrowed as long as the turn.
         Ok(unsafe { Turn::entered(&mut self.handle, held) })
     }
 
-    /// The length of the log: how many commands, beginnings and quanta were done, those in another seat's turn not among them. It
-    /// never waits.
+    /// Returns the length of the log: how many commands, beginnings and quanta were done, without those of another
+    /// seat's turn that hasn't ended. It never waits.
     pub fn place(&mut self) -> u64 {
         place_of(&mut self.handle)
     }

@@ -1,4 +1,4 @@
-//! Turns: from where a seat gets the heap to where it gives it back.
+//! Turns: the calls from a seat's entry until it gives the heap back.
 use std::fmt;
 use std::sync::MutexGuard;
 
@@ -8,9 +8,10 @@ use crate::log::{EntryTold, Logged};
 use crate::refusal::{Refusal, Result};
 use crate::root::{Compared, Description, Shape};
 
-/// The turn of a seat at a shared heap: until it is dropped no other seat's calls come between. It calls for the seat's mutators,
-/// by their numbers, and names objects by their slots: what a slot holds stays from turn to turn. Each command is refused as
-/// `NotYours` for another mutator, as `NotLive` for one that isn't live, and as `BadSlot` where there is no such slot.
+/// The turn of a seat at a shared heap: until it is dropped, no other seat's calls come between. It calls for the
+/// seat's mutators, by their numbers, and names objects by their slots, which stay from turn to turn. Each command is
+/// refused as `NotYours` for another mutator, as `NotLive` for one that isn't live, and as `BadSlot` if there is no
+/// such slot.
 pub struct Turn<'s> {
     seat: *mut SeatHandle,
     /// Held as long as the turn, and given back after it.
@@ -18,11 +19,12 @@ pub struct Turn<'s> {
 }
 
 impl<'s> Turn<'s> {
-    /// The turn of a seat.
+    /// Makes the turn of a seat.
     ///
     /// # Safety
     ///
-    /// The seat is open, and nothing else uses it for `'s`. What is held is its heap's lock, and no seat of the heap has the turn.
+    /// The seat must be open, and nothing else may use it for `'s`. `held` must be the lock of its heap, and no seat of
+    /// the heap may have the turn.
     pub(crate) unsafe fn entered(seat: *mut SeatHandle, held: MutexGuard<'s, SeatHandle>) -> Turn<'s> {
         // SAFETY: by the caller.
         let status = unsafe { calls::metronome_seat_enter(seat) };
@@ -30,54 +32,55 @@ impl<'s> Turn<'s> {
         Turn { seat, _held: held }
     }
 
-    /// The number of a command's answer.
+    /// Returns the number of a command's answer.
     fn number(&mut self, call: impl FnOnce(*mut SeatHandle) -> Answer) -> Result<u64> {
         call(self.seat).number()
     }
 
-    /// The same, where the number says nothing.
+    /// Returns nothing of a command's answer except a refusal.
     fn did(&mut self, call: impl FnOnce(*mut SeatHandle) -> Answer) -> Result<()> {
         self.number(call).map(drop)
     }
 
-    /// How a comparison ends.
+    /// Returns the outcome of a comparison.
     fn compared(&mut self, call: impl FnOnce(*mut SeatHandle) -> Answer) -> Result<Compared> {
         call(self.seat).compared().map(Compared::of)
     }
 
-    /// A new object of `refs` reference cells, all null, and `words` word cells, all 0, into a slot: at most 252 cells. Answers
-    /// its identity. Refused: `TooLarge`, `IdentitiesSpent`, `NoSpace`.
+    /// Makes an object of `refs` reference cells, all null, and `words` word cells, all 0, in a slot: at most 252
+    /// cells. Returns its identity. Refused: `TooLarge`, `IdentitiesSpent`, `NoSpace`.
     pub fn new_plain(&mut self, mutator: u32, dst: u32, refs: u32, words: u32) -> Result<u64> {
         // SAFETY: the seat is open, and lives through the call, here and below.
         self.number(|seat| unsafe { calls::metronome_seat_new_plain(seat, mutator, dst, refs, words) })
     }
 
-    /// A new array of this many reference cells, all null: at most 4000000. Refused as [`Turn::new_plain`].
+    /// Makes an array of this many reference cells, all null: at most 4000000. Refused as [`Turn::new_plain`].
     pub fn new_refs(&mut self, mutator: u32, dst: u32, refs: u32) -> Result<u64> {
         // SAFETY: as above.
         self.number(|seat| unsafe { calls::metronome_seat_new_refs(seat, mutator, dst, refs) })
     }
 
-    /// A new array of this many word cells, all 0: at most 4000000. Refused as [`Turn::new_plain`].
+    /// Makes an array of this many word cells, all 0: at most 4000000. Refused as [`Turn::new_plain`].
     pub fn new_words(&mut self, mutator: u32, dst: u32, words: u32) -> Result<u64> {
         // SAFETY: as above.
         self.number(|seat| unsafe { calls::metronome_seat_new_words(seat, mutator, dst, words) })
     }
 
-    /// What reference cell `i` of an object holds, into a slot. Answers its identity, 0 for null. Refused: `NullSlot`,
+    /// Loads reference cell `i` of an object into a slot. Returns its identity, 0 for null. Refused: `NullSlot`,
     /// `WrongKind`, `BadIndex`.
     pub fn load(&mut self, mutator: u32, dst: u32, obj: u32, i: u32) -> Result<u64> {
         // SAFETY: as above.
         self.number(|seat| unsafe { calls::metronome_seat_load(seat, mutator, dst, obj, i) })
     }
 
-    /// What a slot holds, into reference cell `i` of an object. Refused as [`Turn::load`].
+    /// Stores the reference in a slot into reference cell `i` of an object. Refused as [`Turn::load`].
     pub fn store(&mut self, mutator: u32, obj: u32, i: u32, src: u32) -> Result<()> {
         // SAFETY: as above.
         self.did(|seat| unsafe { calls::metronome_seat_store(seat, mutator, obj, i, src) })
     }
 
-    /// What slot `replacement` holds, into reference cell `i`, if that holds what slot `expect` does. Refused as [`Turn::load`].
+    /// Stores the reference in slot `replacement` into reference cell `i`, if that holds the same as slot `expect`.
+    /// Refused as [`Turn::load`].
     pub fn compare_store(&mut self, mutator: u32, obj: u32, i: u32, expect: u32, replacement: u32) -> Result<Compared> {
         // SAFETY: as above.
         self.compared(|seat| unsafe { calls::metronome_seat_compare_store(seat, mutator, obj, i, expect, replacement) })
@@ -101,31 +104,32 @@ impl<'s> Turn<'s> {
         self.compared(|seat| unsafe { calls::metronome_seat_compare_put(seat, mutator, obj, i, old, replacement) })
     }
 
-    /// What slot `src` holds, into slot `dst`.
+    /// Copies slot `src` into slot `dst`.
     pub fn copy(&mut self, mutator: u32, dst: u32, src: u32) -> Result<()> {
         // SAFETY: as above.
         self.did(|seat| unsafe { calls::metronome_seat_copy(seat, mutator, dst, src) })
     }
 
-    /// Null into a slot.
+    /// Sets a slot to null.
     pub fn clear(&mut self, mutator: u32, dst: u32) -> Result<()> {
         // SAFETY: as above.
         self.did(|seat| unsafe { calls::metronome_seat_clear(seat, mutator, dst) })
     }
 
-    /// What static `k` holds, into a slot. Answers its identity, 0 for null. Refused: `BadStatic`.
+    /// Loads static `k` into a slot. Returns its identity, 0 for null. Refused: `BadStatic`.
     pub fn load_static(&mut self, mutator: u32, dst: u32, k: u32) -> Result<u64> {
         // SAFETY: as above.
         self.number(|seat| unsafe { calls::metronome_seat_load_static(seat, mutator, dst, k) })
     }
 
-    /// What a slot holds, into static `k`. Refused: `BadStatic`.
+    /// Stores the reference in a slot into static `k`. Refused: `BadStatic`.
     pub fn store_static(&mut self, mutator: u32, k: u32, src: u32) -> Result<()> {
         // SAFETY: as above.
         self.did(|seat| unsafe { calls::metronome_seat_store_static(seat, mutator, k, src) })
     }
 
-    /// What slot `replacement` holds, into static `k`, if that holds what slot `expect` does. Refused: `BadStatic`.
+    /// Stores the reference in slot `replacement` into static `k`, if that holds the same as slot `expect`. Refused:
+    /// `BadStatic`.
     pub fn compare_static(&mut self, mutator: u32, k: u32, expect: u32, replacement: u32) -> Result<Compared> {
         // SAFETY: as above.
         self.compared(|seat| unsafe { calls::metronome_seat_compare_static(seat, mutator, k, expect, replacement) })
@@ -137,7 +141,7 @@ impl<'s> Turn<'s> {
         self.number(|seat| unsafe { calls::metronome_seat_same(seat, mutator, a, b) }).map(|is| is != 0)
     }
 
-    /// The object that a slot holds. Refused: `NullSlot`.
+    /// Returns the object that a slot holds. Refused: `NullSlot`.
     pub fn describe(&mut self, mutator: u32, a: u32) -> Result<Description> {
         let mut told = ShapeTold::default();
         // SAFETY: as above, and `told` lives through the call.
@@ -145,19 +149,19 @@ impl<'s> Turn<'s> {
         Ok(Description { identity, shape: Shape::of(&told) })
     }
 
-    /// A mutator becomes live, with null in each slot. Refused: `AlreadyLive`.
+    /// Makes a mutator live, with null in each slot. Refused: `AlreadyLive`.
     pub fn join(&mut self, mutator: u32) -> Result<()> {
         // SAFETY: as above.
         self.did(|seat| unsafe { calls::metronome_seat_join(seat, mutator) })
     }
 
-    /// Null into each slot of a mutator, which is live no more.
+    /// Sets each slot of a mutator to null; the mutator is then no longer live.
     pub fn retire(&mut self, mutator: u32) -> Result<()> {
         // SAFETY: as above.
         self.did(|seat| unsafe { calls::metronome_seat_retire(seat, mutator) })
     }
 
-    /// Begins a cycle. Answers whether one began: none was running.
+    /// Begins a cycle. Returns whether one began: none was running.
     pub fn begin(&mut self) -> bool {
         // SAFETY: as above.
         unsafe { calls::metronome_seat_begin(self.seat) == calls::OK }
@@ -181,8 +185,9 @@ impl<'s> Turn<'s> {
         Ok(())
     }
 
-    /// Tells the pace that `words` words are about to be made, as [`crate::Heap::pace`]. Threads at one heap have one pace, behind a
-    /// lock of their own, which is taken in a turn alone, or each has one for what it makes itself. Refused: `BadBudget`.
+    /// Lets the collector work before `words` words are made, as [`crate::Heap::pace`]. Threads at one heap share one
+    /// pace, behind a lock of their own that is taken only in a turn; or each has a pace for the words that it makes
+    /// itself. Refused: `BadBudget`.
     pub fn pace(&mut self, pacing: &mut Pacing, words: u64) -> Result<()> {
         if pacing.words == 0 {
             return Err(Refusal::BadBudget);
@@ -202,7 +207,7 @@ impl<'s> Turn<'s> {
         Ok(())
     }
 
-    /// What there is at a place of the log, from 0, as [`crate::Seat::place`] counts them: of a heap made by
+    /// Returns the entry at a place of the log, from 0, as [`crate::Seat::place`] counts them. The heap must be made by
     /// [`crate::Shared::logged`].
     pub fn entry(&mut self, place: u64) -> Logged {
         let mut told = EntryTold::default();
@@ -211,7 +216,7 @@ impl<'s> Turn<'s> {
         Logged::of(&told)
     }
 
-    /// The phase of the collector.
+    /// Returns the phase of the collector.
     pub fn phase(&mut self) -> Phase {
         let mut phase = 0;
         // SAFETY: as above, and `phase` lives through the call.
@@ -219,7 +224,7 @@ impl<'s> Turn<'s> {
         Phase::of(phase)
     }
 
-    /// The units that were spent since the last cycle began.
+    /// Returns the units that were spent since the last cycle began.
     pub fn units(&mut self) -> u64 {
         let mut units = 0;
         // SAFETY: as above, and `units` lives through the call.
@@ -227,7 +232,7 @@ impl<'s> Turn<'s> {
         units
     }
 
-    /// How many pages are free.
+    /// Returns how many pages are free.
     pub fn free_pages(&mut self) -> u64 {
         let mut pages = 0;
         // SAFETY: as above, and `pages` lives through the call.
@@ -235,7 +240,7 @@ impl<'s> Turn<'s> {
         pages
     }
 
-    /// All counts. It looks at each block of the heap, and so takes time by its size.
+    /// Counts the pages, roots, objects and parts. It looks at each block, so its time grows with the heap's size.
     pub fn count(&mut self) -> Counts {
         let mut counts = Counts::default();
         // SAFETY: as above, and `counts` lives through the call.
@@ -243,7 +248,7 @@ impl<'s> Turn<'s> {
         counts
     }
 
-    /// A page, by its number from 0; one that there isn't is given as a free one.
+    /// Returns a page, by its number from 0. A page that doesn't exist is reported as free.
     pub fn page(&mut self, number: usize) -> Page {
         let mut page = Page::default();
         // SAFETY: as above, and `page` lives through the call.

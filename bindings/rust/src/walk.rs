@@ -15,8 +15,8 @@ pub struct Objects<'h> {
 }
 
 impl Heap {
-    /// A walk over the objects that lie in the heap. It looks at each block, and so takes time by the heap's size. What is done
-    /// on the heap during the walk may hide an object from it, or show one twice.
+    /// Returns a walk over the objects that lie in the heap. It looks at each block, so its time grows with the heap's
+    /// size. If calls change the heap during the walk, it may miss an object, or show one twice.
     pub fn objects(&self) -> Objects<'_> {
         Objects { heap: self, pages: self.count().pages as usize, page: 0, number: 0 }
     }

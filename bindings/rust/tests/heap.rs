@@ -1,4 +1,4 @@
-//! What the crate does with its slots, and what each call finds.
+//! The crate's use of slots, and the outcome of each call.
 use std::thread;
 
 use metronome::{
@@ -187,7 +187,8 @@ fn a_plan_is_kept() -> Result<()> {
         mutator.new_words(1000)?;
     }
     assert_eq!(mutator.new_words(4_000_000).err(), Some(Refusal::AbovePlan));
-    assert!(heap.kept()?.cycles > 0 && heap.kept()?.quanta >= heap.kept()?.most_quanta && heap.last_cycle().is_none());
+    let (kept, last) = (heap.kept()?, heap.last_cycle().expect("a cycle has ended"));
+    assert!(kept.cycles > 1 && kept.quanta >= kept.most_quanta && last.number + 1 >= kept.cycles && last.quanta > 0);
     assert_eq!(heap.keep(&flow).err(), Some(Refusal::NoPlan));
     Ok(())
 }

@@ -1,4 +1,4 @@
-//! What is written down of a recorded heap.
+//! The recording of a heap.
 use std::io::{self, Write};
 use std::sync::{Arc, Mutex};
 
@@ -24,7 +24,7 @@ impl Write for Page {
     }
 }
 
-/// What takes no more than a number of lines.
+/// A sink that takes no more than a number of lines.
 struct Full(usize);
 
 impl Write for Full {

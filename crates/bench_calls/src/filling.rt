@@ -3,7 +3,7 @@ use graph_heap::{Command, Reply, Shape};
 use machine::Heap;
 use size_classes::{Config, Settings};
 
-/// A heap of so many mutators with 256 slots each.
+/// Makes a heap of this many mutators with 256 slots each.
 pub(crate) fn new_heap(rt: &HostRuntime, pages: u32, mutators: i64) -> Option<Heap> {
     let settings = Settings {
         pages: i64::from(pages),

@@ -5,7 +5,7 @@ use graph_heap::{Command, Reply, Shape};
 use machine::Heap;
 use std::time::Instant;
 
-/// How many calls answered other than they should, and the sum of what the others told.
+/// How many calls gave a wrong answer, and the sum of the other answers.
 #[derive(Clone, Copy, Default)]
 struct Told {
     wrong: u64,
@@ -24,7 +24,7 @@ impl Told {
         }
     }
 
-    /// All of so many calls that took so long.
+    /// Returns the figures of this many calls, which took this long.
     fn measured(self, count: u32, nanos: u128) -> Measured {
         Measured {
             count: u64::from(count),
@@ -57,7 +57,7 @@ fn repeat<C: Call>(job: &Job, heap: &mut Heap) -> Option<Measured> {
     Some(told.measured(job.count, nanos))
 }
 
-/// The same by `step`.
+/// Repeats the calls of a kind by `step`.
 #[inline(never)]
 fn repeat_steps<C: Step>(job: &Job, heap: &mut Heap) -> Option<Measured> {
     let start = Instant::now(job.rt).ok()?;
@@ -75,7 +75,7 @@ pub(crate) fn calls<C: Call>(job: &Job, heap: Option<Heap>) -> Option<Measured> 
     repeat::<C>(job, &mut heap?)
 }
 
-/// The same, or its steps where the job says so.
+/// Repeats calls of a kind, or its steps if the job says so.
 pub(crate) fn either<C: Call + Step>(job: &Job, heap: Option<Heap>) -> Option<Measured> {
     if job.by_step {
         repeat_steps::<C>(job, &mut heap?)
@@ -234,7 +234,7 @@ impl Step for Same {
     }
 }
 
-/// A cell of an array of so many, by the turn: cells far from one another.
+/// Returns a cell of an array of this many, by the turn: cells far from one another.
 fn cell(turn: u32, cells: u32) -> u32 {
     turn.wrapping_mul(7919) % cells.max(1)
 }

@@ -1,8 +1,8 @@
-//! Measures a heap by calls; no history is kept. `bench_calls KIND PAGES COUNT MOST` prepares a heap of so many pages, and
-//! does COUNT calls. Each call is the command's method, and with a word more `Heap::step`. It writes the kind and five
-//! numbers: how many calls were measured, how many of them answered other than they should, the sum of what they told,
-//! nanoseconds, and 0. What is prepared depends on MOST, at least COUNT, and not on COUNT: so two runs differ by what is
-//! counted alone. `bench_calls threads SCRIPTS COMMANDS QUANTA` measures a heap that threads share.
+//! Measures a heap by calls; no history is kept. `bench_calls KIND PAGES COUNT MOST` prepares a heap of PAGES pages,
+//! and does COUNT calls. Each call is the command's method; with one more word it is `Heap::step`. It writes the kind
+//! and five numbers: how many calls were measured, how many of them gave a wrong answer, the sum of their answers,
+//! nanoseconds, and 0. The heap is prepared by MOST, which is at least COUNT, and not by COUNT: so two runs differ only
+//! by their calls. `bench_calls threads SCRIPTS COMMANDS QUANTA` measures a heap that threads share.
 #![tactic(auto)]
 
 mod filling;
@@ -24,7 +24,7 @@ use std::rt::Clock;
 use std::sync::Wait;
 use std::thread::Threads;
 
-/// What is measured, on what.
+/// A measurement: its runtime, heap and number of calls.
 #[derive(Clone, Copy)]
 struct Job<'a> {
     rt: &'a HostRuntime,
@@ -35,7 +35,7 @@ struct Job<'a> {
 }
 
 impl Job<'_> {
-    /// A heap of so many mutators, half full.
+    /// Makes a heap of this many mutators, half full.
     fn half_full(&self, mutators: i64) -> Option<Heap> {
         let mut heap = new_heap(self.rt, self.pages, mutators)?;
         fill_half(&mut heap, self.pages)?;
@@ -73,7 +73,7 @@ impl Job<'_> {
         Some(heap)
     }
 
-    /// What is measured of a kind.
+    /// Measures a kind.
     fn run(&self, kind: &str) -> Option<Measured> {
         match kind {
             "new" => either::<New>(self, self.half_full(1)),
@@ -95,7 +95,7 @@ impl Job<'_> {
     }
 }
 
-/// What the words ask for: a kind, and a job.
+/// Reads the words: a kind, and a job.
 fn asked(rt: &HostRuntime) -> Option<(String, Job)> {
     let words: Vec<String> = env::args(rt).ok()?.collect(rt.alloc()).ok()?;
     let number = |place: usize| words.get(place)?.as_str().parse::<u32>().ok();

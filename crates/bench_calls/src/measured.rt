@@ -1,7 +1,7 @@
-//! What was measured.
+//! The measurements.
 
-/// How many calls were measured, how many of them answered other than they should, the sum of what the others told, and
-/// the nanoseconds of all.
+/// How many calls were measured, how many of them gave a wrong answer, the sum of the other answers, and the
+/// nanoseconds of all.
 #[derive(Clone, Copy, Debug)]
 pub struct Measured {
     pub count: u64,

@@ -11,7 +11,7 @@ use std::time::Instant;
 
 const SLOTS: u32 = 64;
 
-/// The next number of a multiplicative congruential generator.
+/// Returns the next number of a multiplicative congruential generator.
 fn next(seed: u32) -> u32 {
     (u64::from(seed) * 16807 % 2147483647) as u32
 }
@@ -35,7 +35,7 @@ fn command(seed: u32) -> Command {
     }
 }
 
-/// So many scripts of so many commands.
+/// Makes `count` scripts of `commands` commands.
 fn scripts(alloc: Global, count: u32, commands: u32) -> Option<Vec<Vec<Command>>> {
     let mut scripts = Vec::new(alloc);
     let mut seed = 1;
@@ -50,8 +50,8 @@ fn scripts(alloc: Global, count: u32, commands: u32) -> Option<Vec<Vec<Command>>
     Some(scripts)
 }
 
-/// The commands of scripts of so many each, beside so many quanta: how many were done, and the nanoseconds from before the heap is
-/// made until all threads have ended. One is wrong where not all was done.
+/// Plays `count` scripts of `commands` commands each, beside `quanta` quanta. Measures how many commands were done, and
+/// the nanoseconds from before the heap is made until all threads have ended. One is wrong if not all was done.
 pub(crate) fn play<R: AllocGlobal + Clock + Threads + Wait + Sync>(
     rt: &R,
     count: u32,

@@ -1,4 +1,4 @@
-//! What the tests share: settings, and commands.
+//! The settings and commands that the tests share.
 use graph_heap::{Command, Shape};
 use machine::Event;
 use size_classes::{Config, Settings};
@@ -64,7 +64,7 @@ fn config_of(rt: &impl Abort, settings: &Settings) -> Config {
     config
 }
 
-/// A request for a plain object.
+/// Returns a request for a plain object.
 fn plain(dst: u32, refs: u32, words: u32) -> Command {
     let shape = Shape::Plain { refs, words };
     Command::New { dst, shape }
@@ -78,7 +78,7 @@ fn words(dst: u32, cells: u32) -> Command {
     }
 }
 
-/// A command of mutator 0.
+/// Returns a command of mutator 0.
 fn called(command: Command) -> Event {
     Event::Command {
         mutator: 0,

@@ -21,9 +21,11 @@ use Rattle.machine.specs.Recorded.{begin_done, quantum_done}
 use Rattle.machine.proofs.Events.{command_event, begin_event, quantum_event}
 use Rattle.machine.proofs.Headline.{course_holds, always_holds}
 use Rattle.machine.proofs.Space.{finds_space}
+use Rattle.paced.specs.declared.cycles.Cycles.{Cycles}
+use Rattle.paced.specs.Cycles.{DoesOn, cycles_after, CountsCycles}
+use Rattle.paced.proofs.Paths.{begin_on, quantum_on}
 use Rattle.metronome_c.specs.declared.answer.Answer.{Answer}
 use Rattle.metronome_c.specs.declared.collector.QuantumSpent.{QuantumSpent}
-use Rattle.metronome_c.specs.declared.cycles.Cycles.{Cycles}
 use Rattle.metronome_c.specs.declared.held.Held.{Held}
 use Rattle.metronome_c.specs.declared.status.Status.{Status}
 use Rattle.metronome_c.specs.declared.status.Status.TheVariants.{Closed}
@@ -31,7 +33,6 @@ use Rattle.metronome_c.specs.Answer.{answer_of, answered}
 use Rattle.metronome_c.specs.Asking.{AsksPaying}
 use Rattle.metronome_c.specs.Calls.{Call, Command_called, Begin_called, Quantum_called, DoesCall, Calls, TellsEvent, AllTellEvents, AreEvents, IsPromised}
 use Rattle.metronome_c.specs.Collecting.{BeginsOpen, SpendsOpen}
-use Rattle.metronome_c.specs.Cycles.{cycles_after, CountsCycles}
 use Rattle.metronome_c.specs.Lifetime.{IsMadeOf, MakesUnless, Creates}
 use Rattle.metronome_c.specs.Steps.{Steps, DoesCommand}
 use Rattle.metronome_c.proofs.Outcomes.{begin_told, quantum_told}
@@ -46,6 +47,7 @@ module _ (config : Config) where
     pub event : Event
     pub after : Course
     pub does : Does r event after
+    pub on : DoesOn r.heap event after.heap
     pub told : TellsEvent event call
     pub left : next ≡ Ok (bare (cycles_after event r.heap after.heap cs) after.heap)
 
@@ -57,6 +59,7 @@ module _ (config : Config) where
         event = Command_done m c reply;
         after = e.0;
         does = e.2;
+        on = subst (λ (x : HeapState). calls.Steps r.heap m c reply x) (sym e.1) s;
         told = ap (Command_called m c) told;
         left = left ∙ ap (λ (x : HeapState). Ok (bare cs x)) (sym e.1);
       }
@@ -86,6 +89,7 @@ module _ (config : Config) where
         event = begin_done d.1;
         after = e.0;
         does = e.2;
+        on = subst (λ (x : HeapState). DoesOn r.heap (begin_done d.1) x) (sym e.1) (begin_on r.heap d.0.heap d.1 d.3.2);
         told = begin_told d.1 status d.4;
         left = d.2 ∙ ap Ok d.3.0 ∙ ap (λ (x : HeapState). Ok (bare (cycles_after (begin_done d.1) r.heap x cs) x)) (sym e.1);
       }
@@ -97,6 +101,7 @@ module _ (config : Config) where
         event = quantum_done budget d.1;
         after = e.0;
         does = e.2;
+        on = subst (λ (x : HeapState). DoesOn r.heap (quantum_done budget d.1) x) (sym e.1) (quantum_on r.heap d.0.heap budget d.1 d.3.2);
         told = quantum_told budget d.1 before after status d.4 d.5;
         left = d.2 ∙ ap Ok d.3.0 ∙ ap (λ (x : HeapState). Ok (bare (cycles_after (quantum_done budget d.1) r.heap x cs) x)) (sym e.1);
       }
@@ -112,7 +117,7 @@ module _ (config : Config) where
     pub course : Course
     pub cycles : Cycles
     pub runs : Runs r events course
-    pub counts : CountsCycles r cs events course cycles
+    pub counts : CountsCycles r.heap cs events course.heap cycles
     pub told : AllTellEvents events calls
     pub left : new ≡ Ok (bare cycles course.heap)
     pub is : IsCourse course
@@ -128,7 +133,7 @@ module _ (config : Config) where
         course = rest.course;
         cycles = rest.cycles;
         runs = (one.after, one.does, rest.runs);
-        counts = (one.after, one.does, rest.counts);
+        counts = (one.after.heap, one.on, rest.counts);
         told = (one.told, rest.told);
         left = rest.left;
         is = rest.is;

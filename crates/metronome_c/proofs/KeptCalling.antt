@@ -18,16 +18,17 @@ use Rattle.fragmentation.specs.Flow.{words_of}
 use Rattle.machine.specs.Plan as calls
 use Rattle.machine.specs.Recorded.{begin_done, quantum_done}
 use Rattle.machine.proofs.Headline.{course_holds}
+use Rattle.paced.specs.declared.cycles.Cycles.{Cycles}
+use Rattle.paced.specs.Cycles.{DoesOn, cycles_after, CountsCycles}
 use Rattle.paced.specs.Pacing.{PacerView, PacedState, PacedView, paced_by, state_of, shape_words, counted, Path, KeepsPlan, MakesNothing, WorksFor, Pays}
 use Rattle.paced.specs.Rooms.{IsJustPaced, first_counts, first_pacer}
 use Rattle.paced.proofs.Opened.{finds_room}
-use Rattle.paced.proofs.Paths.{path_then, call_path, paid_path, begin_path, quantum_path, other_path}
+use Rattle.paced.proofs.Paths.{path_then, cycles_then, begin_on, quantum_on, call_path, paid_path, begin_path, quantum_path, other_path}
 use Rattle.bulk.specs.declared.progress.Progress.{Progress}
 use Rattle.bulk.specs.InOrder.{InOrder, DoesFront, events_of, with_refusal}
 use Rattle.metronome_c.specs.declared.answer.Answer.{Answer}
 use Rattle.metronome_c.specs.declared.bulk_calls.MetronomeProgress.{MetronomeProgress}
 use Rattle.metronome_c.specs.declared.collector.QuantumSpent.{QuantumSpent}
-use Rattle.metronome_c.specs.declared.cycles.Cycles.{Cycles}
 use Rattle.metronome_c.specs.declared.held.Held.{Held}
 use Rattle.metronome_c.specs.declared.planning.MetronomeFlow.{MetronomeFlow}
 use Rattle.metronome_c.specs.declared.status.Status.{Status}
@@ -37,7 +38,6 @@ use Rattle.metronome_c.specs.Asking.{AsksPaying}
 use Rattle.metronome_c.specs.BulkCalls.{progress_told, DoesList}
 use Rattle.metronome_c.specs.Calls.{Call, Command_called, Begin_called, Quantum_called, TellsEvent}
 use Rattle.metronome_c.specs.Collecting.{BeginsOpen, SpendsOpen}
-use Rattle.metronome_c.specs.Cycles.{no_cycles}
 use Rattle.metronome_c.specs.Keeping.{kept, CanKeep, KeepsHeld, keep_status, Keeps}
 use Rattle.metronome_c.specs.KeptCalls.{KeptCall, Called, List_called, MakeNothing, DoesCommands, DoesKept, KeptCalls, AreWork, WasEvents, WereEvents, KeepsRoom}
 use Rattle.metronome_c.specs.Lifetime.{IsMadeOf}
@@ -66,6 +66,18 @@ list_path m (c ∷ cs) (q ∷ qs) None v after n i =
 list_path m (c ∷ cs) (q ∷ qs) (Some why) v after n i =
     path_then KeepsPlan (Command_done m c q ∷ []) (events_of m cs (with_refusal qs (Some why))) v (record v { heap = i.0 }) (record v { heap = after }) (other_path v m c q i.0 n.0 i.1) (list_path m cs qs (Some why) (record v { heap = i.0 }) after n.1 i.3)
 
+-- and it counts for no cycle
+list_counts : (m : ℕ) (cs : List Command) (rs : List Reply) (why : Option Refusal) (h : HeapState) (c : Cycles) (after : HeapState) → InOrder m h cs rs why after
+    → CountsCycles h c (events_of m cs (with_refusal rs why)) after c
+list_counts m [] [] None h c after i = (i, refl)
+list_counts m [] [] (Some why) h c after i = absurd i
+list_counts m [] (q ∷ qs) why h c after i = absurd i
+list_counts m (x ∷ cs) [] None h c after i = absurd i
+list_counts m (x ∷ cs) [] (Some why) h c after i =
+    subst (λ (es : List Event). CountsCycles h c (Command_done m x (replies.Refused why) ∷ es) after c) (sym (none_left m cs)) (after, i, (refl, refl))
+list_counts m (x ∷ cs) (q ∷ qs) None h c after i = (i.0, i.1, list_counts m cs qs None i.0 c after i.3)
+list_counts m (x ∷ cs) (q ∷ qs) (Some why) h c after i = (i.0, i.1, list_counts m cs qs (Some why) i.0 c after i.3)
+
 -- a list that makes an object first, once that was paid for
 first_path : (old mid : PacedView) (m : ℕ) (c : Command) (cs : List Command) (rs : List Reply) (why : Option Refusal) (after : HeapState) (w : Pays old (words_of (asks c)) mid) → MakeNothing cs → InOrder m mid.heap (c ∷ cs) rs why after
     → Path KeepsPlan (state_of old) (w.work ++ events_of m (c ∷ cs) (with_refusal rs why)) (record { heap = after; counts = mid.pacer.counts })
@@ -87,132 +99,130 @@ works words (Begin_refused ∷ es) old new p = absurd p.1
 works words (Quantum_done budget units phase ∷ es) old new p = (tt, works words es p.0 new p.4)
 works words (Quantum_refused budget ∷ es) old new p = absurd p.1
 
-module _ (config : Config) (cycles : Cycles) where
-  -- a heap that keeps a plan, and so counts no cycle
-  abbrev held : PacerView → HeapState → Held
-  held p x = record { heap = x; config = config; pacer = Some p; cycles = cycles }
+module _ (config : Config) where
+  -- a heap that keeps a plan
+  abbrev held : PacedView → Held
+  held v = record { heap = v.heap; config = config; pacer = Some v.pacer; cycles = v.cycles }
 
-  -- what was done is events that keep the plan, of which something holds
-  pub record KeptBy (p : PacerView) (h : HeapState) (Tells : List Event → Type 0) (next : Result Held Status) : Type 0 where
+  -- what was done is events that keep the plan and count for the cycles, of which something holds
+  pub record KeptBy (v : PacedView) (Tells : List Event → Type 0) (next : Result Held Status) : Type 0 where
     pub events : List Event
-    pub pacer : PacerView
-    pub heap : HeapState
-    pub left : next ≡ Ok (held pacer heap)
-    pub path : Path KeepsPlan (state_of (paced_by p h)) events (state_of (paced_by pacer heap))
+    pub view : PacedView
+    pub left : next ≡ Ok (held view)
+    pub path : Path KeepsPlan (state_of v) events (state_of view)
+    pub counts : CountsCycles v.heap v.cycles events view.heap view.cycles
     pub tells : Tells events
 
   -- nothing was done
-  none_kept : (p : PacerView) (h : HeapState) (Tells : List Event → Type 0) (next : Result Held Status) → next ≡ Ok (held p h) → Tells [] → KeptBy p h Tells next
-  none_kept p h Tells next left tells = record { events = []; pacer = p; heap = h; left = left; path = refl; tells = tells }
+  none_kept : (v : PacedView) (Tells : List Event → Type 0) (next : Result Held Status) → next ≡ Ok (held v) → Tells [] → KeptBy v Tells next
+  none_kept v Tells next left tells = record { events = []; view = v; left = left; path = refl; counts = (refl, refl); tells = tells }
 
   -- a call is events that keep the plan
-  abbrev WasKept : PacerView → HeapState → KeptCall → Result Held Status → Type 0
-  WasKept p h call next = KeptBy p h (λ events. WasEvents events call) next
+  abbrev WasKept : PacedView → KeptCall → Result Held Status → Type 0
+  WasKept v call next = KeptBy v (λ events. WasEvents events call) next
 
   -- one event alone
-  one_kept : (p q : PacerView) (h after : HeapState) (e : Event) (call : Call) (next : Result Held Status) → next ≡ Ok (held q after) → Path KeepsPlan (state_of (paced_by p h)) (e ∷ []) (state_of (paced_by q after)) → TellsEvent e call
-      → WasKept p h (Called call) next
-  one_kept p q h after e call next left path told = record { events = e ∷ []; pacer = q; heap = after; left = left; path = path; tells = inr ([], e, refl, tt, told) }
+  one_kept : (v w : PacedView) (e : Event) (call : Call) (next : Result Held Status) → next ≡ Ok (held w) → Path KeepsPlan (state_of v) (e ∷ []) (state_of w) → DoesOn v.heap e w.heap → w.cycles ≡ cycles_after e v.heap w.heap v.cycles → TellsEvent e call
+      → WasKept v (Called call) next
+  one_kept v w e call next left path does cycles told = record { events = e ∷ []; view = w; left = left; path = path; counts = (w.heap, does, (refl, cycles)); tells = inr ([], e, refl, tt, told) }
 
-  step_kept : (p : PacerView) (h : HeapState) (m : ℕ) (c : Command) (answer : Answer) (next : Result Held Status) → MakesNothing c → Steps (Ok (held p h)) m c next answer → WasKept p h (Called (Command_called m c answer)) next
-  step_kept p h m c answer next none s =
+  step_kept : (v : PacedView) (m : ℕ) (c : Command) (answer : Answer) (next : Result Held Status) → MakesNothing c → Steps (Ok (held v)) m c next answer → WasKept v (Called (Command_called m c answer)) next
+  step_kept v m c answer next none s =
       let asked = s.1 in
-      one_kept p p h asked.1.heap (Command_done m c asked.0) (Command_called m c answer) next (asked.3 ∙ ap Ok asked.4.0) (other_path (state_of (paced_by p h)) m c asked.0 asked.1.heap none asked.4.1) (ap (Command_called m c) (s.2 ∙ ap answered asked.2))
+      one_kept v (record v { heap = asked.1.heap }) (Command_done m c asked.0) (Command_called m c answer) next (asked.3 ∙ ap Ok asked.4.0) (other_path (state_of v) m c asked.0 asked.1.heap none asked.4.1) asked.4.1 refl (ap (Command_called m c) (s.2 ∙ ap answered asked.2))
 
-  make_kept : (p : PacerView) (h : HeapState) (m dst : ℕ) (shape : Shape) (answer : Answer) (next : Result Held Status) (reply : Result Reply Status)
-      → AsksPaying (words_of (asks (commands.New dst shape))) (λ x a k. calls.Steps x m (commands.New dst shape) a k) (Ok (held p h)) reply next → answer ≡ answered reply → WasKept p h (Called (Command_called m (commands.New dst shape) answer)) next
-  make_kept p h m dst shape answer next (Err why) a told =
+  make_kept : (v : PacedView) (m dst : ℕ) (shape : Shape) (answer : Answer) (next : Result Held Status) (reply : Result Reply Status)
+      → AsksPaying (words_of (asks (commands.New dst shape))) (λ x a k. calls.Steps x m (commands.New dst shape) a k) (Ok (held v)) reply next → answer ≡ answered reply → WasKept v (Called (Command_called m (commands.New dst shape) answer)) next
+  make_kept v m dst shape answer next (Err why) a told =
       let call = Command_called m (commands.New dst shape) in
-      none_kept p h (λ events. WasEvents events (Called (call answer))) next (a.1 ∙ ap Ok a.2.1.1) (inl (refl, (m, dst, shape, ap call (told ∙ ap refused a.2.0))))
-  make_kept p h m dst shape answer next (Ok reply) a told =
+      none_kept v (λ events. WasEvents events (Called (call answer))) next (a.1 ∙ ap Ok a.2.1.1) (inl (refl, (m, dst, shape, ap call (told ∙ ap refused a.2.0))))
+  make_kept v m dst shape answer next (Ok reply) a told =
       let c = commands.New dst shape in
       let paid = a.2.1 in
-      let q = paid.0 in
-      let same : a.2.0 ≡ held q a.2.0.heap = paid.1 in
+      let mid : PacedView = paced_by paid.0 a.2.0.heap a.2.0.cycles in
+      let same : a.2.0 ≡ held mid = paid.1 in
       let e = Command_done m c reply in
       let steps : calls.Steps a.2.0.heap m c reply a.0.heap = a.2.2.1 in
       record {
         events = paid.3.work ++ e ∷ [];
-        pacer = q;
-        heap = a.0.heap;
+        view = record mid { heap = a.0.heap };
         left = a.1 ∙ ap Ok (a.2.2.0 ∙ ap (λ (x : Held). record x { heap = a.0.heap }) same);
-        path = call_path (paced_by p h) (paced_by q a.0.heap) m c reply (paid.2, paced_by q a.2.0.heap, paid.3, steps, refl);
-        tells = inr (paid.3.work, e, refl, works (words_of (asks c)) paid.3.work (state_of (paced_by p h)) (record { heap = a.2.0.heap; counts = paid.3.before }) paid.3.works, ap (Command_called m c) told);
+        path = call_path v (record mid { heap = a.0.heap }) m c reply (paid.2, mid, paid.3, steps, refl, refl);
+        counts = cycles_then paid.3.work (e ∷ []) v.heap mid.heap a.0.heap v.cycles mid.cycles mid.cycles paid.3.cycles (a.0.heap, steps, (refl, refl));
+        tells = inr (paid.3.work, e, refl, works (words_of (asks c)) paid.3.work (state_of v) (record { heap = mid.heap; counts = paid.3.before }) paid.3.works, ap (Command_called m c) told);
       }
 
-  command_kept : (p : PacerView) (h : HeapState) (m : ℕ) (c : Command) (answer : Answer) (next : Result Held Status) → DoesCommand (Ok (held p h)) m c next answer → WasKept p h (Called (Command_called m c answer)) next
-  command_kept p h m (commands.New dst shape) answer next d = make_kept p h m dst shape answer next d.0 d.1 d.2
-  command_kept p h m c answer next d = step_kept p h m c answer next tt d
+  command_kept : (v : PacedView) (m : ℕ) (c : Command) (answer : Answer) (next : Result Held Status) → DoesCommand (Ok (held v)) m c next answer → WasKept v (Called (Command_called m c answer)) next
+  command_kept v m (commands.New dst shape) answer next d = make_kept v m dst shape answer next d.0 d.1 d.2
+  command_kept v m c answer next d = step_kept v m c answer next tt d
 
-  begin_kept : (p : PacerView) (h : HeapState) (status : ℕ) (next : Result Held Status) → BeginsOpen (Ok (held p h)) next status → WasKept p h (Called (Begin_called status)) next
-  begin_kept p h status next d =
+  begin_kept : (v : PacedView) (status : ℕ) (next : Result Held Status) → BeginsOpen (Ok (held v)) next status → WasKept v (Called (Begin_called status)) next
+  begin_kept v status next d =
       let e = begin_done d.1 in
-      let q : PacerView = record p { counts = counted p.counts e } in
-      one_kept p q h d.0.heap e (Begin_called status) next (d.2 ∙ ap Ok d.3.0) (begin_path p q h d.0.heap d.1 d.3.2 refl) (begin_told d.1 status d.4)
+      let q : PacerView = record v.pacer { counts = counted v.pacer.counts e } in
+      one_kept v (paced_by q d.0.heap (cycles_after e v.heap d.0.heap v.cycles)) e (Begin_called status) next (d.2 ∙ ap Ok d.3.0) (begin_path v.pacer q v.heap d.0.heap d.1 d.3.2 refl) (begin_on v.heap d.0.heap d.1 d.3.2) refl (begin_told d.1 status d.4)
 
-  quantum_kept : (p : PacerView) (h : HeapState) (budget : ℕ) (before after : QuantumSpent) (status : ℕ) (next : Result Held Status) → SpendsOpen (Ok (held p h)) budget next before after status → WasKept p h (Called (Quantum_called budget before after status)) next
-  quantum_kept p h budget before after status next d =
+  quantum_kept : (v : PacedView) (budget : ℕ) (before after : QuantumSpent) (status : ℕ) (next : Result Held Status) → SpendsOpen (Ok (held v)) budget next before after status → WasKept v (Called (Quantum_called budget before after status)) next
+  quantum_kept v budget before after status next d =
       let e = quantum_done budget d.1 in
-      let q : PacerView = record p { counts = counted p.counts e } in
-      one_kept p q h d.0.heap e (Quantum_called budget before after status) next (d.2 ∙ ap Ok d.3.0) (quantum_path p q h d.0.heap budget d.1 d.3.2 refl) (quantum_told budget d.1 before after status d.4 d.5)
+      let q : PacerView = record v.pacer { counts = counted v.pacer.counts e } in
+      one_kept v (paced_by q d.0.heap (cycles_after e v.heap d.0.heap v.cycles)) e (Quantum_called budget before after status) next (d.2 ∙ ap Ok d.3.0) (quantum_path v.pacer q v.heap d.0.heap budget d.1 d.3.2 refl) (quantum_on v.heap d.0.heap budget d.1 d.3.2) refl (quantum_told budget d.1 before after status d.4 d.5)
 
-  list_kept : (p : PacerView) (h : HeapState) (m : ℕ) (cs : List Command) (told : MetronomeProgress) (next : Result Held Status) → MakeNothing cs → DoesList (Ok (held p h)) m cs next told → WasKept p h (List_called m cs told) next
-  list_kept p h m cs told next none d =
+  list_kept : (v : PacedView) (m : ℕ) (cs : List Command) (told : MetronomeProgress) (next : Result Held Status) → MakeNothing cs → DoesList (Ok (held v)) m cs next told → WasKept v (List_called m cs told) next
+  list_kept v m cs told next none d =
       let asked = d.1 in
       let done = asked.4.1 in
       record {
         events = events_of m cs (with_refusal done.0 asked.0.refused);
-        pacer = p;
-        heap = asked.1.heap;
+        view = record v { heap = asked.1.heap };
         left = asked.3 ∙ ap Ok asked.4.0;
-        path = list_path m cs done.0 asked.0.refused (state_of (paced_by p h)) asked.1.heap none done.1.order;
+        path = list_path m cs done.0 asked.0.refused (state_of v) asked.1.heap none done.1.order;
+        counts = list_counts m cs done.0 asked.0.refused v.heap v.cycles asked.1.heap done.1.order;
         tells = inr ([], done.0, asked.0, refl, tt, done.1.done, d.2 ∙ ap progress_told asked.2);
       }
 
-  made_kept : (p : PacerView) (h : HeapState) (m dst : ℕ) (shape : Shape) (cs : List Command) (told : MetronomeProgress) (next : Result Held Status) (progress : Result Progress Status) → MakeNothing cs
-      → AsksPaying (shape_words shape) (λ x a k. DoesFront x m (commands.New dst shape ∷ cs) a k) (Ok (held p h)) progress next → told ≡ progress_told progress → WasKept p h (List_called m (commands.New dst shape ∷ cs) told) next
-  made_kept p h m dst shape cs told next (Err why) none a is =
-      none_kept p h (λ events. WasEvents events (List_called m (commands.New dst shape ∷ cs) told)) next (a.1 ∙ ap Ok a.2.1.1) (inl (refl, is ∙ ap (λ (w : Status). progress_told (Err w)) a.2.0))
-  made_kept p h m dst shape cs told next (Ok progress) none a is =
+  made_kept : (v : PacedView) (m dst : ℕ) (shape : Shape) (cs : List Command) (told : MetronomeProgress) (next : Result Held Status) (progress : Result Progress Status) → MakeNothing cs
+      → AsksPaying (shape_words shape) (λ x a k. DoesFront x m (commands.New dst shape ∷ cs) a k) (Ok (held v)) progress next → told ≡ progress_told progress → WasKept v (List_called m (commands.New dst shape ∷ cs) told) next
+  made_kept v m dst shape cs told next (Err why) none a is =
+      none_kept v (λ events. WasEvents events (List_called m (commands.New dst shape ∷ cs) told)) next (a.1 ∙ ap Ok a.2.1.1) (inl (refl, is ∙ ap (λ (w : Status). progress_told (Err w)) a.2.0))
+  made_kept v m dst shape cs told next (Ok progress) none a is =
       let c = commands.New dst shape in
       let paid = a.2.1 in
-      let q = paid.0 in
-      let same : a.2.0 ≡ held q a.2.0.heap = paid.1 in
+      let mid : PacedView = paced_by paid.0 a.2.0.heap a.2.0.cycles in
+      let same : a.2.0 ≡ held mid = paid.1 in
       let done : DoesFront a.2.0.heap m (c ∷ cs) progress a.0.heap = a.2.2.1 in
+      let es = events_of m (c ∷ cs) (with_refusal done.0 progress.refused) in
       record {
-        events = paid.3.work ++ events_of m (c ∷ cs) (with_refusal done.0 progress.refused);
-        pacer = q;
-        heap = a.0.heap;
+        events = paid.3.work ++ es;
+        view = record mid { heap = a.0.heap };
         left = a.1 ∙ ap Ok (a.2.2.0 ∙ ap (λ (x : Held). record x { heap = a.0.heap }) same);
-        path = first_path (paced_by p h) (paced_by q a.2.0.heap) m c cs done.0 progress.refused a.0.heap paid.3 none done.1.order;
-        tells = inr (paid.3.work, done.0, progress, refl, works (words_of (asks c)) paid.3.work (state_of (paced_by p h)) (record { heap = a.2.0.heap; counts = paid.3.before }) paid.3.works, done.1.done, is);
+        path = first_path v mid m c cs done.0 progress.refused a.0.heap paid.3 none done.1.order;
+        counts = cycles_then paid.3.work es v.heap mid.heap a.0.heap v.cycles mid.cycles mid.cycles paid.3.cycles (list_counts m (c ∷ cs) done.0 progress.refused mid.heap mid.cycles a.0.heap done.1.order);
+        tells = inr (paid.3.work, done.0, progress, refl, works (words_of (asks c)) paid.3.work (state_of v) (record { heap = mid.heap; counts = paid.3.before }) paid.3.works, done.1.done, is);
       }
 
-  commands_kept : (p : PacerView) (h : HeapState) (m : ℕ) (cs : List Command) (told : MetronomeProgress) (next : Result Held Status) → DoesCommands (Ok (held p h)) m cs next told → WasKept p h (List_called m cs told) next
-  commands_kept p h m (commands.New dst shape ∷ cs) told next d = made_kept p h m dst shape cs told next d.1.0 d.0 d.1.1 d.1.2
-  commands_kept p h m cs told next d = list_kept p h m cs told next d.0 d.1
+  commands_kept : (v : PacedView) (m : ℕ) (cs : List Command) (told : MetronomeProgress) (next : Result Held Status) → DoesCommands (Ok (held v)) m cs next told → WasKept v (List_called m cs told) next
+  commands_kept v m (commands.New dst shape ∷ cs) told next d = made_kept v m dst shape cs told next d.1.0 d.0 d.1.1 d.1.2
+  commands_kept v m cs told next d = list_kept v m cs told next d.0 d.1
 
-  call_kept : (p : PacerView) (h : HeapState) (call : KeptCall) (next : Result Held Status) → DoesKept (Ok (held p h)) call next → WasKept p h call next
-  call_kept p h (Called (Command_called m c answer)) next d = command_kept p h m c answer next d
-  call_kept p h (Called (Begin_called status)) next d = begin_kept p h status next d
-  call_kept p h (Called (Quantum_called budget before after status)) next d = quantum_kept p h budget before after status next d
-  call_kept p h (List_called m cs told) next d = commands_kept p h m cs told next d
+  call_kept : (v : PacedView) (call : KeptCall) (next : Result Held Status) → DoesKept (Ok (held v)) call next → WasKept v call next
+  call_kept v (Called (Command_called m c answer)) next d = command_kept v m c answer next d
+  call_kept v (Called (Begin_called status)) next d = begin_kept v status next d
+  call_kept v (Called (Quantum_called budget before after status)) next d = quantum_kept v budget before after status next d
+  call_kept v (List_called m cs told) next d = commands_kept v m cs told next d
 
   -- calls are events that keep the plan, one call after the other
-  abbrev WereKept : PacerView → HeapState → List KeptCall → Result Held Status → Type 0
-  WereKept p h calls new = KeptBy p h (λ events. WereEvents events calls) new
-
-  pub were_kept : (calls : List KeptCall) (p : PacerView) (h : HeapState) (new : Result Held Status) → KeptCalls (Ok (held p h)) calls new → WereKept p h calls new
-  were_kept [] p h new d = none_kept p h (λ events. WereEvents events []) new d refl
-  were_kept (call ∷ calls) p h new d =
-      let one = call_kept p h call d.0 d.1 in
-      let rest = were_kept calls one.pacer one.heap new (subst (λ (x : Result Held Status). KeptCalls x calls new) one.left d.2) in
+  pub were_kept : (calls : List KeptCall) (v : PacedView) (new : Result Held Status) → KeptCalls (Ok (held v)) calls new → KeptBy v (λ events. WereEvents events calls) new
+  were_kept [] v new d = none_kept v (λ events. WereEvents events []) new d refl
+  were_kept (call ∷ calls) v new d =
+      let one = call_kept v call d.0 d.1 in
+      let rest = were_kept calls one.view new (subst (λ (x : Result Held Status). KeptCalls x calls new) one.left d.2) in
       record {
         events = one.events ++ rest.events;
-        pacer = rest.pacer;
-        heap = rest.heap;
+        view = rest.view;
         left = rest.left;
-        path = path_then KeepsPlan one.events rest.events (state_of (paced_by p h)) (state_of (paced_by one.pacer one.heap)) (state_of (paced_by rest.pacer rest.heap)) one.path rest.path;
+        path = path_then KeepsPlan one.events rest.events (state_of v) (state_of one.view) (state_of rest.view) one.path rest.path;
+        counts = cycles_then one.events rest.events v.heap one.view.heap rest.view.heap v.cycles one.view.cycles rest.view.cycles one.counts rest.counts;
         tells = (one.events, rest.events, refl, one.tells, rest.tells);
       }
 
@@ -220,21 +230,21 @@ module _ (s : Settings) (h : Held) (made : IsMadeOf s h) (flow : MetronomeFlow) 
   -- with a plan that can be kept
   room_kept : CanKeep h flow → KeptCalls (Ok (kept h flow)) calls new → KeepsRoom h flow calls new
   room_kept can d =
-      let p : PacerView = first_pacer flow.budget (plan_in flow) in
-      let all = were_kept h.config no_cycles calls p h.heap new d in
-      let old : PacedState = state_of (paced_by p h.heap) in
-      let just : IsJustPaced h.config (plan_in flow) old = record {
+      let v : PacedView = paced_by (first_pacer flow.budget (plan_in flow)) h.heap h.cycles in
+      let all = were_kept h.config calls v new d in
+      let just : IsJustPaced h.config (plan_in flow) (state_of v) = record {
         heap = made.0;
         settings = made.2;
         counts = ap (λ (b : ℕ). first_counts b (plan_in flow)) can.budget;
       } in
-      let found = finds_room h.config (plan_in flow) flow.live_words old (state_of (paced_by all.pacer all.heap)) all.events just can.moves can.fits all.path in
+      let found = finds_room h.config (plan_in flow) flow.live_words (state_of v) (state_of all.view) all.events just can.moves can.fits all.path in
       record {
         events = all.events;
-        left = held h.config no_cycles all.pacer all.heap;
+        left = held h.config all.view;
         is_left = all.left;
         were = all.tells;
         room = found;
+        counts = all.counts;
         holds = course_holds found.course (runs_course all.events (opened h.heap) found.course (is_course s h made) found.runs);
       }
 

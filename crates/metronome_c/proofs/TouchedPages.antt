@@ -4,12 +4,12 @@ use Rattle.std.specs.Prelude.{Result, Ok, Err}
 use Rattle.heap_model.specs.State.{HeapState}
 use Rattle.heap_model.specs.Agreement.{Agrees}
 use Rattle.size_classes.specs.declared.settings.Settings.{Settings}
+use Rattle.paced.specs.Pacing.{KeepsAgreeing}
 use Rattle.metronome_c.specs.declared.held.Held.{Held}
 use Rattle.metronome_c.specs.declared.status.Status.{Status}
 use Rattle.metronome_c.specs.declared.status.Status.TheVariants.{Done}
 use Rattle.metronome_c.specs.Status.{status_number}
 use Rattle.metronome_c.specs.Asking.{AsksHeap}
-use Rattle.metronome_c.specs.Collecting.{KeepsAgreeing}
 use Rattle.metronome_c.specs.Lifetime.{IsMadeOf}
 use Rattle.metronome_c.specs.Touching.{touched_heap, touched_held, TouchesOpen}
 

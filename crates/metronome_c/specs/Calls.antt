@@ -9,15 +9,15 @@ use Rattle.heap_model.specs.Event.{Course, Event, Command_done, Cycle_begun, Beg
 use Rattle.heap_model.specs.ReachedFrom.{opened}
 use Rattle.machine.specs.Headline.{Holds, AlwaysHolds}
 use Rattle.machine.specs.Space.{IsJustMade, FindsSpace}
+use Rattle.paced.specs.declared.cycles.Cycles.{Cycles}
+use Rattle.paced.specs.Cycles.{CountsCycles}
 use Rattle.metronome_c.specs.declared.answer.Answer.{Answer}
 use Rattle.metronome_c.specs.declared.collector.QuantumSpent.{QuantumSpent}
-use Rattle.metronome_c.specs.declared.cycles.Cycles.{Cycles}
 use Rattle.metronome_c.specs.declared.held.Held.{Held}
 use Rattle.metronome_c.specs.declared.status.Status.{Status}
 use Rattle.metronome_c.specs.declared.status.Status.TheVariants.{Done, Busy, BudgetOutOfRange}
 use Rattle.metronome_c.specs.Answer.{answer_of}
 use Rattle.metronome_c.specs.Collecting.{phase_number, BeginsOpen, SpendsOpen}
-use Rattle.metronome_c.specs.Cycles.{CountsCycles}
 use Rattle.metronome_c.specs.Status.{status_number}
 use Rattle.metronome_c.specs.Steps.{DoesCommand}
 
@@ -64,7 +64,7 @@ pub record AreEvents (h : Held) (calls : List Call) (new : Result Held Status) :
   pub course : Course
   pub cycles : Cycles
   pub runs : Runs (opened h.heap) events course
-  pub counts : CountsCycles (opened h.heap) h.cycles events course cycles
+  pub counts : CountsCycles h.heap h.cycles events course.heap cycles
   pub told : AllTellEvents events calls
   pub left : new ≡ Ok (record h { heap = course.heap; cycles = cycles })
   pub holds : Holds course

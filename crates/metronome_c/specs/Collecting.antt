@@ -1,23 +1,20 @@
 -- What the collector does to what C holds, and what C is told.
-use Rattle.std.specs.Prelude.{◌≡◌, ◌⊎◌, ◌+◌, ◌<◌, ℕ, Option, Some, None, Result, Ok, Err}
-use Rattle.graph_heap.specs.Graph.{Graph}
-use Rattle.size_classes.specs.declared.config.TheConstants.{LEAST_BUDGET}
+use Rattle.std.specs.Prelude.{◌≡◌, ℕ, Option, Some, None, Result, Ok, Err}
 use Rattle.heap_model.specs.declared.phase.Phase.{Phase}
 use Rattle.heap_model.specs.declared.phase.Phase.TheVariants as phases
 use Rattle.heap_model.specs.State.{HeapState}
-use Rattle.heap_model.specs.Agreement.{Agrees}
 use Rattle.heap_model.specs.Event.{Event}
 use Rattle.machine.specs.declared.collector.Busy.{Busy as CycleOn}
 use Rattle.machine.specs.declared.collector.BudgetOutOfRange.{BudgetOutOfRange as Refused}
 use Rattle.machine.specs.declared.collector.Spent.{Spent}
 use Rattle.machine.specs.Collecting.{Begins, Spends}
 use Rattle.machine.specs.Recorded.{begin_done, quantum_done}
-use Rattle.paced.specs.Pacing.{PacerView, counted}
+use Rattle.paced.specs.Cycles.{cycles_after, EndsOrSpends}
+use Rattle.paced.specs.Pacing.{PacerView, counted, KeepsAgreeing}
 use Rattle.metronome_c.specs.declared.collector.QuantumSpent.{QuantumSpent}
 use Rattle.metronome_c.specs.declared.held.Held.{Held}
 use Rattle.metronome_c.specs.declared.status.Status.{Status}
 use Rattle.metronome_c.specs.declared.status.Status.TheVariants.{Done, Busy, BudgetOutOfRange}
-use Rattle.metronome_c.specs.Cycles.{cycles_by}
 use Rattle.metronome_c.specs.Status.{status_number}
 
 -- the number of a phase
@@ -28,21 +25,17 @@ phase_number (phases.Marking part cell) = 2
 phase_number (phases.Sweeping page block) = 3
 phase_number (phases.Moving place) = 4
 
--- the heap agrees with each graph heap with which it agreed
-abbrev pub KeepsAgreeing : HeapState → HeapState → Type 0
-KeepsAgreeing h k = (g : Graph) → Agrees h g → Agrees k g
-
 -- a pacer, where there is one, has counted an event
 abbrev pub counted_by : Event → Option PacerView → Option PacerView
 counted_by e (Some p) = Some (record p { counts = counted p.counts e })
 counted_by e None = None
 
--- what C holds after an event that left its heap so: a pacer counts it, where there is one, and else it counts for the cycles
+-- what C holds after an event that left its heap so: it counts for the cycles, and a pacer counts it, where there is one
 abbrev pub held_after : Held → Event → HeapState → Held
 held_after old e after = record old {
   heap = after;
   pacer = counted_by e old.pacer;
-  cycles = cycles_by old.pacer e old.heap after old.cycles;
+  cycles = cycles_after e old.heap after old.cycles;
 }
 
 -- a cycle begins, or one is running already
@@ -71,11 +64,6 @@ quantum_status (Err refused) = status_number BudgetOutOfRange
 abbrev pub spent_of : QuantumSpent → Result Spent Refused → QuantumSpent
 spent_of before (Ok spent) = record { units = spent.units; phase = phase_number spent.phase }
 spent_of before (Err refused) = before
-
--- a quantum that isn't refused ends the cycle, or leaves less than the dearest action costs: the least budget
-abbrev pub EndsOrSpends : ℕ → Result Spent Refused → Type 0
-EndsOrSpends budget (Ok spent) = (spent.phase ≡ phases.Idle) ⊎ (budget < spent.units + LEAST_BUDGET)
-EndsOrSpends budget (Err refused) = Unit {0}
 
 -- a quantum spends units of its budget in one turn, or the budget is refused
 abbrev pub SpendsHeld : Held → ℕ → Result Spent Refused → Held → Type 0

@@ -8,6 +8,7 @@ use Rattle.heap_model.specs.Represents.{Represents}
 use Rattle.nodes.specs.Copies.{copies_in}
 use Rattle.nodes.specs.Seen.{block_view}
 use Rattle.nodes.specs.declared.nodes.seeing.BlockView.{BlockView}
+use Rattle.paced.specs.declared.cycles.Cycle.{Cycle}
 use Rattle.pages.specs.View.{view_of}
 use Rattle.pages.specs.declared.view.PageView.{PageView}
 use Rattle.roots.specs.Used.{used_in}
@@ -35,6 +36,11 @@ Tells tell (Ok h) new before after status = (new ≡ Ok h) × (after ≡ tell h.
 abbrev pub TellsFound : {A : Type 0} → (Result Held Status → Result A Status) → Result Held Status → Result Held Status → A → A
     → ℕ → Type 0
 TellsFound find old new before after status = (new ≡ old) × IsTold (find old) before after status
+
+-- the last cycle that ended in the heap that C holds
+abbrev pub ended_in : Result Held Status → Result Cycle Status
+ended_in (Ok h) = Ok h.cycles.ended
+ended_in (Err why) = Err why
 
 -- a heap represents some graph heap at present, and one when the last cycle began
 abbrev pub RepresentsSome : HeapState → Type 0

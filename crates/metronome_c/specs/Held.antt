@@ -14,8 +14,9 @@ OnHeap call h a k = (k ≡ record h { heap = k.heap }) × call h.heap a k.heap
 -- words are paid for by a pacer, where there is one: the collector works as much as its plan wants
 abbrev pub PaysBy : Option PacerView → Held → ℕ → Held → Type 0
 PaysBy None old words new = new ≡ old
-PaysBy (Some p) old words new = (q : PacerView) × (new ≡ record old { heap = new.heap; pacer = Some q })
-    × (words ≤ p.counts.plan.cycle_words) × Pays (paced_by p old.heap) words (paced_by q new.heap)
+PaysBy (Some p) old words new = (q : PacerView)
+    × (new ≡ record old { heap = new.heap; pacer = Some q; cycles = new.cycles }) × (words ≤ p.counts.plan.cycle_words)
+    × Pays (paced_by p old.heap old.cycles) words (paced_by q new.heap new.cycles)
 
 -- words are more than a plan that is kept has for a whole cycle
 abbrev pub IsAbove : Option PacerView → ℕ → Type 0

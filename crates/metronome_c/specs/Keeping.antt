@@ -13,7 +13,6 @@ use Rattle.metronome_c.specs.declared.keeping.MetronomeWork.{MetronomeWork}
 use Rattle.metronome_c.specs.declared.planning.MetronomeFlow.{MetronomeFlow}
 use Rattle.metronome_c.specs.declared.status.Status.{Status}
 use Rattle.metronome_c.specs.declared.status.Status.TheVariants.{Done, NoPlan}
-use Rattle.metronome_c.specs.Cycles.{no_cycles}
 use Rattle.metronome_c.specs.Planning.{plan_in}
 use Rattle.metronome_c.specs.Status.{status_number}
 
@@ -34,9 +33,9 @@ pub record CanKeep (h : Held) (flow : MetronomeFlow) : Type 0 where
   pub moves : MovesAll h.config
   pub fits : FlowFitsIn h.config (flow_of flow)
 
--- a heap as it is, with a pacer that has counted nothing, and no cycle to tell of
+-- a heap as it is, with a pacer that has counted nothing
 abbrev pub kept : Held → MetronomeFlow → Held
-kept h flow = record h { pacer = Some (first_pacer flow.budget (plan_in flow)); cycles = no_cycles }
+kept h flow = record h { pacer = Some (first_pacer flow.budget (plan_in flow)) }
 
 -- A flow is kept exactly where it can be; else nothing is done.
 abbrev pub KeepsHeld : Held → MetronomeFlow → Bool → Held → Type 0

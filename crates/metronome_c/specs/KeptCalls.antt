@@ -6,6 +6,7 @@ use Rattle.graph_heap.specs.declared.command.Reply.{Reply}
 use Rattle.graph_heap.specs.declared.command.Shape.{Shape}
 use Rattle.heap_model.specs.Event.{Event, Cycle_begun, Quantum_done}
 use Rattle.machine.specs.Headline.{Holds}
+use Rattle.paced.specs.Cycles.{CountsCycles}
 use Rattle.paced.specs.Pacing.{shape_words, MakesNothing}
 use Rattle.paced.specs.Rooms.{FindsRoom}
 use Rattle.bulk.specs.declared.progress.Progress.{Progress}
@@ -87,13 +88,14 @@ WereEvents es [] = es ≡ []
 WereEvents es (call ∷ calls) = (first : List Event) × (rest : List Event) × (es ≡ first ++ rest) × WasEvents first call
     × WereEvents rest calls
 
--- The calls were events, which lead from the heap that keeps a plan to the one that the handle holds: if what is live is
--- within the plan wherever one of them begins a cycle, no reply is the refusal for lack of space. And all that is
--- promised of a heap with its history holds there.
+-- The calls were events, which lead from the heap that keeps a plan to the one that the handle holds, and to the cycles that it
+-- has: if what is live is within the plan wherever one of them begins a cycle, no reply is the refusal for lack of space. And
+-- all that is promised of a heap with its history holds there.
 pub record KeepsRoom (h : Held) (flow : MetronomeFlow) (calls : List KeptCall) (new : Result Held Status) : Type 0 where
   pub events : List Event
   pub left : Held
   pub is_left : new ≡ Ok left
   pub were : WereEvents events calls
   pub room : FindsRoom h.config (flow_of flow) h.heap left.heap events
+  pub counts : CountsCycles h.heap h.cycles events left.heap left.cycles
   pub holds : Holds room.course

@@ -4,7 +4,6 @@ pub mod BulkCalls
 pub mod Calls
 pub mod Checking
 pub mod Collecting
-pub mod Cycles
 pub mod Figures
 pub mod Held
 pub mod Keeping

@@ -2,7 +2,7 @@
 use Rattle.std.specs.Prelude.{◌≡◌, ℕ, Result, Ok, Err}
 use Rattle.heap_model.specs.State.{HeapState}
 use Rattle.nodes.specs.Touching.{touched}
-use Rattle.metronome_c.specs.Collecting.{KeepsAgreeing}
+use Rattle.paced.specs.Pacing.{KeepsAgreeing}
 use Rattle.metronome_c.specs.declared.held.Held.{Held}
 use Rattle.metronome_c.specs.declared.status.Status.{Status}
 use Rattle.metronome_c.specs.declared.status.Status.TheVariants.{Done}

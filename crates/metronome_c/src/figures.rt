@@ -4,12 +4,13 @@ ghost use Rattle.heap_model.specs.Pages as pages;
 ghost use Rattle.metronome_c.specs.Collecting as collecting;
 ghost use Rattle.heap_model.specs.Spent.{cycle_limit};
 ghost use Rattle.metronome_c.specs.Opened.{held_in};
-ghost use Rattle.metronome_c.specs.Figures.{IsTold, Tells, RepresentsSome, counts_of};
+ghost use Rattle.metronome_c.specs.Figures.{IsTold, Tells, TellsFound, RepresentsSome, counts_of, ended_in};
 
 use crate::metronome::Metronome;
 use crate::phase::phase_number;
 use crate::status::Status;
 use machine::Heap;
+use paced::Cycle;
 
 /// The counts of a heap: its pages, its root cells, and the objects that it holds.
 #[repr(C)]
@@ -94,4 +95,12 @@ pub extern "C" fn metronome_count(heap: &mut Metronome, counts: &mut Counts) -> 
     ensures { Tells counts_of (held_in heap.old) (held_in heap.new) counts.old counts.new result }
 {
     tell(counts, heap.ask(|inner| Counts::from_heap(inner)))
+}
+
+/// Tells the last cycle that ended.
+#[unsafe(no_mangle)]
+pub extern "C" fn metronome_last_cycle(heap: &mut Metronome, cycle: &mut Cycle) -> u32
+    ensures { TellsFound ended_in (held_in heap.old) (held_in heap.new) cycle.old cycle.new result }
+{
+    tell(cycle, heap.ask_held(|held| held.cycles.ended))
 }

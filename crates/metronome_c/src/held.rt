@@ -6,15 +6,13 @@ ghost use Rattle.metronome_c.specs.Held.{PaysHeld};
 ghost use Rattle.metronome_c.specs.Collecting.{BeginsHeld, SpendsHeld};
 ghost use Rattle.metronome_c.specs.Keeping.{IsUnused, KeepsHeld};
 
-use crate::cycles::Cycles;
 use crate::planning::MetronomeFlow;
 use graph_heap::Shape;
 use machine::{BudgetOutOfRange, Busy, Heap, Spent};
-use paced::{Figures, Pacer, flow_fits, moves_all};
+use paced::{Cycles, Figures, Pacer, flow_fits, moves_all};
 use size_classes::Config;
 
-/// A heap, the configuration that it was made of, its pacer, where the program keeps a plan, and its cycles, counted where the
-/// program keeps none.
+/// A heap, the configuration that it was made of, its pacer, where the program keeps a plan, and its cycles.
 pub struct Held {
     pub heap: Heap,
     pub config: Config,
@@ -53,7 +51,9 @@ impl Held {
         ensures { PaysHeld self.old (shape_words shape) result self.new }
     {
         match &mut self.pacer {
-            Some(pacer) => pacer.pay_for(&mut self.heap, shape).is_ok(),
+            Some(pacer) => pacer
+                .pay_for(&mut self.heap, &mut self.cycles, shape)
+                .is_ok(),
             None => true,
         }
     }
@@ -63,7 +63,7 @@ impl Held {
         ensures { BeginsHeld self.old result self.new }
     {
         match &mut self.pacer {
-            Some(pacer) => pacer.begin(&mut self.heap),
+            Some(pacer) => pacer.begin(&mut self.heap, &mut self.cycles),
             None => self.cycles.begin(&mut self.heap),
         }
     }
@@ -73,7 +73,7 @@ impl Held {
         ensures { SpendsHeld self.old budget result self.new }
     {
         match &mut self.pacer {
-            Some(pacer) => pacer.quantum(&mut self.heap, budget),
+            Some(pacer) => pacer.quantum(&mut self.heap, &mut self.cycles, budget),
             None => self.cycles.quantum(&mut self.heap, budget),
         }
     }
@@ -111,7 +111,6 @@ impl Held {
             return false;
         }
         self.pacer = Some(Pacer::new(&self.config, plan));
-        self.cycles = Cycles::NONE;
         true
     }
 }

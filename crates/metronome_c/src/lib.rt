@@ -7,7 +7,6 @@ mod bulk_calls;
 mod checking;
 mod collector;
 mod commands;
-mod cycles;
 mod figures;
 mod handle;
 mod held;

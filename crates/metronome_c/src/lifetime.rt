@@ -5,12 +5,12 @@ ghost use Rattle.metronome_c.specs.Opened.{held_in};
 ghost use Rattle.metronome_c.specs.Lifetime.{IsMadeOf, Creates, Destroys};
 ghost use Rattle.metronome_c.specs.Status.{status_number};
 
-use crate::cycles::Cycles;
 use crate::held::Held;
 use crate::metronome::Metronome;
 use crate::status::Status;
 use crate::text::VERSION;
 use machine::Heap;
+use paced::Cycles;
 use size_classes::{Config, Settings};
 
 /// Makes a heap of these settings, where the handle is closed and the program was built for this version. Of a program

@@ -14,7 +14,8 @@ use Rattle.space.proofs.Paces.Pacing.{command_left}
 use Rattle.fragmentation.specs.Flow.{opening_meter}
 use Rattle.machine.specs.Plan.{Steps}
 use Rattle.paced.specs.declared.plan.Plan.{Plan}
-use Rattle.paced.specs.Pacing.{Counts, PacedState, saturated, counted, DoesOn, Path, MayAsk, KeepsPlan, WorksFor}
+use Rattle.paced.specs.Cycles.{saturated, DoesOn}
+use Rattle.paced.specs.Pacing.{Counts, PacedState, counted, Path, MayAsk, KeepsPlan, WorksFor}
 use Rattle.paced.specs.Rooms.{IsJustPaced}
 use Rattle.paced.specs.Bounds.{words_in, Deed, AreDone, words_asked, BeginsNone, IsFree}
 use Rattle.paced.proofs.Paths.{path_then}

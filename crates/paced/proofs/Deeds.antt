@@ -3,7 +3,8 @@ use Rattle.std.proofs.Common.{◌≡◌, ℕ, Ok, List, [], ◌∷◌, ap, ◌�
 use Rattle.graph_heap.specs.declared.command.Command.{Command}
 use Rattle.graph_heap.specs.declared.command.Reply.{Reply}
 use Rattle.heap_model.specs.Event.{Event, Command_done, Cycle_begun, Begin_refused, Quantum_done, Quantum_refused}
-use Rattle.paced.specs.Pacing.{PacerView, PacedState, PacedView, state_of, worked, DoesOn, Path, MayAsk, KeepsPlan, WorksFor, Pays, Calls}
+use Rattle.paced.specs.Cycles.{DoesOn}
+use Rattle.paced.specs.Pacing.{PacerView, PacedState, PacedView, state_of, worked, Path, MayAsk, KeepsPlan, WorksFor, Pays, Calls}
 use Rattle.paced.specs.Bounds.{words_in, IsDone}
 
 pub call_deed : (old new : PacedView) (m : ℕ) (c : Command) (reply : Reply) → Calls old m c (Ok reply) new

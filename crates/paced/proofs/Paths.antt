@@ -14,13 +14,29 @@ use Rattle.machine.specs.declared.collector.Busy.{Busy}
 use Rattle.machine.specs.declared.collector.Spent.{Spent}
 use Rattle.machine.specs.Collecting.{Begins, Spends}
 use Rattle.machine.specs.Recorded.{begin_done, quantum_done}
+use Rattle.paced.specs.declared.cycles.Cycles.{Cycles}
 use Rattle.paced.specs.declared.pacer.AbovePlan.{AbovePlan}
-use Rattle.paced.specs.Pacing.{PacerView, PacedState, PacedView, paced_by, state_of, counted, Path, KeepsPlan, MakesNothing, MayAsk, Paced, WorksFor, Pays, Calls, Counted}
+use Rattle.paced.specs.Cycles.{DoesOn, cycles_after, CountsCycles}
+use Rattle.paced.specs.Pacing.{PacerView, PacedState, PacedView, state_by, state_of, counted, Path, KeepsPlan, MakesNothing, MayAsk, Paced, WorksFor, Pays, Calls, Counted}
 
 -- events, and then others
 pub path_then : (Passes : PacedState → Event → Type 0) (es fs : List Event) (old mid new : PacedState) → Path Passes old es mid → Path Passes mid fs new → Path Passes old (es ++ fs) new
 path_then Passes [] fs old mid new p q = subst (λ v. Path Passes v fs new) p q
 path_then Passes (e ∷ es) fs old mid new p q = (p.0, p.1, p.2, p.3, path_then Passes es fs p.0 mid new p.4 q)
+
+-- the same of cycles
+pub cycles_then : (es fs : List Event) (old mid new : HeapState) (c d e : Cycles) → CountsCycles old c es mid d → CountsCycles mid d fs new e → CountsCycles old c (es ++ fs) new e
+cycles_then [] fs old mid new c d e p q = subst (λ (x : HeapState). CountsCycles x c fs new e) p.0 (subst (λ (x : Cycles). CountsCycles mid x fs new e) p.1 q)
+cycles_then (x ∷ es) fs old mid new c d e p q = (p.0, p.1, cycles_then es fs p.0 mid new (cycles_after x old p.0 c) d e p.2 q)
+
+-- what comes of a beginning and of a quantum is done on the heap
+pub begin_on : (old new : HeapState) (result : Result (Unit {0}) Busy) → Begins old new result → DoesOn old (begin_done result) new
+begin_on old new (Ok done) b = b
+begin_on old new (Err busy) b = b
+
+pub quantum_on : (old new : HeapState) (budget : ℕ) (result : Result Spent BudgetOutOfRange) → Spends old budget new result → DoesOn old (quantum_done budget result) new
+quantum_on old new budget (Ok spent) s = s
+quantum_on old new budget (Err refused) s = s
 
 -- the collector's work keeps the plan
 work_keeps : (words : ℕ) (v : PacedState) (e : Event) → WorksFor words v e → KeepsPlan v e
@@ -60,19 +76,19 @@ calls_paced old new m c (Err above) w = ([], ap state_of w.1)
 calls_paced old new m c (Ok reply) w = (w.2.work ++ Command_done m c reply ∷ [], call_path old new m c reply w)
 
 pub begin_path : (p q : PacerView) (old new : HeapState) (result : Result (Unit {0}) Busy) → Begins old new result → Counted p (begin_done result) q
-    → Path KeepsPlan (state_of (paced_by p old)) (begin_done result ∷ []) (state_of (paced_by q new))
-begin_path p q old new (Ok done) b k = (state_of (paced_by q new), tt, b, ap (λ (x : PacerView). x.counts) k, refl)
-begin_path p q old new (Err busy) b k = (state_of (paced_by q new), tt, b, ap (λ (x : PacerView). x.counts) k, refl)
+    → Path KeepsPlan (state_by p old) (begin_done result ∷ []) (state_by q new)
+begin_path p q old new (Ok done) b k = (state_by q new, tt, b, ap (λ (x : PacerView). x.counts) k, refl)
+begin_path p q old new (Err busy) b k = (state_by q new, tt, b, ap (λ (x : PacerView). x.counts) k, refl)
 
-pub begin_paced : (p q : PacerView) (old new : HeapState) (result : Result (Unit {0}) Busy) → Begins old new result → Counted p (begin_done result) q → Paced (state_of (paced_by p old)) (state_of (paced_by q new))
+pub begin_paced : (p q : PacerView) (old new : HeapState) (result : Result (Unit {0}) Busy) → Begins old new result → Counted p (begin_done result) q → Paced (state_by p old) (state_by q new)
 begin_paced p q old new result b k = (begin_done result ∷ [], begin_path p q old new result b k)
 
 pub quantum_path : (p q : PacerView) (old new : HeapState) (budget : ℕ) (result : Result Spent BudgetOutOfRange) → Spends old budget new result → Counted p (quantum_done budget result) q
-    → Path KeepsPlan (state_of (paced_by p old)) (quantum_done budget result ∷ []) (state_of (paced_by q new))
-quantum_path p q old new budget (Ok spent) s k = (state_of (paced_by q new), tt, s, ap (λ (x : PacerView). x.counts) k, refl)
-quantum_path p q old new budget (Err refused) s k = (state_of (paced_by q new), tt, s, ap (λ (x : PacerView). x.counts) k, refl)
+    → Path KeepsPlan (state_by p old) (quantum_done budget result ∷ []) (state_by q new)
+quantum_path p q old new budget (Ok spent) s k = (state_by q new, tt, s, ap (λ (x : PacerView). x.counts) k, refl)
+quantum_path p q old new budget (Err refused) s k = (state_by q new, tt, s, ap (λ (x : PacerView). x.counts) k, refl)
 
-pub quantum_paced : (p q : PacerView) (old new : HeapState) (budget : ℕ) (result : Result Spent BudgetOutOfRange) → Spends old budget new result → Counted p (quantum_done budget result) q → Paced (state_of (paced_by p old)) (state_of (paced_by q new))
+pub quantum_paced : (p q : PacerView) (old new : HeapState) (budget : ℕ) (result : Result Spent BudgetOutOfRange) → Spends old budget new result → Counted p (quantum_done budget result) q → Paced (state_by p old) (state_by q new)
 quantum_paced p q old new budget result s k = (quantum_done budget result ∷ [], quantum_path p q old new budget result s k)
 
 -- a command that makes no object asks for no words

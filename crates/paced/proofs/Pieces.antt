@@ -1,5 +1,5 @@
 -- Pieces of the collector's work: what each does, and that less is left after it.
-use Rattle.std.proofs.Common.{◌≡◌, ◌≢◌, ℕ, ◌+◌, ◌-◌, ◌^◌, ◌<◌, ◌≤◌, ◌⊎◌, inl, inr, Bool, true, false, ◌==◌, if◌then◌else◌, min, Result, Ok, Err, IfOk, List, [], ◌∷◌, ◌++◌, ap, ◌∙◌, sym, subst, arith, refl}
+use Rattle.std.proofs.Common.{◌≡◌, ◌≢◌, ℕ, ◌+◌, ◌-◌, ◌^◌, ◌<◌, ◌≤◌, ◌⊎◌, inl, inr, Bool, true, false, ◌==◌, if◌then◌else◌, min, Result, Ok, Err, List, [], ◌∷◌, ◌++◌, ap, ◌∙◌, sym, subst, arith, refl}
 use Rattle.std.specs.Prelude.{not}
 use Rattle.std.specs.Int.{from_bool}
 use Rattle.heap_model.specs.declared.phase.Phase.{Phase}
@@ -15,20 +15,26 @@ use Rattle.space.specs.Pace.{in_cycle}
 use Rattle.machine.specs.declared.collector.BudgetOutOfRange.{BudgetOutOfRange}
 use Rattle.machine.specs.declared.collector.Spent.{Spent}
 use Rattle.machine.specs.Collecting.{Spends}
-use Rattle.paced.specs.Pacing.{Counts, PacedState, counted, MayAsk, DoesOn, WorksFor}
+use Rattle.machine.specs.Recorded.{quantum_done}
+use Rattle.paced.specs.Cycles.{DoesOn, cycles_after, EndsOrSpends}
+use Rattle.paced.specs.Pacing.{Counts, PacedState, PacedView, state_of, counted, MayAsk, WorksFor}
 use Rattle.paced.specs.Working.{IsPiece, DoesPiece, work_left, HasWorked}
-use Rattle.paced.proofs.Paths.{path_then}
+use Rattle.paced.proofs.Paths.{path_then, cycles_then}
 
 -- a quantum of the pacer's budget is spent
-pub quantum_piece : (old new : PacedState) (mid : HeapState) (result : Result Spent BudgetOutOfRange) → IsBudget old.counts.budget → (old.heap.phase ≢ phases.Idle) × (mid ≡ old.heap) → Spends mid old.counts.budget new.heap result
-    → ((units : ℕ) (phase : Phase) → new.counts ≡ counted old.counts (Quantum_done old.counts.budget units phase)) → DoesPiece old false new
-quantum_piece old new mid (Ok spent) good busy s counts = record {
-  event = Quantum_done old.counts.budget spent.units spent.phase;
-  is_piece = (refl, busy.0);
-  does = subst (λ h. DoesOn h (Quantum_done old.counts.budget spent.units spent.phase) new.heap) busy.1 s;
-  counts = counts spent.units spent.phase;
-}
-quantum_piece old new mid (Err refused) good busy s counts = absurd (s.0 good)
+pub quantum_piece : (old new : PacedView) (mid : HeapState) (result : Result Spent BudgetOutOfRange) → IsBudget old.pacer.counts.budget → (old.heap.phase ≢ phases.Idle) × (mid ≡ old.heap)
+    → Spends mid old.pacer.counts.budget new.heap result → new.cycles ≡ cycles_after (quantum_done old.pacer.counts.budget result) mid new.heap old.cycles
+    → ((units : ℕ) (phase : Phase) → new.pacer.counts ≡ counted old.pacer.counts (Quantum_done old.pacer.counts.budget units phase)) → DoesPiece old false new
+quantum_piece old new mid (Ok spent) good busy s cycles counts =
+    let e = Quantum_done old.pacer.counts.budget spent.units spent.phase in
+    record {
+      event = e;
+      is_piece = (refl, busy.0);
+      does = subst (λ h. DoesOn h e new.heap) busy.1 s;
+      counts = counts spent.units spent.phase;
+      cycles = subst (λ h. new.cycles ≡ cycles_after e h new.heap old.cycles) busy.1 cycles;
+    }
+quantum_piece old new mid (Err refused) good busy s cycles counts = absurd (s.0 good)
 
 pub runs_on : (p : Phase) → p ≢ phases.Idle → in_cycle p ≡ true
 runs_on phases.Idle n = absurd (n refl)
@@ -67,7 +73,7 @@ quantum_less old new units phase some busy q ends spends words low =
     omega (arith, first, now, later)
 
 pub spent_less : (old new : PacedState) (mid : HeapState) (result : Result Spent BudgetOutOfRange) → IsBudget old.counts.budget → (old.heap.phase ≢ phases.Idle) × (mid ≡ old.heap) → Spends mid old.counts.budget new.heap result
-    → IfOk result (λ s. (s.phase ≡ phases.Idle) ⊎ (old.counts.budget < s.units + 256)) → new.counts.words ≡ old.counts.words → old.heap.units ≤ cycle_limit old.heap → work_left new < work_left old
+    → EndsOrSpends old.counts.budget result → new.counts.words ≡ old.counts.words → old.heap.units ≤ cycle_limit old.heap → work_left new < work_left old
 spent_less old new mid (Ok spent) good busy s spends words low =
     quantum_less old new spent.units spent.phase good.0 busy.0 (subst (λ h. QuantumSpends h old.counts.budget new.heap spent.units) busy.1 s.1) s.2 spends words low
 spent_less old new mid (Err refused) good busy s spends words low = absurd (s.0 good)
@@ -122,12 +128,13 @@ counts_more (Quantum_done budget units phase ∷ es) e = let i = counts_more es 
 counts_more (Quantum_refused budget ∷ es) e = counts_more es e
 
 -- a piece more was done
-pub worked_more : (words : ℕ) (old now new : PacedState) (quanta cycles more begun : ℕ) (began : Bool) → HasWorked words old now quanta cycles → (MayAsk now words → ⊥) → DoesPiece now began new
+pub worked_more : (words : ℕ) (old now new : PacedView) (quanta cycles more begun : ℕ) (began : Bool) → HasWorked words old now quanta cycles → (MayAsk (state_of now) words → ⊥) → DoesPiece now began new
     → more ≡ min (quanta + quanta_by began) (2 ^ 64 - 1) → begun ≡ min (cycles + cycles_by began) (2 ^ 64 - 1) → HasWorked words old new more begun
 worked_more words old now new quanta cycles more begun began w none p q b = record {
   work = w.work ++ p.event ∷ [];
-  path = path_then (WorksFor words) w.work (p.event ∷ []) old now new w.path (new, works_for words now began p.event p.is_piece none, p.does, p.counts, refl);
-  quanta_done = (let c = counts_more w.work p.event in let n = c.0 in let x = piece_counts now began p.event p.is_piece in let y = x.0 in let v = w.quanta_done in omega (arith, n, y, v, q));
-  cycles_begun = (let c = counts_more w.work p.event in let n = c.1 in let x = piece_counts now began p.event p.is_piece in let y = x.1 in let v = w.cycles_begun in omega (arith, n, y, v, b));
-  plan = ap (λ (t : Counts). t.plan) p.counts ∙ same_plan now.counts p.event ∙ w.plan;
+  path = path_then (WorksFor words) w.work (p.event ∷ []) (state_of old) (state_of now) (state_of new) w.path (state_of new, works_for words (state_of now) began p.event p.is_piece none, p.does, p.counts, refl);
+  counts = cycles_then w.work (p.event ∷ []) old.heap now.heap new.heap old.cycles now.cycles new.cycles w.counts (new.heap, p.does, (refl, p.cycles));
+  quanta_done = (let c = counts_more w.work p.event in let n = c.0 in let x = piece_counts (state_of now) began p.event p.is_piece in let y = x.0 in let v = w.quanta_done in omega (arith, n, y, v, q));
+  cycles_begun = (let c = counts_more w.work p.event in let n = c.1 in let x = piece_counts (state_of now) began p.event p.is_piece in let y = x.1 in let v = w.cycles_begun in omega (arith, n, y, v, b));
+  plan = ap (λ (t : Counts). t.plan) p.counts ∙ same_plan now.pacer.counts p.event ∙ w.plan;
 }

@@ -4,8 +4,9 @@ use Rattle.std.specs.Prelude.{max}
 use Rattle.heap_model.specs.Event.{quanta_in}
 use Rattle.heap_model.specs.ReachedFrom.{cycles_in}
 use Rattle.paced.specs.declared.figures.Figures.{Figures}
-use Rattle.paced.specs.Pacing.{PacerView, PacedView, paced_by, state_of, saturated, MayAsk}
-use Rattle.paced.specs.Working.{KeepsAgreeing, DoesPiece}
+use Rattle.paced.specs.Cycles.{saturated}
+use Rattle.paced.specs.Pacing.{PacerView, PacedView, paced_by, state_by, state_of, KeepsAgreeing, MayAsk}
+use Rattle.paced.specs.Working.{DoesPiece}
 use Rattle.paced.specs.Bounds.{pieces_left, Prepares}
 use Rattle.paced.proofs.Pieces.{works_for, piece_counts, quanta_by, cycles_by}
 
@@ -17,12 +18,12 @@ few_pieces : (began : Bool) → saturated (quanta_by began) ≡ quanta_by began
 few_pieces true = refl
 few_pieces false = refl
 
-pub prepared : (old mid : PacedView) (q : PacerView) (words : ℕ) (began : Bool) (left quanta cycles : ℕ) (was : Figures) → (MayAsk (state_of old) words → ⊥) → DoesPiece (state_of old) began (state_of mid) → q.counts ≡ mid.pacer.counts
+pub prepared : (old mid : PacedView) (q : PacerView) (words : ℕ) (began : Bool) (left quanta cycles : ℕ) (was : Figures) → (MayAsk (state_of old) words → ⊥) → DoesPiece old began mid → q.counts ≡ mid.pacer.counts
     → quanta ≡ quanta_by began → cycles ≡ cycles_by began → was ≡ old.pacer.figures → q.figures ≡ figured was quanta cycles quanta → KeepsAgreeing old.heap mid.heap
-    → (left ≡ 0 → MayAsk (state_of (paced_by q mid.heap)) words) → (0 < left → MayAsk (state_of (paced_by q mid.heap)) words → ⊥) → (0 < left → left ≡ max (pieces_left (state_of (paced_by q mid.heap)) words) 1) → Prepares old words left (paced_by q mid.heap)
+    → (left ≡ 0 → MayAsk (state_by q mid.heap) words) → (0 < left → MayAsk (state_by q mid.heap) words → ⊥) → (0 < left → left ≡ max (pieces_left (state_by q mid.heap) words) 1) → Prepares old words left (paced_by q mid.heap mid.cycles)
 prepared old mid q words began left quanta cycles was none piece same quanta_is cycles_is was_is figures agrees ready due told = record {
   work = piece.event ∷ [];
-  works = (state_of (paced_by q mid.heap), works_for words (state_of old) began piece.event piece.is_piece none, piece.does, same ∙ piece.counts, refl);
+  works = (state_by q mid.heap, works_for words (state_of old) began piece.event piece.is_piece none, piece.does, same ∙ piece.counts, refl);
   least = λ due. omega arith;
   most = omega arith;
   figures = figures
@@ -30,6 +31,7 @@ prepared old mid q words began left quanta cycles was none piece same quanta_is 
       ∙ ap (λ n. figured old.pacer.figures n cycles n) (quanta_is ∙ sym n.0)
       ∙ ap (λ m. figured old.pacer.figures (quanta_in (piece.event ∷ [])) m (quanta_in (piece.event ∷ []))) (cycles_is ∙ sym n.1)
       ∙ ap (λ k. figured old.pacer.figures (quanta_in (piece.event ∷ [])) (cycles_in (piece.event ∷ [])) k) (n.0 ∙ sym (few_pieces began) ∙ ap saturated (sym n.0));
+  cycles = (mid.heap, piece.does, (refl, piece.cycles));
   agrees = agrees;
   ready = ready;
   due = due;

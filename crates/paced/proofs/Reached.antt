@@ -22,7 +22,8 @@ use Rattle.fragmentation.specs.Configured.{roots_in}
 use Rattle.fragmentation.proofs.Flows.Lasting.{counted_few}
 use Rattle.machine.specs.Plan.{Steps}
 use Rattle.paced.specs.declared.plan.Plan.{Plan}
-use Rattle.paced.specs.Pacing.{Counts, PacedState, saturated, counted, DoesOn, Path, KeepsPlan}
+use Rattle.paced.specs.Cycles.{saturated, DoesOn}
+use Rattle.paced.specs.Pacing.{Counts, PacedState, counted, Path, KeepsPlan}
 use Rattle.paced.specs.Rooms.{planned_flow, IsJustPaced}
 use Rattle.paced.specs.Planning.{quanta_on}
 use Rattle.paced.specs.Bounds.{LastsWith, LiveWithinPlan}

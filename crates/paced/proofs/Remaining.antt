@@ -9,7 +9,8 @@ use Rattle.heap_model.specs.State.{HeapState}
 use Rattle.heap_model.specs.Event.{Event, Command_done, Cycle_begun, Begin_refused, Quantum_done, Quantum_refused}
 use Rattle.space.specs.Pace.{in_cycle}
 use Rattle.paced.specs.declared.plan.Plan.{Plan}
-use Rattle.paced.specs.Pacing.{Counts, PacedState, saturated, Path, MayAsk, KeepsPlan, WorksFor}
+use Rattle.paced.specs.Cycles.{saturated}
+use Rattle.paced.specs.Pacing.{Counts, PacedState, Path, MayAsk, KeepsPlan, WorksFor}
 use Rattle.paced.specs.Rooms.{IsJustPaced}
 use Rattle.paced.specs.Bounds.{LastsWith, LiveWithinPlan, pieces_left}
 use Rattle.paced.proofs.Pieces.{runs_on}

@@ -22,7 +22,8 @@ use Rattle.fragmentation.proofs.Flows.Words.{words_more}
 use Rattle.machine.specs.Plan.{Steps}
 use Rattle.machine.proofs.Events.{command_event, begin_event, quantum_event}
 use Rattle.paced.specs.declared.plan.Plan.{Plan}
-use Rattle.paced.specs.Pacing.{Counts, PacedState, saturated, counted, DoesOn, Path, MayAsk, KeepsPlan}
+use Rattle.paced.specs.Cycles.{saturated, DoesOn}
+use Rattle.paced.specs.Pacing.{Counts, PacedState, counted, Path, MayAsk, KeepsPlan}
 use Rattle.paced.specs.Rooms.{planned_flow}
 
 -- an event on a heap is one of each history that leads to the heap

@@ -9,7 +9,8 @@ use Rattle.heap_model.specs.declared.phase.Phase.TheVariants as phases
 use Rattle.heap_model.specs.Event.{Event, Command_done, Cycle_begun, Begin_refused, Quantum_done, Quantum_refused, quanta_in}
 use Rattle.space.specs.Pace.{in_cycle}
 use Rattle.paced.specs.declared.plan.Plan.{Plan}
-use Rattle.paced.specs.Pacing.{Counts, PacedState, saturated, counted, DoesOn, Path, MayAsk, KeepsPlan, WorksFor}
+use Rattle.paced.specs.Cycles.{saturated, DoesOn}
+use Rattle.paced.specs.Pacing.{Counts, PacedState, counted, Path, MayAsk, KeepsPlan, WorksFor}
 use Rattle.paced.specs.Rooms.{IsJustPaced}
 use Rattle.paced.specs.Bounds.{LastsWith, LiveWithinPlan, most_for_one}
 use Rattle.paced.proofs.Pieces.{runs_on}

@@ -13,7 +13,8 @@ use Rattle.space.specs.Pace.{in_cycle}
 use Rattle.space.specs.Room.{asks}
 use Rattle.fragmentation.specs.Flow.{words_of}
 use Rattle.paced.specs.declared.plan.Plan.{Plan}
-use Rattle.paced.specs.Pacing.{Counts, PacedState, saturated, counted, DoesOn, Path, MayAsk, KeepsPlan, WorksFor}
+use Rattle.paced.specs.Cycles.{saturated, DoesOn}
+use Rattle.paced.specs.Pacing.{Counts, PacedState, counted, Path, MayAsk, KeepsPlan, WorksFor}
 use Rattle.paced.specs.Rooms.{IsJustPaced}
 use Rattle.paced.specs.Bounds.{words_in, Deed, AreDone, events_of, quanta_paid, units_paid, words_asked, AsksWithin, LastsWith, LiveWithinPlan, KeepsToWords}
 use Rattle.paced.proofs.Pieces.{runs_on}

@@ -1,9 +1,7 @@
 -- How much the collector works for what a program does, over any stretch of it.
 use Rattle.std.specs.Prelude.{◌≡◌, ℕ, ◌+◌, ◌-◌, ◌*◌, ◌/◌, ◌^◌, ◌<◌, ◌≤◌, max, if◌then◌else◌, Result, Ok, Err, List, [], ◌∷◌, ◌++◌, length}
-use Rattle.graph_heap.specs.Graph.{Graph}
 use Rattle.size_classes.specs.declared.config.Config.{Config}
 use Rattle.size_classes.specs.Config.{limits_of}
-use Rattle.heap_model.specs.Agreement.{Agrees}
 use Rattle.heap_model.specs.Event.{Event, Command_done, Cycle_begun, quanta_in}
 use Rattle.heap_model.specs.ReachedFrom.{units_in}
 use Rattle.space.specs.Pace.{in_cycle}
@@ -11,7 +9,8 @@ use Rattle.space.specs.Room.{asks}
 use Rattle.fragmentation.specs.Flow.{words_of, opening_meter, LivesIn, AllMetered}
 use Rattle.paced.specs.declared.pacer.AbovePlan.{AbovePlan}
 use Rattle.paced.specs.declared.plan.Plan.{Plan}
-use Rattle.paced.specs.Pacing.{PacedState, PacedView, state_of, saturated, worked, counted, DoesOn, Path, MayAsk, WorksFor}
+use Rattle.paced.specs.Cycles.{saturated, DoesOn, CountsCycles}
+use Rattle.paced.specs.Pacing.{PacedState, PacedView, state_of, KeepsAgreeing, worked, counted, Path, MayAsk, WorksFor}
 use Rattle.paced.specs.Rooms.{planned_flow}
 use Rattle.paced.specs.Planning.{quanta_on}
 
@@ -117,7 +116,8 @@ pub record Prepares (old : PacedView) (words : ℕ) (left : ℕ) (new : PacedVie
   pub least : (MayAsk (state_of old) words → ⊥) → 1 ≤ length work
   pub most : length work ≤ 1
   pub figures : new.pacer.figures ≡ worked old.pacer.figures work
-  pub agrees : (g : Graph) → Agrees old.heap g → Agrees new.heap g
+  pub cycles : CountsCycles old.heap old.cycles work new.heap new.cycles
+  pub agrees : KeepsAgreeing old.heap new.heap
   pub ready : left ≡ 0 → MayAsk (state_of new) words
   pub due : 0 < left → MayAsk (state_of new) words → ⊥
   pub told : 0 < left → left ≡ max (pieces_left (state_of new) words) 1

@@ -1,3 +1,4 @@
+pub mod Cycles
 pub mod Pacing
 pub mod Rooms
 pub mod Working

@@ -1,5 +1,5 @@
 -- What a pacer goes by, and what is done on a heap that it paces.
-use Rattle.std.specs.Prelude.{◌≡◌, ◌≢◌, ℕ, ◌+◌, ◌-◌, ◌*◌, ◌^◌, ◌<◌, ◌≤◌, true, nat_le, min, max, if◌then◌else◌, Result, Ok, Err, List, [], ◌∷◌}
+use Rattle.std.specs.Prelude.{◌≡◌, ◌≢◌, ℕ, ◌+◌, ◌*◌, ◌<◌, ◌≤◌, true, nat_le, max, if◌then◌else◌, Result, Ok, Err, List, [], ◌∷◌}
 use Rattle.graph_heap.specs.Graph.{Graph}
 use Rattle.graph_heap.specs.declared.command.Command.{Command}
 use Rattle.graph_heap.specs.declared.command.Command.TheVariants as commands
@@ -9,18 +9,18 @@ use Rattle.graph_heap.specs.Shape.{fits}
 use Rattle.size_classes.specs.Need.{needed}
 use Rattle.heap_model.specs.declared.phase.Phase.TheVariants as phases
 use Rattle.heap_model.specs.State.{HeapState}
-use Rattle.heap_model.specs.Action.{begun}
-use Rattle.heap_model.specs.QuantumSpending.{QuantumSpends}
 use Rattle.heap_model.specs.Agreement.{Agrees}
-use Rattle.heap_model.specs.Event.{Event, Command_done, Cycle_begun, Begin_refused, Quantum_done, Quantum_refused, IsBudget, quanta_in}
+use Rattle.heap_model.specs.Event.{Event, Command_done, Cycle_begun, Begin_refused, Quantum_done, Quantum_refused, quanta_in}
 use Rattle.heap_model.specs.ReachedFrom.{cycles_in}
 use Rattle.space.specs.Pace.{in_cycle}
 use Rattle.space.specs.Room.{asks}
 use Rattle.fragmentation.specs.Flow.{words_of}
 use Rattle.machine.specs.Plan.{Steps}
+use Rattle.paced.specs.declared.cycles.Cycles.{Cycles}
 use Rattle.paced.specs.declared.figures.Figures.{Figures}
 use Rattle.paced.specs.declared.pacer.AbovePlan.{AbovePlan}
 use Rattle.paced.specs.declared.plan.Plan.{Plan}
+use Rattle.paced.specs.Cycles.{saturated, DoesOn, CountsCycles}
 
 -- What a pacer goes by: its plan; the budget of its own quanta, which is the least of one that it counts; and the words of
 -- blocks that were asked for, and the quanta that were done, since the last cycle began.
@@ -40,22 +40,23 @@ pub record PacedState : Type 0 where
   pub heap : HeapState
   pub counts : Counts
 
--- a heap with its pacer
+-- a heap with its cycles and its pacer
 pub record PacedView : Type 0 where
   pub heap : HeapState
+  pub cycles : Cycles
   pub pacer : PacerView
 
--- a heap that a pacer paces
-abbrev pub paced_by : PacerView → HeapState → PacedView
-paced_by p h = record { heap = h; pacer = p }
+-- a heap with its cycles, that a pacer paces
+abbrev pub paced_by : PacerView → HeapState → Cycles → PacedView
+paced_by p h c = record { heap = h; cycles = c; pacer = p }
+
+-- a heap, and what the pacer goes by that paces it
+abbrev pub state_by : PacerView → HeapState → PacedState
+state_by p h = record { heap = h; counts = p.counts }
 
 -- the heap, and what its pacer goes by, without the figures
 abbrev pub state_of : PacedView → PacedState
-state_of v = record { heap = v.heap; counts = v.pacer.counts }
-
--- the number, or the most that 64 bits hold
-abbrev pub saturated : ℕ → ℕ
-saturated n = min n (2 ^ 64 - 1)
+state_of v = state_by v.pacer v.heap
 
 -- What a pacer goes by after one more event: a beginning zeroes its counts, and a quantum counts if its budget is no
 -- smaller than the pacer's.
@@ -66,15 +67,6 @@ counted t Begin_refused = t
 counted t (Quantum_done budget units phase) =
     record t { quanta = if nat_le t.budget budget then saturated (t.quanta + 1) else t.quanta }
 counted t (Quantum_refused budget) = t
-
--- an event is done on a heap, whatever its history
-abbrev pub DoesOn : HeapState → Event → HeapState → Type 0
-DoesOn h (Command_done m c reply) after = Steps h m c reply after
-DoesOn h Cycle_begun after = (h.phase ≡ phases.Idle) × (after ≡ begun h)
-DoesOn h Begin_refused after = (h.phase ≢ phases.Idle) × (after ≡ h)
-DoesOn h (Quantum_done budget units phase) after = IsBudget budget × QuantumSpends h budget after units
-    × (phase ≡ after.phase)
-DoesOn h (Quantum_refused budget) after = (IsBudget budget → ⊥) × (after ≡ h)
 
 -- Events are done on a heap, one after the other, each where it passes, and its pacer counts them.
 abbrev pub Path : (PacedState → Event → Type 0) → PacedState → List Event → PacedState → Type 0
@@ -119,8 +111,12 @@ worked f es = record {
   most_quanta = max f.most_quanta (saturated (quanta_in es));
 }
 
+-- each graph heap with which the heap agreed is one with which it agrees
+abbrev pub KeepsAgreeing : HeapState → HeapState → Type 0
+KeepsAgreeing old new = (g : Graph) → Agrees old g → Agrees new g
+
 -- Words are paid for: the collector works until they may be asked for, and no longer; its work is entered in the figures,
--- and the words are counted. Each graph heap with which the heap agreed is one with which it agrees.
+-- its cycles and the words are counted. Each graph heap with which the heap agreed is one with which it agrees.
 pub record Pays (old : PacedView) (words : ℕ) (new : PacedView) : Type 0 where
   pub work : List Event
   pub before : Counts
@@ -128,7 +124,8 @@ pub record Pays (old : PacedView) (words : ℕ) (new : PacedView) : Type 0 where
   pub may : MayAsk (record { heap = new.heap; counts = before }) words
   pub counts : new.pacer.counts ≡ record before { words = before.words + words }
   pub figures : new.pacer.figures ≡ worked old.pacer.figures work
-  pub agrees : (g : Graph) → Agrees old.heap g → Agrees new.heap g
+  pub cycles : CountsCycles old.heap old.cycles work new.heap new.cycles
+  pub agrees : KeepsAgreeing old.heap new.heap
 
 -- the words of the blocks that an object of a shape needs, or none where the shape is too large
 abbrev pub shape_words : Shape → ℕ
@@ -145,6 +142,7 @@ abbrev pub Calls : PacedView → ℕ → Command → Result Reply AbovePlan → 
 Calls old m c (Err above) new = (old.pacer.counts.plan.cycle_words < words_of (asks c)) × (new ≡ old)
 Calls old m c (Ok reply) new = (words_of (asks c) ≤ old.pacer.counts.plan.cycle_words) × (mid : PacedView)
     × Pays old (words_of (asks c)) mid × Steps mid.heap m c reply new.heap × (new.pacer ≡ mid.pacer)
+    × (new.cycles ≡ mid.cycles)
 
 -- the pacer has counted an event, and entered nothing in its figures
 abbrev pub Counted : PacerView → Event → PacerView → Type 0

@@ -1,6 +1,6 @@
 //! What a pacer's collector did.
 ghost use Rattle.std.specs.Prelude.{◌≡◌, ◌+◌, max};
-ghost use Rattle.paced.specs.Pacing.{saturated};
+ghost use Rattle.paced.specs.Cycles.{saturated};
 
 /// What the collector did because a pacer wanted it, since the pacer was made: what a program had it do besides isn't
 /// counted. A figure that has come to the most that it can hold stays there.

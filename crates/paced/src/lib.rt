@@ -3,6 +3,7 @@
 #![tactic(auto)]
 
 pub mod asking;
+pub mod cycles;
 pub mod figures;
 mod laws;
 pub mod pacer;
@@ -10,6 +11,7 @@ pub mod plan;
 mod quanta;
 
 pub use asking::words_of_shape;
+pub use cycles::{Cycle, Cycles};
 pub use figures::Figures;
 pub use laws::{
     calls_are_deeds, heaps_of_some_classes_find_room, objects_cost_few_quanta,

@@ -1,18 +1,19 @@
 //! What paces a heap that its caller lends.
-ghost use Rattle.std.specs.Prelude.{◌≡◌, ◌⊎◌, ℕ, ◌+◌, ◌<◌, ◌*◌, ◌≤◌, true, false, max, IfOk};
+ghost use Rattle.std.specs.Prelude.{◌≡◌, ◌⊎◌, ℕ, ◌+◌, ◌<◌, ◌*◌, ◌≤◌, true, false, max};
 ghost use Rattle.heap_model.specs.declared.phase.Phase.{Phase};
-ghost use Rattle.heap_model.specs.declared.phase.Phase.TheVariants as phases;
 ghost use Rattle.heap_model.specs.Event.{Cycle_begun, Quantum_done};
 ghost use Rattle.heap_model.specs.Spent.{cycle_limit};
 ghost use Rattle.space.specs.Pace.{in_cycle};
 ghost use Rattle.machine.specs.Collecting.{Begins, Spends};
 ghost use Rattle.machine.specs.Recorded.{begin_done, quantum_done};
-ghost use Rattle.paced.specs.Pacing.{paced_by, state_of, shape_words, MayAsk, Paced, PaysUnless, Counted};
+ghost use Rattle.paced.specs.Cycles.{cycles_after, EndsOrSpends};
+ghost use Rattle.paced.specs.Pacing.{paced_by, state_by, shape_words, KeepsAgreeing, MayAsk, Paced, PaysUnless, Counted};
 ghost use Rattle.paced.specs.Rooms.{first_pacer};
-ghost use Rattle.paced.specs.Working.{KeepsAgreeing, DoesPiece, work_left};
+ghost use Rattle.paced.specs.Working.{DoesPiece, work_left};
 ghost use Rattle.paced.specs.Bounds.{pieces_left, PreparesUnless};
 
 use crate::asking::words_of_shape;
+use crate::cycles::Cycles;
 use crate::figures::Figures;
 use crate::plan::Plan;
 use graph_heap::Shape;
@@ -26,9 +27,9 @@ use thiserror::Error;
 #[error("object above the words of a cycle")]
 pub struct AbovePlan;
 
-/// A plan, and what is counted for it. It paces one heap, which its caller lends to each call: all that makes objects,
-/// begins cycles and spends quanta on that heap goes through the pacer. It takes no memory. Contracts see the plan, the
-/// budget of a quantum, what is counted, and the figures.
+/// A plan, and what is counted for it. It paces one heap, which its caller lends to each call with the heap's cycles: all that
+/// makes objects, begins cycles and spends quanta on that heap goes through the pacer. It takes no memory. Contracts see the
+/// plan, the budget of a quantum, what is counted, and the figures.
 #[derive(Drop)]
 pub struct Pacer {
     plan: Plan,
@@ -70,20 +71,6 @@ impl Pacer {
         }
     }
 
-    /// The plan.
-    pub fn plan(&self) -> Plan
-        ensures { result ≡ self.now.counts.plan }
-    {
-        self.plan
-    }
-
-    /// The units of a quantum that it spends, which is the least budget of one that it counts.
-    pub fn budget(&self) -> u32
-        ensures { result ≡ self.now.counts.budget }
-    {
-        self.budget
-    }
-
     /// What the collector did because the pacer wanted it.
     pub fn figures(&self) -> Figures
         ensures { result ≡ self.now.figures }
@@ -93,8 +80,8 @@ impl Pacer {
 
     /// Whether this many words may be asked for now.
     fn allows(&self, heap: &Heap, words: u64) -> bool
-        ensures yes { result ≡ true → MayAsk (state_of (paced_by self.now heap.now)) words }
-        ensures no { result ≡ false → MayAsk (state_of (paced_by self.now heap.now)) words → ⊥ }
+        ensures yes { result ≡ true → MayAsk (state_by self.now heap.now) words }
+        ensures no { result ≡ false → MayAsk (state_by self.now heap.now) words → ⊥ }
         ensures behind { result ≡ false → words ≤ self.now.counts.plan.cycle_words
             → (in_cycle heap.now.phase ≡ true) ⊎ (0 < self.now.counts.words) }
         ensures within { heap.now.units ≤ cycle_limit heap.now }
@@ -132,23 +119,23 @@ impl Pacer {
     }
 
     /// Begins a cycle, or spends a quantum on the one that is running; and whether it began one.
-    fn work(&mut self, heap: &mut Heap) -> bool
+    fn work(&mut self, heap: &mut Heap, cycles: &mut Cycles) -> bool
         requires { heap.old.units ≤ cycle_limit heap.old }
-        ensures piece { DoesPiece (state_of (paced_by self.old heap.old)) result
-            (state_of (paced_by self.new heap.new)) }
+        ensures piece { DoesPiece (paced_by self.old heap.old cycles.old) result
+            (paced_by self.new heap.new cycles.new) }
         ensures figures { self.new.figures ≡ self.old.figures }
         ensures agrees { KeepsAgreeing heap.old heap.new }
         ensures less { (in_cycle heap.old.phase ≡ true) ⊎ (0 < self.old.counts.words)
-            → work_left (state_of (paced_by self.new heap.new)) < work_left (state_of (paced_by self.old heap.old)) }
+            → work_left (state_by self.new heap.new) < work_left (state_by self.old heap.old) }
     {
         let budget = self.budget;
-        match heap.begin() {
+        match cycles.begin(heap) {
             Ok(()) => {
                 self.count_begin();
                 true
             }
             Err(_busy) => {
-                let _spent = heap.quantum(budget);
+                let _spent = cycles.quantum(heap, budget);
                 self.count_quantum(budget);
                 false
             }
@@ -157,36 +144,43 @@ impl Pacer {
 
     /// Has the collector work until this many words may be asked for, and counts them. Where they are more than a whole
     /// cycle has, nothing is done.
-    fn pay(&mut self, heap: &mut Heap, words: u64) -> Result<(), AbovePlan>
-        ensures { PaysUnless (paced_by self.old heap.old) words result (paced_by self.new heap.new) }
+    fn pay(&mut self, heap: &mut Heap, cycles: &mut Cycles, words: u64) -> Result<(), AbovePlan>
+        ensures { PaysUnless (paced_by self.old heap.old cycles.old) words result
+            (paced_by self.new heap.new cycles.new) }
     {
         if words > self.plan.cycle_words {
             return Err(AbovePlan);
         }
         let mut quanta = 0u64;
-        let mut cycles = 0u64;
+        let mut begun = 0u64;
         while !self.allows(heap, words) {
-            let began = self.work(heap);
-            cycles = cycles.saturating_add(u64::from(began));
+            let began = self.work(heap, cycles);
+            begun = begun.saturating_add(u64::from(began));
             quanta = quanta.saturating_add(u64::from(!began));
         }
-        self.figures = self.figures.with_work(quanta, cycles);
+        self.figures = self.figures.with_work(quanta, begun);
         self.words += words;
         Ok(())
     }
 
     /// Has the collector work as much as the plan wants for a new object of this shape, and no more, and counts its words:
     /// its caller makes the object on the heap then. Where it has more words than a whole cycle has, nothing is done.
-    pub fn pay_for(&mut self, heap: &mut Heap, shape: Shape) -> Result<(), AbovePlan>
-        ensures { PaysUnless (paced_by self.old heap.old) (shape_words shape) result (paced_by self.new heap.new) }
+    pub fn pay_for(
+        &mut self,
+        heap: &mut Heap,
+        cycles: &mut Cycles,
+        shape: Shape,
+    ) -> Result<(), AbovePlan>
+        ensures { PaysUnless (paced_by self.old heap.old cycles.old) (shape_words shape) result
+            (paced_by self.new heap.new cycles.new) }
     {
         let words = words_of_shape(&shape);
-        self.pay(heap, words)
+        self.pay(heap, cycles, words)
     }
 
     /// Returns the most pieces of work that are left for this many words, if they may not be asked for yet.
     fn pieces_left(&self, heap: &Heap, words: u64) -> u64
-        ensures { result ≡ pieces_left (state_of (paced_by self.now heap.now)) words }
+        ensures { result ≡ pieces_left (state_by self.now heap.now) words }
     {
         let each = self.plan.quantum_words.max(1);
         let more = words.saturating_sub(1);
@@ -200,9 +194,9 @@ impl Pacer {
 
     /// Returns the most pieces that are left: none exactly if the words may be asked for.
     fn left(&self, heap: &Heap, words: u64) -> u64
-        ensures ready { result ≡ 0 → MayAsk (state_of (paced_by self.now heap.now)) words }
-        ensures due { 0 < result → MayAsk (state_of (paced_by self.now heap.now)) words → ⊥ }
-        ensures told { 0 < result → result ≡ max (pieces_left (state_of (paced_by self.now heap.now)) words) 1 }
+        ensures ready { result ≡ 0 → MayAsk (state_by self.now heap.now) words }
+        ensures due { 0 < result → MayAsk (state_by self.now heap.now) words → ⊥ }
+        ensures told { 0 < result → result ≡ max (pieces_left (state_by self.now heap.now) words) 1 }
     {
         if self.allows(heap, words) {
             return 0;
@@ -214,9 +208,15 @@ impl Pacer {
     /// Returns how many pieces are left at most, if the plan lasts and leaves room for the words. If none is left, objects of no
     /// more words in all are then made without work, until the program itself begins a cycle. It counts no words. If the words
     /// are more than a whole cycle has, it does nothing, and returns `AbovePlan`.
-    pub fn prepare(&mut self, heap: &mut Heap, words: u64) -> Result<u64, AbovePlan>
-        ensures prepares { PreparesUnless (paced_by self.old heap.old) words result (paced_by self.new heap.new) }
-        ensures paced { Paced (state_of (paced_by self.old heap.old)) (state_of (paced_by self.new heap.new)) }
+    pub fn prepare(
+        &mut self,
+        heap: &mut Heap,
+        cycles: &mut Cycles,
+        words: u64,
+    ) -> Result<u64, AbovePlan>
+        ensures prepares { PreparesUnless (paced_by self.old heap.old cycles.old) words result
+            (paced_by self.new heap.new cycles.new) }
+        ensures paced { Paced (state_by self.old heap.old) (state_by self.new heap.new) }
     {
         if self.plan.cycle_words < words {
             return Err(AbovePlan);
@@ -224,34 +224,41 @@ impl Pacer {
         if self.allows(heap, words) {
             return Ok(0);
         }
-        let began = self.work(heap);
+        let began = self.work(heap, cycles);
         self.figures = self.figures.with_work(u64::from(!began), u64::from(began));
         Ok(self.left(heap, words))
     }
 
     /// Begins a cycle, sooner than the plan wants it: what is live is then to be within the flow. Refused while one is
     /// running, and then nothing changes.
-    pub fn begin(&mut self, heap: &mut Heap) -> Result<(), Busy>
+    pub fn begin(&mut self, heap: &mut Heap, cycles: &mut Cycles) -> Result<(), Busy>
         ensures begins { Begins heap.old heap.new result }
         ensures agrees { KeepsAgreeing heap.old heap.new }
+        ensures cycles { cycles.new ≡ cycles_after (begin_done result) heap.old heap.new cycles.old }
         ensures counted { Counted self.old (begin_done result) self.new }
-        ensures paced { Paced (state_of (paced_by self.old heap.old)) (state_of (paced_by self.new heap.new)) }
+        ensures paced { Paced (state_by self.old heap.old) (state_by self.new heap.new) }
     {
-        heap.begin()?;
+        cycles.begin(heap)?;
         self.count_begin();
         Ok(())
     }
 
     /// Spends units of a budget on the cycle that is running, besides what the plan wants. Words may be asked for it if
     /// the budget is the plan's or greater. Refused outside `LEAST_BUDGET` to `MOST_BUDGET`, and then nothing changes.
-    pub fn quantum(&mut self, heap: &mut Heap, budget: u32) -> Result<Spent, BudgetOutOfRange>
+    pub fn quantum(
+        &mut self,
+        heap: &mut Heap,
+        cycles: &mut Cycles,
+        budget: u32,
+    ) -> Result<Spent, BudgetOutOfRange>
         ensures spends { Spends heap.old budget heap.new result }
-        ensures ends { IfOk result (λ s. (s.phase ≡ phases.Idle) ⊎ (budget < s.units + 256)) }
+        ensures ends { EndsOrSpends budget result }
         ensures agrees { KeepsAgreeing heap.old heap.new }
+        ensures cycles { cycles.new ≡ cycles_after (quantum_done budget result) heap.old heap.new cycles.old }
         ensures counted { Counted self.old (quantum_done budget result) self.new }
-        ensures paced { Paced (state_of (paced_by self.old heap.old)) (state_of (paced_by self.new heap.new)) }
+        ensures paced { Paced (state_by self.old heap.old) (state_by self.new heap.new) }
     {
-        let spent = heap.quantum(budget)?;
+        let spent = cycles.quantum(heap, budget)?;
         self.count_quantum(budget);
         Ok(spent)
     }

@@ -4,7 +4,7 @@ use Rattle.std.specs.Prelude.{nat_lt, slice_index}
 use Rattle.graph_heap.specs.Graph.{Object, no_object, object_of}
 use Rattle.paced.specs.Rooms.{among}
 
--- of the first n classes those of which there are blocks
+-- those of the first n classes of which there are blocks
 abbrev pub AreUsed : List ℕ → ℕ → List ℕ → Type 0
 AreUsed blocks n used = (class : ℕ) → among used class ≡ (nat_lt class n && nat_lt 0 (slice_index blocks class))
 

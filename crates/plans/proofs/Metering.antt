@@ -23,7 +23,8 @@ use Rattle.heap_model.specs.Event.{Course, Event, Command_done, Does, Runs, Ente
 use Rattle.heap_model.proofs.Agreements.Implied.{consistent_agrees}
 use Rattle.heap_model.proofs.Event.Kept.{founded, present_row, enters_step, enters_present, enters_graph, begins_present, collects_present, does_course, runs_course, opening_course}
 use Rattle.machine.proofs.Courses.{runs_then}
-use Rattle.paced.specs.Pacing.{saturated, shape_words}
+use Rattle.paced.specs.Cycles.{saturated}
+use Rattle.paced.specs.Pacing.{shape_words}
 use Rattle.trace.specs.New.{IsNew}
 use Rattle.trace.specs.Observing.{Run, run_from, after_steps}
 use Rattle.trace.specs.Player.{PlayerState}

@@ -55,7 +55,7 @@ words_sum g fit (id ∷ ids) =
     let all = sum_by-cons (λ i. shape_words (object_of g.objects i).shape) id ids in
     omega (arith, first, both, whole, rest, all)
 
--- what is live has at most so many words exactly where the objects that can be reached have no more
+-- live objects have at most this many words if and only if the objects that can be reached have no more
 pub lives_least : (g : Graph) (ids : List ℕ) (words : ℕ) → AllFit g → AreReached g ids → ((id : ℕ) → Reaches g id → id ≤ length g.objects) → LivesWithin words g ↔ (words_by g ids ≤ words)
 lives_least g ids words fit all given = (
   λ w. (let m = words_more (blocks_by g ids) w.0 ((live_least g ids w.0 all given).0 w.1) in let s = words_sum g fit ids in let few = w.2 in omega (arith, m, s, few)),

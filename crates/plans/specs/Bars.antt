@@ -27,8 +27,8 @@ IsBar makes c live pages bar =
 abbrev pub AreBars : (ℕ → Bool) → Config → ℕ → List ℕ → List PlanBar → Type 0
 AreBars makes c live = OneForEach (IsBar makes c live)
 
--- the bars of the plans where so many words are live, and blocks are made of these size classes, if some are said: of the
--- numbers of pages of which the report tells
+-- the bars of the plans if live data has this many words: one for each number of pages that has a line in the report.
+-- If size classes are given, blocks are made of these alone
 pub record ArePlanBars (classes : Option (List ℕ)) (c : Config) (live : ℕ) (bars : List PlanBar) : Type 0 where
   pub least : Option ℕ
   pub is_least : IsLeastPagesFor (made_of classes) c live least
@@ -39,7 +39,7 @@ abbrev pub figures_row : ℕ → Option PlanFigures → List ℕ
 figures_row pages None = row_text pages (None ∷ None ∷ [])
 figures_row pages (Some plan) = row_text pages (Some plan.words ∷ Some plan.tenths ∷ [])
 
--- the row of a number of pages: the words for a quantum and the tenths of a unit for each word, where there is a plan
+-- the row of a number of pages: the words for a quantum and the tenths of a unit for each word, if there is a plan
 abbrev pub bar_row : PlanBar → List ℕ
 bar_row bar = figures_row bar.pages bar.plan
 
@@ -48,7 +48,7 @@ abbrev pub plans_table : ℕ → List PlanBar → List ℕ
 plans_table live bars = table_text
     (codes "\"live\":\"" ++ (decimal live ++ codes "\",\n\"plans\":[[\"pages\",\"words\",\"tenths\"]")) bar_row bars
 
--- the plans for this many live words and all size classes, where it is said how many are live
+-- the plans for this many live words and all size classes, if it is said how many are live
 abbrev pub PlansTable : Config → Option ℕ → List ℕ → Type 0
 PlansTable c None text = text ≡ []
 PlansTable c (Some live) text = (bars : List PlanBar) × ArePlanBars None c live bars × (text ≡ plans_table live bars)

@@ -17,27 +17,27 @@ use Rattle.paced.specs.Rooms.{among}
 use Rattle.plans.specs.declared.live.MostLive.{MostLive}
 use Rattle.plans.specs.Report.{IsPlansReport, IsClassesLine}
 
--- the blocks of what is live have at most so many words, headers included
+-- the blocks of live objects have at most this many words, headers included
 abbrev pub LivesWithin : ℕ → Graph → Type 0
 LivesWithin words g = (blocks : ℕ → ℕ) × LiveWithin g blocks × (words_of blocks ≤ words)
 
--- after each step of a run, so wherever a cycle may begin, the blocks of what is live have at most so many words
+-- after each step of a run, so whenever a cycle may begin, the blocks of live objects have at most this many words
 abbrev pub AllLiveWithin : ℕ → List Step → Type 0
 AllLiveWithin words steps = All (λ s. LivesWithin words (present_of s.after)) steps
 
--- The least number of words within which the blocks of what is live stay over the steps of a run; or, where that is more
--- than 64 bits hold, the greatest number that they hold.
+-- The least number of words within which the blocks of live objects stay over the steps of a run. If 64 bits don't hold
+-- it, the greatest number that they hold.
 abbrev pub IsMostLive : List Step → ℕ → Type 0
 IsMostLive steps most = (words : ℕ) → words < 2 ^ 64 - 1 → AllLiveWithin words steps ↔ (most ≤ words)
 
--- what is told of a run is its most live words, and how many blocks of each class its objects have, as far as these can be
--- represented
+-- the findings of a run: its most live words, and how many blocks of each class its objects have, as far as these can
+-- be represented
 pub record TellsMostLive (config : Config) (given : Given) (run : NewRun config given) (found : MostLive) : Type 0 where
   pub words : IsMostLive (run_by run.played).steps found.words
   pub blocks : AreBlocks found.blocks (blocks_of (present_of (run_by run.played).now).objects)
 
--- the lines of an input are played on a new player, and it is told how much is live at most and what is made; or it ends with
--- a fault
+-- the lines of an input are played on a new player, which gives the most live words and the blocks that were made; or
+-- it ends with a fault
 abbrev pub MostLiveFound : Config → Given → Result MostLive PlayFault → Type 0
 MostLiveFound = Surveyed TellsMostLive
 
@@ -45,8 +45,8 @@ MostLiveFound = Surveyed TellsMostLive
 abbrev pub AreClasses : List ℕ → List ℕ → Type 0
 AreClasses blocks used = (class : ℕ) → class < CLASSES → among used class ≡ nat_lt 0 (slice_index blocks class)
 
--- all that is told of the plans for the words that a run had live at most, and the fewest pages on which there is one where
--- blocks are made of those classes alone of which the run made some
+-- the report of the plans for the most live words of a run; and the fewest pages with a plan if blocks are made only of
+-- the classes that the run used
 pub record IsRunPlans (c : Config) (live : MostLive) (text : List ℕ) : Type 0 where
   pub report : List ℕ
   pub of_all : IsPlansReport None c live.words report

@@ -1,4 +1,4 @@
--- What a meter of live words holds.
+-- The fields of a meter of live words.
 use Rattle.std.specs.Prelude.{◌≡◌, ℕ, ◌+◌, ◌-◌, ◌^◌, ◌<◌, ◌≤◌, ◌⊎◌, true, List, length, max, sum_by}
 use Rattle.std.specs.List.{AllByRecursion}
 use Rattle.graph_heap.specs.Graph.{Graph, object_of}
@@ -8,7 +8,8 @@ use Rattle.heap_model.specs.Collector.{contains}
 use Rattle.heap_model.specs.Event.{Runs, present_of}
 use Rattle.heap_model.specs.Opening.{IsOpening}
 use Rattle.heap_model.specs.ReachedFrom.{opened}
-use Rattle.paced.specs.Pacing.{saturated, shape_words}
+use Rattle.paced.specs.Cycles.{saturated}
+use Rattle.paced.specs.Pacing.{shape_words}
 use Rattle.trace.specs.Observing.{Run}
 use Rattle.trace.specs.Steps.{events_of}
 use Rattle.plans.specs.declared.live.LiveMeter.{LiveMeter}
@@ -27,7 +28,7 @@ ReachedWords g words = (ids : List ℕ) × AreReached g ids × (words ≡ satura
 abbrev pub raised_bound : LiveMeter → Graph → ℕ
 raised_bound m g = saturated (m.bound + shape_words (object_of g.objects (length g.objects)).shape)
 
--- the last object was made: where no more can be live than before, that is noted; else what is live is measured
+-- the last object was made: if no more words can be live than before, that is noted; else live objects are measured
 abbrev pub MakesLast : LiveMeter → LiveMeter → Type 0
 MakesLast old new = (new.graph ≡ old.graph) × (
     ((raised_bound old old.graph ≤ old.most) × (new.bound ≡ raised_bound old old.graph) × (new.most ≡ old.most))
@@ -38,7 +39,7 @@ abbrev pub Counts : LiveMeter → Graph → LiveMeter → Type 0
 Counts old g new = ((length g.objects ≤ length old.graph.objects) × (new ≡ record old { graph = g }))
     ⊎ ((length old.graph.objects < length g.objects) × MakesLast (record old { graph = g }) new)
 
--- some of the objects of a graph heap, all among them that can be reached, have blocks of at most so many words
+-- some of the objects of a graph heap, all among them that can be reached, have blocks of at most this many words
 pub record IsBounded (g : Graph) (words : ℕ) : Type 0 where
   pub ids : List ℕ
   pub reached : (id : ℕ) → Reaches g id → contains ids id ≡ true

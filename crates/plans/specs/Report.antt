@@ -1,4 +1,4 @@
--- What is told of the plans for a number of live words: lines of text.
+-- The report of the plans for a number of live words: lines of text.
 use Rattle.std.specs.Prelude.{◌≡◌, ℕ, ◌+◌, ◌*◌, ◌/◌, nat_lt, if◌then◌else◌, Bool, true, List, [], ◌∷◌, ◌++◌, Option, Some, None, codes, decimal}
 use Rattle.std.specs.Int.{div_ceil}
 use Rattle.std.specs.List.{concat}
@@ -27,12 +27,12 @@ fewest_line (Some pages) = codes "fewest " ++ (decimal pages ++ (
     else codes ": pages = " ++ (decimal pages ++ (codes ", defrag_below = " ++ (decimal (pages + 1)
     ++ (codes ", defrag_pages = " ++ (decimal pages ++ codes "\n")))))))
 
--- tenths of a unit for each of these words, which cost so many units together, rounded up
+-- tenths of a unit for each of these words, which cost this many units together, rounded up
 abbrev pub tenths_of : ℕ → ℕ → ℕ
 tenths_of units words = div_ceil (10 * units) words
 
--- a plan on a configuration's pages, where so many words are live: the quanta that a cycle takes at most, the words that may
--- be asked for at each of them and in a whole cycle, and the tenths of a unit that the collector spends for each word
+-- a plan on a configuration's pages, for this many live words: the most quanta that a cycle takes, the words that may
+-- be requested at each of them and in a whole cycle, and the tenths of a unit that the collector spends for each word
 abbrev pub plan_line : Config → ℕ → Option Plan → List ℕ
 plan_line c live None = codes "pages " ++ (decimal c.pages ++ codes ": no plan\n")
 plan_line c live (Some plan) = codes "pages " ++ (decimal c.pages
@@ -42,8 +42,8 @@ plan_line c live (Some plan) = codes "pages " ++ (decimal c.pages
     ++ (codes " tenths " ++ (decimal (tenths_of (c.collector_ticks * c.rate) plan.quantum_words)
     ++ codes "\n")))))))))
 
--- the fastest plan on a number of pages, with a configuration that has as many, where every cycle moves and may empty all of
--- them, and blocks are made of these classes alone
+-- the fastest plan on a number of pages, with a configuration that has as many, in which every cycle moves and may
+-- empty all of them, and blocks are made of these classes alone
 pub record FastestOn (makes : ℕ → Bool) (c : Config) (live pages : ℕ) : Type 0 where
   pub on : Config
   pub is_on : IsOnPages c pages true on
@@ -60,12 +60,12 @@ pub record IsTable (makes : ℕ → Bool) (c : Config) (live : ℕ) (numbers tex
   pub each : OneForEach (IsRow makes c live) numbers lines
   pub told : text ≡ concat lines
 
--- of how many pages the plans are told: the configuration's own, the fewest, and some more
+-- the numbers of pages that have a line: the configuration's own, the fewest, and some more
 abbrev pub numbers_told : Config → Option ℕ → List ℕ
 numbers_told c None = c.pages ∷ []
 numbers_told c (Some few) = c.pages ∷ few ∷ (few + few / 4) ∷ (few + few / 2) ∷ (2 * few) ∷ (3 * few) ∷ []
 
--- all that is told of the plans where so many words are live, and blocks are made of these size classes, if some are said
+-- the report of the plans for this many live words; if size classes are given, blocks are made of these alone
 pub record IsPlansReport (classes : Option (List ℕ)) (c : Config) (live : ℕ) (text : List ℕ) : Type 0 where
   pub least : Option ℕ
   pub is_least : IsLeastPagesFor (made_of classes) c live least
@@ -73,7 +73,7 @@ pub record IsPlansReport (classes : Option (List ℕ)) (c : Config) (live : ℕ)
   pub table : IsTable (made_of classes) c live (numbers_told c least) rows
   pub told : text ≡ live_line c live classes ++ (fewest_line least ++ rows)
 
--- of how many size classes these are, and the fewest pages on which there is a plan where blocks are made of them alone
+-- the number of these size classes, and the fewest pages with a plan if blocks are made of them alone
 abbrev pub IsClassesLine : Config → ℕ → List ℕ → List ℕ → Type 0
 IsClassesLine c live used line = (least : Option ℕ) × IsLeastPagesFor (among used) c live least
     × (line ≡ codes "classes " ++ (decimal (classes_made (among used)) ++ (codes ": " ++ fewest_line least)))

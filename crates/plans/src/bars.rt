@@ -15,7 +15,7 @@ use std::alloc::{AllocError, Global};
 /// The figures of a plan.
 #[derive(Clone, Copy, Debug, PartialEq, Eq)]
 pub struct PlanFigures {
-    /// How many words may be asked for at a quantum.
+    /// How many words may be requested at a quantum.
     pub words: u64,
     /// How many tenths of a unit the collector spends for each of them.
     pub tenths: u64,
@@ -89,7 +89,7 @@ fn bars(
     Ok(bars)
 }
 
-/// The plans of which `plans_report` tells: one for each number of pages that has a line there.
+/// The plans of `plans_report`: one for each number of pages that has a line there.
 fn plan_bars(
     alloc: Global,
     config: &Config,
@@ -113,8 +113,8 @@ fn table_of(alloc: Global, live: u64, bars: &[PlanBar]) -> Result<String, AllocE
     table(alloc, head.as_str(), bars)
 }
 
-/// The plans for this many live words, and for all size classes, as a member of a run's data; nothing where it isn't said
-/// how many are live.
+/// Returns the plans for this many live words, and for all size classes, as a member of a run's data; nothing if no
+/// number of live words is given.
 pub fn plans_data(alloc: Global, config: &Config, live: Option<u64>) -> Result<String, AllocError>
     ensures { IfOk result (λ text. PlansTable config.now live (string_bytes text)) }
 {

@@ -1,5 +1,5 @@
-//! What is told of the plans by which a heap paces itself, and what is drawn: on how few pages there is one, and what it is
-//! on some numbers of pages; and for how many live words a trace needs one.
+//! Reports and data of the plans by which a heap paces itself: on how few pages there is one, and the plans on some
+//! numbers of pages; and for how many live words a trace needs one.
 #![tactic(auto)]
 
 mod bars;

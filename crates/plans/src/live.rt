@@ -12,8 +12,8 @@ use paced::words_of_shape;
 use sizing::blocks::{Blocks, add, needed_by, none};
 use std::alloc::Global;
 
-/// What a plan for a run goes by: how many words of blocks live objects had at most, headers included, and how many blocks
-/// of each size class were made.
+/// The needs of a run that its plan is made for: the most words of live objects' blocks, headers included, and how many
+/// blocks of each size class were made.
 #[derive(Clone, Copy, Debug, PartialEq, Eq)]
 pub struct MostLive {
     pub words: u64,
@@ -31,7 +31,7 @@ pub struct LiveMeter {
 }
 
 impl LiveMeter {
-    /// Before the first event.
+    /// Makes the meter before the first event.
     pub(crate) fn new(alloc: Global, limits: &Limits) -> Result<LiveMeter, NoMemory>
         ensures { IfOk result (λ m. m ≡ record { graph = opening limits.now; bound = 0; most = 0 }) }
     {
@@ -92,7 +92,7 @@ impl LiveMeter {
         blocks
     }
 
-    /// What was found so far.
+    /// Returns the findings so far.
     pub(crate) fn found(&self) -> MostLive
         ensures words { result.words ≡ self.now.most }
         ensures blocks { AllFit self.now.graph → AreBlocks result.blocks (blocks_of self.now.graph.objects) }

@@ -20,7 +20,7 @@ fn nearest(next: Option<u32>, pages: u32, above: u32) -> Option<u32>
     }
 }
 
-/// The least of some numbers of pages above a bound, of those that a heap may have; None where there is none.
+/// The least of some numbers of pages above a bound, of those that a heap may have; None if there is none.
 pub(crate) fn next_of(numbers: &[u32], above: u32) -> Option<u32>
     ensures { IsNext numbers.now above result }
 {

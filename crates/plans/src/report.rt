@@ -1,4 +1,4 @@
-//! What is told of the plans for a number of live words.
+//! The report of the plans for a number of live words.
 ghost use Rattle.std.specs.Prelude.{◌≡◌, ◌≤◌, IfOk, IfSome, option_map, string_bytes, take};
 ghost use Rattle.size_classes.specs.declared.config.TheConstants.{MOST_HEAP_PAGES};
 ghost use Rattle.paced.specs.Rooms.{made_of};
@@ -47,8 +47,8 @@ fn fewest_line(alloc: Global, least: Option<u32>) -> Result<String, AllocError>
     )
 }
 
-/// Of how many size classes these are, and the fewest pages on which there is a plan where blocks are made of them alone,
-/// with the keys to set.
+/// Returns the line with the number of these size classes, and the fewest pages with a plan if blocks are made of them
+/// alone, with the keys to set.
 pub(crate) fn classes_line(
     alloc: Global,
     config: &Config,
@@ -62,8 +62,8 @@ pub(crate) fn classes_line(
     format!(in alloc; "classes {count}: {fewest}")
 }
 
-/// Of how many pages plans are told: the configuration's own; and the fewest on which there is one, and some more, if there is
-/// one. Behind the numbers stands how many of them count. One may count more than once.
+/// Returns the numbers of pages that have a line: the configuration's own; and, if there is a plan, the fewest pages
+/// with one and some more. The second value says how many of the six numbers count. A number may count more than once.
 pub(crate) fn numbers_told(config: &Config, least: Option<u32>) -> ([u32; 6], usize)
     requires { IfSome least (λ pages. pages ≤ MOST_HEAP_PAGES) }
     ensures told { take result.1 result.0 ≡ numbers_told config.now least }
@@ -95,12 +95,13 @@ fn plans(
     table(alloc, config, live_words, classes, &numbers[..count])
 }
 
-/// What is told of the plans by which a heap of a configuration paces itself, where live objects have blocks of so many
-/// words at most whenever a cycle begins, headers included: the units of a quantum; the fewest pages on which there is a
-/// plan, with the keys to set for them, or that there is one on no number of pages; and a line for each of some numbers
-/// of pages, in rising order: the configuration's own, the fewest, and 5/4, 3/2, 2 and 3 times as many, as far as a heap
-/// may have them. All else than the pages, and the moving that a plan wants, is as the configuration has it. Where size
-/// classes are given, the plans are for a program that asks for blocks of these alone, and how many they are is told too.
+/// Returns the report of the plans by which a heap of a configuration paces itself, if the blocks of live objects have
+/// at most this many words whenever a cycle begins, headers included. It has the units of a quantum; the fewest pages
+/// with a plan, and the keys to set for them, or that no number of pages has one; and a line for each of some numbers
+/// of pages, in rising order: the configuration's own, the fewest, and 5/4, 3/2, 2 and 3 times as many, as far as a
+/// heap may have them. Except for the pages, and the moving that a plan needs, all is as the configuration has it. If
+/// size classes are given, the plans are for a program that requests blocks of these alone, and the report has their
+/// number.
 pub fn plans_report(
     alloc: Global,
     config: &Config,

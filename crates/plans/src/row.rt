@@ -8,7 +8,8 @@ use paced::{Plan, cycle_quanta, planned};
 use size_classes::{Class, Config};
 use std::alloc::{AllocError, Global};
 
-/// Tenths of a unit for each word, where so many words are asked for at a quantum of so many units, rounded up.
+/// Returns the tenths of a unit for each word, if this many words are requested at a quantum of this many units,
+/// rounded up.
 pub(crate) fn tenths(units: u32, words: u64) -> u64
     requires { 1 ≤ words }
     ensures { result ≡ tenths_of units words }
@@ -16,7 +17,7 @@ pub(crate) fn tenths(units: u32, words: u64) -> u64
     (10 * u64::from(units)).div_ceil(words)
 }
 
-/// The line of the plan on a configuration's pages, where so many words are live, or of no plan.
+/// Returns the line of the plan on a configuration's pages, for this many live words, or of no plan.
 fn plan_line(
     alloc: Global,
     config: &Config,
@@ -36,9 +37,9 @@ fn plan_line(
     format!(in alloc; "pages {pages} quanta {quanta} words {words} cycle {cycle} tenths {tenths}\n")
 }
 
-/// The line of the plan on this many pages, where moving follows each sweep and may empty all of them: the number of
-/// pages, the quanta that a cycle takes at most, the words of a quantum and of a cycle, and tenths of a unit for each
-/// word; or that there is no plan.
+/// Returns the line of the plan on this many pages, if moving follows each sweep and may empty all of them: the number
+/// of pages, the most quanta that a cycle takes, the words of a quantum and of a cycle, and tenths of a unit for each
+/// word. Or the line says that there is no plan.
 pub(crate) fn row(
     alloc: Global,
     config: &Config,

@@ -21,8 +21,8 @@ fn classes_of(alloc: Global, blocks: &Blocks) -> Result<Vec<Class>, AllocError>
     Ok(used)
 }
 
-/// All that is told of plans (`plans_report`) for the words that a run had live at most; and the fewest pages on which there
-/// is one where blocks are made of those size classes alone of which the run made some.
+/// Returns the report of plans (`plans_report`) for the most live words of a run; and the fewest pages with a plan if
+/// blocks are made only of the size classes that the run used.
 pub fn run_plans(alloc: Global, config: &Config, live: &MostLive) -> Result<String, AllocError>
     ensures { IfOk result (λ text. IsRunPlans config.now live.now (string_bytes text)) }
 {

@@ -7,9 +7,9 @@ use size_classes::Config;
 use std::alloc::Global;
 use trace::{Player, Survey};
 
-/// It finds the least number of words that live objects keep to over the run, whenever a cycle begins, and how many blocks
-/// of each size class were made: for so many words, and for these classes, there is to be a plan (`run_plans`). From
-/// 2^64 - 1 on it tells that number of words.
+/// Finds the least number of words within which the blocks of live objects stay over the run, whenever a cycle may
+/// begin, and how many blocks of each size class were made: `run_plans` reports plans for these words and classes. If
+/// the number is 2^64 - 1 or more, it is reported as 2^64 - 1.
 impl Survey for LiveMeter {
     type Findings = MostLive;
 

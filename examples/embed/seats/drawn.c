@@ -1,8 +1,8 @@
 /*
  * drawn [ROUNDS]: four threads at one heap, each with two mutators and a seat, later a seat for each of the two; and a collector.
  * Each answer to a drawn command is compared with a model of the mutator's objects, and each thread does in between what it must
- * not do. In the end the log is as long as the calls were many, the collector's with them. With -DMUTEX threads wait at a mutex of
- * the program, else at a gate.
+ * not do. In the end the log is as long as the calls were many, the collector's with them. Threads wait at a gate; with -DFAIR=TURNS
+ * at a fair one, and with -DMUTEX at a mutex of the program.
  */
 #include "model.h"
 #include <pthread.h>
@@ -42,7 +42,11 @@ static uint32_t leave(metronome_seat *seat) {
     return status;
 }
 #else
+#ifdef FAIR
+static metronome_gate gate = METRONOME_GATE_FAIR(FAIR);
+#else
 static metronome_gate gate = METRONOME_GATE;
+#endif
 
 static uint32_t enter(metronome_seat *seat) {
     return metronome_gate_enter(&gate, seat);

@@ -1,7 +1,7 @@
 /*
- * Threads that wait at a gate: one that has the turn for long, one that ends in its turn, and one whose seat is closed
- * in its turn. The program's own `syscall` counts what the gate asks of the system: nothing where nobody waits, and one wake
- * for each thread that sleeps.
+ * Threads that wait at a gate, and at two fair ones: one that has the turn for long, one that ends in its turn, and one whose seat
+ * is closed in its turn. The program's own `syscall` counts what the gate asks of the system: nothing where nobody waits, and one
+ * wake for each thread that sleeps.
  */
 #define _GNU_SOURCE
 #include "metronome_shared.h"
@@ -9,11 +9,11 @@
 #include <stdio.h>
 #include <time.h>
 
-enum { WAITERS = 4, TURNS = 100000, MILLISECOND = 1000000 };
+enum { WAITERS = 4, TURNS = 30000, MILLISECOND = 1000000 };
 
-static metronome_gate gate = METRONOME_GATE;
+static metronome_gate gate; /* one after the other */
 static metronome_seat own = METRONOME_NO_SEAT, seats[WAITERS];
-static uint64_t waits, wakes; /* how often a thread slept, and how many were to be woken; counted as atomics */
+static uint64_t waits, wakes; /* how often a thread slept, and how often one was to be woken; counted as atomics */
 static uint64_t entered;      /* written in turns alone */
 static int passed, failed;
 
@@ -37,8 +37,8 @@ long __real_syscall(long number, ...);
 long __wrap_syscall(long number, uint32_t *at, long what, long value, void *none, void *nothing, long last);
 
 long __wrap_syscall(long number, uint32_t *at, long what, long value, void *none, void *nothing, long last) {
-    if (number == SYS_futex && what == FUTEX_WAIT_PRIVATE) __atomic_fetch_add(&waits, 1, __ATOMIC_SEQ_CST);
-    if (number == SYS_futex && what == FUTEX_WAKE_PRIVATE) __atomic_fetch_add(&wakes, (uint64_t)value, __ATOMIC_SEQ_CST);
+    if (number == SYS_futex && what == FUTEX_WAIT_BITSET_PRIVATE) __atomic_fetch_add(&waits, 1, __ATOMIC_SEQ_CST);
+    if (number == SYS_futex && what == FUTEX_WAKE_BITSET_PRIVATE) __atomic_fetch_add(&wakes, 1, __ATOMIC_SEQ_CST);
     return __real_syscall(number, at, what, value, none, nothing, last);
 }
 
@@ -106,6 +106,7 @@ static void turns_with_nobody_beside_ask_nothing(void) {
 /* While one has the turn for long, the others sleep: they take next to no processor time. Each of them is woken once. */
 static void who_waits_sleeps(void) {
     pthread_t threads[WAITERS];
+    metronome_seat closed = METRONOME_NO_SEAT;
     uint64_t asleep = count_of(&waits), before = count_of(&wakes);
     entered = 0;
     IS(METRONOME_OK, metronome_gate_enter(&gate, &own));
@@ -116,6 +117,7 @@ static void who_waits_sleeps(void) {
     check((double)(clock() - began) / CLOCKS_PER_SEC < 0.1 && entered == 0, __LINE__);
     check(count_of(&wakes) == before, __LINE__);
     IS(METRONOME_INSIDE, metronome_gate_enter(&gate, &own));
+    IS(METRONOME_NO_HEAP, metronome_gate_enter(&gate, &closed));
     IS(METRONOME_OK, metronome_gate_leave(&gate, &own));
     for (int n = 0; n < WAITERS; n++) is_ended(threads[n]);
     check(entered == WAITERS && count_of(&wakes) - before <= WAITERS, __LINE__);
@@ -165,10 +167,12 @@ static void no_wake_is_lost(void) {
     for (int n = 1; n < WAITERS; n++) start(&threads[n], many_turns, &seats[n]);
     for (int n = 1; n < WAITERS; n++) is_ended(threads[n]);
     check(entered == (uint64_t)(WAITERS - 1) * TURNS, __LINE__);
-    check(gate.waiting == 0, __LINE__);
+    check(gate.waiting == 0 && gate.next == gate.first, __LINE__);
 }
 
-int main(void) {
+static void look_at(metronome_gate kind) {
+    gate = kind;
+    waits = wakes = 0;
     open_seats();
     turns_with_nobody_beside_ask_nothing();
     who_waits_sleeps();
@@ -176,6 +180,13 @@ int main(void) {
     who_ends_in_its_turn_keeps_it(by_leaving);
     who_ends_in_its_turn_keeps_it(by_closing);
     close_seats();
+}
+
+int main(void) {
+    static const metronome_gate fast = METRONOME_GATE, in_order = METRONOME_GATE_FAIR(0), fair = METRONOME_GATE_FAIR(3);
+    look_at(fast);
+    look_at(in_order);
+    look_at(fair);
     printf("%d passed, %d failed\n", passed, failed);
     return failed != 0;
 }

@@ -117,10 +117,9 @@ static void count_up(Gate &gate, Seat seat, std::uint32_t mutator, Seat &back) {
 }
 
 // An object that all mutators share, in a static: no round of a thread is lost, since no other call comes between its two.
-static void check_threads() {
+static void check_threads(Gate &gate) {
     metronome_settings settings = SETTINGS;
     settings.statics = 1;
-    Gate gate;
     Seat own;
     std::vector<Seat> seats(THREADS);
     IS(METRONOME_OK, own.try_open(settings));
@@ -182,10 +181,12 @@ static void check_throwing() {}
 #endif
 
 int main() {
+    Gate fast, fair = Gate::fair(2);
     check_seats();
     check_turns();
     check_log();
-    check_threads();
+    check_threads(fast);
+    check_threads(fair);
     check_throwing();
     std::printf("%d passed, %d failed\n", passed, failed);
     return failed != 0;

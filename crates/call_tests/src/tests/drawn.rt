@@ -32,7 +32,7 @@ impl Draws {
         self.last / 16 % count
     }
 
-    /// A slot, or the number behind the last one.
+    /// Draws a slot, or the number behind the last one.
     fn slot(&mut self) -> u32 {
         self.below(13)
     }

@@ -83,7 +83,7 @@ fn a_list_of_events_has_the_room_that_was_made(rt: HostRuntime) -> Result<(), No
     Ok(())
 }
 
-/// What a cycle spends at most: of a page, of three that are emptied, and of 34.
+/// The most units of a cycle: of a page, of three that are emptied, and of 34.
 #[test]
 fn the_limits_of_cycles(rt: HostRuntime) {
     let emptied = Settings {

@@ -6,7 +6,7 @@ use machine::Heap;
 
 const SHAPE: Shape = Shape::Plain { refs: 2, words: 3 };
 
-/// Whether so many commands were done, and then one was refused so, or none.
+/// Whether `done` commands were done, and then one was refused for this reason, or none.
 fn is(told: Progress, done: u32, refused: Option<Refusal>) -> bool {
     told == Progress { done, refused }
 }

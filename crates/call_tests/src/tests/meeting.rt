@@ -87,8 +87,8 @@ fn all_three_meet(rt: HostRuntime) -> Result<(), NoMemory> {
     Ok(())
 }
 
-/// The collector spends its budget where no mutator asks anything: 9 roots, 4 pages, and a unit for each of the three changes of
-/// phase.
+/// The collector spends its budget while no mutator asks anything: 9 roots, 4 pages, and a unit for each of the three
+/// changes of phase.
 #[test]
 fn the_collector_works_alone(rt: HostRuntime) -> Result<(), NoMemory> {
     let alloc = rt.alloc();

@@ -33,7 +33,7 @@ fn recorded(rt: &(impl Abort + AllocGlobal)) -> Result<Recorded, NoMemory> {
     Recorded::new(rt.alloc(), &config_of(rt, &ONE_PAGE))
 }
 
-/// The reply to a command of mutator 0.
+/// Returns the reply to a command of mutator 0.
 fn reply_to(heap: &mut Recorded, command: Command) -> Result<Reply, NoMemory> {
     Ok(heap.call(0, command)?.entry().reply)
 }

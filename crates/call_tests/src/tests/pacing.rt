@@ -3,12 +3,12 @@ use super::*;
 use graph_heap::Reply;
 use machine::Heap;
 use paced::{
-    AbovePlan, Figures, Pacer, Plan, classes_in, flow_fits, least_pages, moves_all, planned,
+    AbovePlan, Cycles, Figures, Pacer, Plan, classes_in, flow_fits, least_pages, moves_all, planned,
 };
 use size_classes::Class;
 use std::alloc::Global;
 
-/// 300 pages, all of which a cycle may empty, with quanta of so many ticks.
+/// Returns 300 pages, all of which a cycle may empty, with quanta of this many ticks.
 fn moving_all(rt: &impl Abort, collector_ticks: i64) -> Config {
     let settings = Settings {
         pages: 300,
@@ -43,22 +43,24 @@ fn a_paced_heap_is_made_and_asked(rt: HostRuntime) {
     // A word for each quantum adds less than a page to the 100 that are live and three of each class.
     assert!(rt; least_pages(&config, 183200, None) == Some(214));
     let mut heap = new_heap(&rt, rt.alloc(), &config);
+    let mut cycles = Cycles::NONE;
     let mut pacer = Pacer::new(&config, plan);
     for n in 0..100u32 {
         let shape = Shape::WordArray(20000);
-        assert!(rt; pacer.pay_for(&mut heap, shape).is_ok());
+        assert!(rt; pacer.pay_for(&mut heap, &mut cycles, shape).is_ok());
         let reply = heap.step(0, Command::New { dst: 0, shape });
         assert!(rt; reply == Reply::Made(u64::from(n) + 1));
     }
     let figures = pacer.figures();
     assert!(rt; figures.cycles > 0 && figures.quanta >= figures.most_quanta);
-    let above = pacer.pay_for(&mut heap, Shape::WordArray(70000));
+    assert!(rt; cycles.begun.number == figures.cycles);
+    let above = pacer.pay_for(&mut heap, &mut cycles, Shape::WordArray(70000));
     assert!(rt; above == Err(AbovePlan));
     assert!(rt; pacer.figures() == figures);
 }
 
-/// Plans for the smallest and the largest size class alone: all but 6 of the 114 pages that may be filled in part are
-/// left for what is made.
+/// Plans for the smallest and the largest size class alone: of the 114 pages that may be filled in part only 6 are, and
+/// the others are left for made objects.
 #[test]
 fn a_plan_is_made_for_some_classes(rt: HostRuntime) {
     let config = moving_all(&rt, 50);
@@ -84,12 +86,14 @@ fn a_program_works_besides(rt: HostRuntime) {
         cycle_words: 70000,
     };
     let mut heap = new_heap(&rt, rt.alloc(), &config);
+    let mut cycles = Cycles::NONE;
     let mut pacer = Pacer::new(&config, plan);
-    assert!(rt; pacer.begin(&mut heap).is_ok());
-    assert!(rt; pacer.begin(&mut heap).is_err());
-    assert!(rt; pacer.quantum(&mut heap, 300).is_ok());
-    assert!(rt; pacer.quantum(&mut heap, 1000).is_ok());
-    assert!(rt; pacer.quantum(&mut heap, 255).is_err());
+    assert!(rt; pacer.begin(&mut heap, &mut cycles).is_ok());
+    assert!(rt; pacer.begin(&mut heap, &mut cycles).is_err());
+    assert!(rt; pacer.quantum(&mut heap, &mut cycles, 300).is_ok());
+    assert!(rt; pacer.quantum(&mut heap, &mut cycles, 1000).is_ok());
+    assert!(rt; pacer.quantum(&mut heap, &mut cycles, 255).is_err());
+    assert!(rt; cycles.begun.number == 1 && cycles.begun.quanta == 2);
     assert!(rt;
         pacer.figures()
             == Figures {

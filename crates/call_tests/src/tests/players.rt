@@ -1,5 +1,5 @@
-//! A tick that is refused memory and goes on, writes of replies that fail, replies that wait, texts of faults, for which the
-//! program has its own, and a write of no bytes.
+//! A tick that is refused memory and goes on; writes of replies that fail; replies that wait; texts of faults, for
+//! which the program has its own; and a write of no bytes.
 use super::*;
 use graph_heap::NoMemory;
 use std::alloc::AllocGlobal;
@@ -93,7 +93,7 @@ fn a_failed_read_ends_a_play_after_its_lines(rt: HostRuntime) -> Result<(), Fail
     Ok(())
 }
 
-/// Replies wait in a buffered sink until it is flushed. Where a write of them fails, they wait on.
+/// Replies wait in a buffered sink until it is flushed. If a write of them fails, they wait on.
 #[test]
 fn replies_wait_in_a_buffered_sink(rt: HostRuntime) -> Result<(), Fail> {
     for (call, first) in [(1u64, Err(WriteFailed)), (2, Ok(()))] {
@@ -149,7 +149,7 @@ fn a_write_of_no_bytes_is_no_failure(rt: HostRuntime) {
     assert_eq!(rt; sink.write(b""), Ok(0));
 }
 
-/// Whatever one byte of two lines becomes, all lines are done, or one is refused.
+/// Each byte of two lines becomes each other byte: all lines are done, or one is refused.
 #[test]
 fn each_byte_becomes_each_other(rt: HostRuntime) -> Result<(), Fail> {
     let trace = "0 new 0 plain 0 0\n0 describe 0\n";

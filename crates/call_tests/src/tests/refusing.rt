@@ -1,4 +1,4 @@
-//! What the collector is refused, and that nothing changes then.
+//! Requests that the collector refuses, which change nothing.
 use super::*;
 use graph_heap::{NoMemory, Reply, Shape};
 use heap_model::phase::Phase;

@@ -1,5 +1,5 @@
-//! Servers, called from one thread: calls for which room is reserved; what each of two seats sees of the other's calls;
-//! objects that fill pages, and a cycle, through one seat and the pacer.
+//! Servers, called from one thread: calls for which room is reserved; the parts of the history that two seats see of
+//! each other's calls; objects that fill pages, and a cycle, through one seat and the pacer.
 ghost use Rattle.std.specs.Prelude.{◌≡◌};
 ghost use Rattle.heap_server.specs.Opened.{names_of};
 
@@ -137,7 +137,7 @@ fn new(dst: u32, shape: Shape) -> Command {
 struct ServerCase<'a> {
     objects: u32,
     before: &'a [(Command, Reply)],
-    /// What each quantum of 256 units spends.
+    /// The units that each quantum of 256 units spends.
     spent: &'a [u32],
     after: &'a [(Command, Reply)],
 }

@@ -3,7 +3,7 @@ use Rattle.std.specs.Prelude.{Some, None}
 use Rattle.std.specs.Result.{result_err}
 use Rattle.size_classes.specs.declared.ranges.Ranges.TheVariants.{Library}
 use Rattle.size_classes.specs.Config.{fault_of}
-use Rattle.metronome_c.specs.Cycles.{no_cycles}
+use Rattle.paced.specs.Cycles.{no_cycles}
 use Rattle.metronome_c.specs.Lifetime.{IsMadeOf}
 use Rattle.metronome_c.specs.Status.{status_number}
 use Rattle.metronome_c.proofs.Making.{creates_none, creates_one, creates_open, creates_bad}

@@ -1,5 +1,5 @@
 use Rattle.std.proofs.Common.{◌≡◌, take}
-use Rattle.paced.specs.Pacing.{saturated}
+use Rattle.paced.specs.Cycles.{saturated}
 use Rattle.plans.specs.LiveMeter.{words_by}
 use Rattle.plans.proofs.live.LiveMeter.reached.Given as goal
 

@@ -1,21 +1,17 @@
-//! What is told of cycles.
+//! The cycles of a heap, counted.
 ghost use Rattle.std.specs.Prelude.{◌≡◌};
 ghost use Rattle.machine.specs.Collecting.{Begins, Spends};
 ghost use Rattle.machine.specs.Recorded.{begin_done, quantum_done};
-ghost use Rattle.metronome_c.specs.Collecting.{EndsOrSpends, KeepsAgreeing};
-ghost use Rattle.metronome_c.specs.Cycles.{next_cycle, one_quantum_on, come_to, cycles_after, ended_in};
-ghost use Rattle.metronome_c.specs.Figures.{TellsFound};
-ghost use Rattle.metronome_c.specs.Opened.{held_in};
+ghost use Rattle.paced.specs.Cycles.{next_cycle, one_quantum_on, come_to, cycles_after, EndsOrSpends};
+ghost use Rattle.paced.specs.Pacing.{KeepsAgreeing};
 
-use crate::figures::tell;
-use crate::metronome::Metronome;
 use machine::{BudgetOutOfRange, Busy, Heap, Spent};
 
 /// A cycle: which one it is, from 1; the quanta that found it running, the units that they spent, and the most that one of them
-/// spent; the free pages when it began, and after the last of these quanta. All zeros are none.
+/// spent; the free pages when it began, and after the last of these quanta. All zeros are none. It lies as in C.
 #[repr(C)]
 #[derive(Clone, Copy, Debug, PartialEq, Eq)]
-pub struct MetronomeCycle {
+pub struct Cycle {
     pub number: u64,
     pub quanta: u64,
     pub units: u64,
@@ -24,9 +20,9 @@ pub struct MetronomeCycle {
     pub free_after: u64,
 }
 
-impl MetronomeCycle {
+impl Cycle {
     /// None.
-    const NONE: MetronomeCycle = MetronomeCycle {
+    const NONE: Cycle = Cycle {
         number: 0,
         quanta: 0,
         units: 0,
@@ -36,23 +32,23 @@ impl MetronomeCycle {
     };
 
     /// The cycle behind this one, which has just begun.
-    fn next(&self, heap: &Heap) -> MetronomeCycle
+    fn next(&self, heap: &Heap) -> Cycle
         ensures { result ≡ next_cycle self.now heap.now }
     {
         let free = heap.free_pages() as u64;
-        MetronomeCycle {
+        Cycle {
             number: self.number.saturating_add(1),
             free_before: free,
             free_after: free,
-            ..MetronomeCycle::NONE
+            ..Cycle::NONE
         }
     }
 
     /// The cycle after one more quantum, which spent so many units.
-    fn one_quantum_on(&self, units: u32, heap: &Heap) -> MetronomeCycle
+    fn one_quantum_on(&self, units: u32, heap: &Heap) -> Cycle
         ensures { result ≡ one_quantum_on self.now units heap.now }
     {
-        MetronomeCycle {
+        Cycle {
             quanta: self.quanta.saturating_add(1),
             units: heap.units(),
             longest: self.longest.max(u64::from(units)),
@@ -65,19 +61,19 @@ impl MetronomeCycle {
 /// The cycle that began last, as far as it has gone, and the last one that ended.
 #[derive(Clone, Copy, Debug, PartialEq, Eq)]
 pub struct Cycles {
-    pub begun: MetronomeCycle,
-    pub ended: MetronomeCycle,
+    pub begun: Cycle,
+    pub ended: Cycle,
 }
 
 impl Cycles {
     /// No cycle has begun yet.
-    pub(crate) const NONE: Cycles = Cycles {
-        begun: MetronomeCycle::NONE,
-        ended: MetronomeCycle::NONE,
+    pub const NONE: Cycles = Cycles {
+        begun: Cycle::NONE,
+        ended: Cycle::NONE,
     };
 
     /// Begins a cycle of a heap, and counts it.
-    pub(crate) fn begin(&mut self, heap: &mut Heap) -> Result<(), Busy>
+    pub fn begin(&mut self, heap: &mut Heap) -> Result<(), Busy>
         ensures begins { Begins heap.old heap.new result }
         ensures agrees { KeepsAgreeing heap.old heap.new }
         ensures counted { self.new ≡ cycles_after (begin_done result) heap.old heap.new self.old }
@@ -88,11 +84,7 @@ impl Cycles {
     }
 
     /// Spends units of a budget on the cycle that is running in a heap, and counts the quantum, where there is one.
-    pub(crate) fn quantum(
-        &mut self,
-        heap: &mut Heap,
-        budget: u32,
-    ) -> Result<Spent, BudgetOutOfRange>
+    pub fn quantum(&mut self, heap: &mut Heap, budget: u32) -> Result<Spent, BudgetOutOfRange>
         ensures spends { Spends heap.old budget heap.new result }
         ensures ends { EndsOrSpends budget result }
         ensures agrees { KeepsAgreeing heap.old heap.new }
@@ -108,7 +100,7 @@ impl Cycles {
     }
 
     /// The cycle that began last has come so far. Where none is running any more it has ended.
-    fn come_to(&mut self, cycle: MetronomeCycle, heap: &Heap)
+    fn come_to(&mut self, cycle: Cycle, heap: &Heap)
         ensures { self.new ≡ come_to self.old cycle heap.now }
     {
         self.begun = cycle;
@@ -116,12 +108,4 @@ impl Cycles {
             self.ended = cycle;
         }
     }
-}
-
-/// Tells the last cycle that ended. Where the heap keeps a plan none is told.
-#[unsafe(no_mangle)]
-pub extern "C" fn metronome_last_cycle(heap: &mut Metronome, cycle: &mut MetronomeCycle) -> u32
-    ensures { TellsFound ended_in (held_in heap.old) (held_in heap.new) cycle.old cycle.new result }
-{
-    tell(cycle, heap.ask_held(|held| held.cycles.ended))
 }

@@ -1,4 +1,5 @@
-"""What the scripts of this folder share: the words they are given, tables that are printed, counts of instructions, and times."""
+"""The common parts of this folder's scripts: the words they are given, tables that are printed, counts of instructions, and
+times."""
 import os
 import re
 import resource
@@ -34,8 +35,8 @@ def refuse(text):
 
 
 def given_words(text, least, most, flags=(), kinds=()):
-    """The words of a script, which are so many besides its flags, and of these kinds in their order. Where help is asked for, the
-    script's text is told, and it ends; other words are refused."""
+    """Returns the words of a script besides its flags, of which there must be `least` to `most`, and of these kinds in their
+    order. If help is asked for, it prints the script's text and ends; other words are refused."""
     given = sys.argv[1:]
     plain = [it for it in given if it not in flags]
     if {"-h", "--help"} & set(plain):
@@ -66,7 +67,7 @@ def tell(line):
 
 
 def machine():
-    """What the tables are made on."""
+    """The machine on which the tables are made."""
     with open("/proc/cpuinfo", encoding="utf-8") as it:
         model = next(line.split(":")[1].strip() for line in it if line.startswith("model name"))
     load = ", ".join(f"{it:.1f}" for it in os.getloadavg())

@@ -1,9 +1,9 @@
 /*
- * units KIND PAGES COUNT MOST: measures the collector of the library on a heap of so many pages. It spends COUNT units in one phase
- * (marknull, mark, sweepkept, sweepfreed), does COUNT cycles in quanta of 256 (small, large), or the quanta of a trace of mutators that
- * MOST says (play); of quanta before which each of 64 mutators recorded 63 references (records); or reads the clock twice COUNT times
- * (nothing). It writes for each phase, or for the kind, five numbers: how many quanta, 0 or the units that are lacking, units,
- * nanoseconds, and those of the longest quantum. What is prepared for units depends on MOST alone, so that two runs differ by COUNT.
+ * units KIND PAGES COUNT MOST: measures the collector of the library on a heap of PAGES pages. It spends COUNT units in one phase
+ * (marknull, mark, sweepkept, sweepfreed); or does COUNT cycles in quanta of 256 (small, large); or the quanta of a trace of mutators
+ * that MOST says (play); or quanta before which each of 64 mutators recorded 63 references (records); or reads the clock twice COUNT
+ * times (nothing). It writes for each phase, or for the kind, five numbers: how many quanta, 0 or the lacking units, units,
+ * nanoseconds, and those of the longest quantum. The heap for units is prepared by MOST alone, so two runs differ by COUNT.
  */
 #define _POSIX_C_SOURCE 200809L
 #include "embed/measure.h"

@@ -1,14 +1,14 @@
-"""Copies of functions: where several edits turn one function, each but the first turns a copy of it that stands behind it, with
-copies of its proofs, so that one trial holds them all."""
+"""Copies of functions. If several edits turn one function, each except the first turns a copy behind it, with copies of its
+proofs, so one trial holds them all."""
 import functools
 import os
 import re
 
 import functions
 
-# What stands behind a function's name in those of its copies, before their number.
+# The text between a function's name and the number of its copy.
 MARK = "_turned"
-# What may lie in the folder of a function's proofs, at any depth.
+# The files that may be in the folder of a function's proofs, at any depth.
 PROOFS = {"Invariants.antt", "Answers.antt", "Proof.antt"}
 
 
@@ -40,7 +40,7 @@ def texts_of(folder, proofs):
 
 
 def module_of(proofs):
-    """What a function's own modules are called behind `proofs` or `contracts`, as a pattern."""
+    """The names of a function's own modules behind `proofs` or `contracts`, as a pattern."""
     return r"\." + re.escape(proofs.removeprefix("proofs/").replace("/", "."))
 
 
@@ -53,8 +53,8 @@ def calls_itself(path, body):
 
 @functools.cache
 def can_be(folder, path):
-    """Whether there can be copies of the function with this path: it stands in no cycle of calls, and nothing else names the
-    modules that the prover makes of it, but for its theorem."""
+    """Whether there can be copies of the function with this path: it is in no cycle of calls, and only its theorem names the
+    modules that the prover makes of it."""
     proofs = functions.proofs_of(folder, path)
     found = [(file, it) for file, them in functions.functions_below(folder).items() for it in them if it.path == path]
     if not proofs or len(found) != 1 or not found[0][1].is_plain:
@@ -79,9 +79,9 @@ def restated(edit):
 
 
 def apart(edits):
-    """Edits, each with the paths of the functions that it turns: of those that turn one function all but the first turn copies of it,
-    and so do those that turn one which another turns with others, and what turns its contract too, by which others stand; none
-    where an edit turns something else."""
+    """Returns edits, each with the paths of the functions that it turns. Copies serve all but the first of the edits that
+    turn one function; those that turn a function which another edit turns with others; and those that also turn its
+    contract, by which others are proved. None if an edit turns something else."""
     bodies = [functions.turned_by(it) for it in edits]
     # (the first copy is one that no edit turns)
     turned, found = {path: 2 for paths in bodies if len(paths) > 1 for path in paths}, []
@@ -116,7 +116,8 @@ def control(crate):
 
 
 def place(folder, path, turns):
-    """What is put into a file of the crate's folder for the copy with this path, with what is turned in it: where it begins and ends."""
+    """Returns the text that is put into a file of the crate's folder for the copy with this path, with the turned text in
+    it, and where that begins and ends."""
     original, _ = of(path)
     below = functions.functions_below(folder)
     file, function = next((file, it) for file, them in below.items() for it in them if it.path == original)
@@ -131,7 +132,7 @@ def place(folder, path, turns):
 
 
 def places(edit, paths):
-    """What is changed where an edit turns these functions, or a copy."""
+    """Returns the changes of an edit that turns these functions, or a copy."""
     return [place(edit.crate.folder, paths[0], edit.places)] if of(paths[0])[1] else edit.places
 
 

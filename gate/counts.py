@@ -7,12 +7,12 @@ import tempfile
 from finders import tree
 
 TEST = re.compile(r"#\[test\]\s*(?:#\[[^\]]*\]\s*)*(?:pub )?fn (\w+)")
-# Of what `tests/run --count` says the kinds of cases each of which passes or fails when it is played.
+# The kinds of cases in `tests/run --count` each of which passes or fails when it is played.
 PLAYED = re.compile(r"^(\d+) (?:stories|runs of the program|commands of documents)$", re.M)
 
 
 def edits(top):
-    """The wrong bodies of a tree: of each the file's path in the tree, by its crate's name and its own."""
+    """Returns the wrong bodies of a tree: each file's path in the tree, by its crate's name and its own."""
     paths = tree.files_below(top, "crates", ".edit")
     return {f"{tree.crate_of(it)}/{os.path.basename(it).removesuffix('.edit')}": it for it in paths}
 
@@ -48,25 +48,25 @@ def played(top):
 
 
 def told(top):
-    """What a tree has, each with the folder in which it stands."""
+    """Returns the items of a tree, each with its folder."""
     found = {f"wrong body {name}": os.path.dirname(path).split("/", 2)[2] for name, path in edits(top).items()}
     files = tree.files_below(top, "tests/cases", ".story", ".runs")
     return {**found, **{it: "" for it in [*tests(top), *files, *crates(top)]}}
 
 
 def gone(was, now):
-    """What of the first isn't in the second, or stands in another folder."""
+    """Returns the items of the first that aren't in the second, or are in another folder."""
     left = [f"{it} is gone" for it in was if it not in now]
     return left + [f"{it} was in {was[it]} and is in {now[it]}" for it in was if it in now and was[it] != now[it]]
 
 
 def fewer(was, now):
-    """Of lines that begin with a number those whose number is smaller now."""
+    """Returns those lines that begin with a number whose number is smaller now."""
     return [f"{now} now, {was} before" for was, now in zip(was, now) if int(now.split()[0]) < int(was.split()[0])]
 
 
 def since(top, revision):
-    """What a tree has lost since a revision."""
+    """Returns the items that a tree has lost since a revision."""
     with tempfile.TemporaryDirectory(prefix="counts-") as room:
         archived = subprocess.run(["git", "-C", top, "archive", revision], capture_output=True, check=False)
         if archived.returncode or subprocess.run(["tar", "x", "-C", room], input=archived.stdout, check=False).returncode:

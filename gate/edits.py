@@ -7,7 +7,7 @@ from dataclasses import dataclass, field
 
 from kit import rt
 
-# Where a crate's wrong bodies stand; and below that, those that take the prover long, where another turns the same function.
+# The folder of a crate's wrong bodies; and below it, that of slow ones, if another edit turns the same function.
 FOLDER, SLOW = "wrong-bodies", "wrong-bodies/slow"
 NAME = re.compile(r"[A-Za-z0-9_-][A-Za-z0-9_.-]*\.edit")
 # A line that `rt` doesn't read: the function, as the prover names it below the crate, whose proof fails with a definition's edit.
@@ -16,14 +16,14 @@ REFUSED_BY = re.compile(r"^refused by: (\S+)$", re.M)
 
 @dataclass
 class Edit:
-    """An edit: what it makes of the files that it names, or why it can't be applied."""
+    """An edit: the new texts of the files that it names, or why it can't be applied."""
 
     crate: object
     file: str
     # the whole text of each file that it changes, by the file's path in the crate
     texts: dict = field(default_factory=dict)
     fault: str = ""
-    # what it changes of each: the path, where that begins and ends, and what stands there in its place
+    # the changes of each file: the path, where the changed text begins and ends, and the text in its place
     places: list = field(default_factory=list)
     # the functions that it says refuse it
     refused_by: tuple = ()
@@ -35,7 +35,8 @@ class Edit:
 
 
 def place(path, at, was, now):
-    """What of some lines is changed that begin at a place: the path, where that begins and ends, and what stands there then."""
+    """Returns the change of lines that begin at a place: the path, where the changed text begins and ends, and the text in
+    its place."""
     most = min(len(was), len(now))
     start = next((it for it in range(most) if was[it] != now[it]), most)
     behind = next((it for it in range(most - start) if was[-1 - it] != now[-1 - it]), most - start)

@@ -4,7 +4,7 @@ import os
 import re
 from dataclasses import dataclass, replace
 
-# What isn't code: comments, texts and characters.
+# Text that isn't code: comments, texts and characters.
 HIDDEN = re.compile(
     r'//[^\n]*|/\*.*?\*/|b?r(#*)".*?"\1|b?"(?:\\.|[^"\\])*"|b?\'(?:\\u\{[0-9a-fA-F]+\}|\\x..|\\.|[^\\\'\n])\'', re.S
 )
@@ -12,7 +12,7 @@ HEAD = re.compile(r"\b(?:(fn)\s+(\w+)|(mod)\s+(\w+)\s*\{|(impl|trait)\b([^{;]*)\
 # A clause of a contract, up to its brace.
 CLAUSE = re.compile(r"\b(?:(?:requires|ensures)\b\*?\s*\w*|ghost\s+\w+\s*:)\s*$")
 TYPE = re.compile(r"(?:\w+::)*(\w+)")
-# Where a type is declared.
+# The beginning of a type's declaration.
 DECLARED = re.compile(r"^\s*(?:pub(?:\([a-z]+\))?\s+)?(?:struct|enum|trait)\s+(\w+)", re.M)
 
 
@@ -36,7 +36,7 @@ def hidden(text):
 
 
 def group_end(code, start):
-    """Where the group ends that the brace at `start` begins."""
+    """Returns the end of the group that the brace at `start` begins."""
     depth = 0
     for at in range(start, len(code)):
         depth += {"{": 1, "}": -1}.get(code[at], 0)
@@ -46,7 +46,8 @@ def group_end(code, start):
 
 
 def body_of(code, at):
-    """Where the body begins of the function whose parameters follow `at`, behind its contract; None where it has none."""
+    """Returns the beginning of the body, behind the contract, of the function whose parameters follow `at`; None if it has
+    none."""
     depth, begin = 0, at
     while at < len(code):
         here = code[at]

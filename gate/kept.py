@@ -1,4 +1,4 @@
-"""What was refused by earlier runs on this machine, by the checksums of all that its trial read."""
+"""The edits that earlier runs on this machine refused, by the checksums of all files that their trials read."""
 import contextlib
 import hashlib
 import json
@@ -9,7 +9,7 @@ from kit import rt
 
 STORE = f"{os.environ.get('XDG_CACHE_HOME') or os.path.expanduser('~/.cache')}/barleynight-wrong-bodies"
 HERE = os.path.dirname(os.path.abspath(__file__))
-# The parts of this program, on all of which a verdict rests, but for its own test.
+# The parts of this program on which a verdict rests: all except its own test.
 JUDGES = ("wrong-bodies", *sorted(it for it in os.listdir(HERE) if it.endswith(".py") and not it.endswith("_test.py")))
 
 
@@ -60,7 +60,7 @@ def stamp_of(crate):
 
 
 def whole(edit, place, refused):
-    """What a file of the store holds: the edit, how it was refused, and the sum of both and of the file's name."""
+    """The content of a file of the store: the edit, how it was refused, and the sum of both and of the file's name."""
     told = repr((edit.name, os.path.basename(place), list(refused)))
     return {"edit": edit.name, "refused": list(refused), "sum": hashlib.sha256(told.encode()).hexdigest()}
 

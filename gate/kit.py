@@ -1,7 +1,5 @@
-"""The toolchain's program `rt`, taken as a module: edits are read, crates proved and copies checked as `rt` itself does.
-
-Kits differ in what their `rt` has beside that: what an older one lacks is added to it here.
-"""
+"""The toolchain's program `rt`, taken as a module: edits are read, crates proved and copies checked as `rt` itself does. An
+older kit's `rt` may lack some functions: they are added here."""
 import hashlib
 import importlib.machinery
 import importlib.util
@@ -9,7 +7,7 @@ import os
 import shutil
 import sys
 
-# What `rt must-fail` says of an edit, by how it begins behind the edit's name, and how newer kits call that.
+# The verdicts of `rt must-fail` on an edit, by the text behind the edit's name, with their names in newer kits.
 KINDS = {"refused, as it must be": "REFUSED", "NOT REFUSED": "MISSED", "BAD EDIT": "BAD"}
 
 

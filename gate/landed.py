@@ -1,4 +1,5 @@
-"""What landed last: the revision of the last run of the gate on this machine in which nothing failed, and what its steps counted."""
+"""The run that landed last: the revision of the last run of the gate on this machine in which nothing failed, and the counts
+of its steps."""
 import json
 import os
 import subprocess
@@ -7,7 +8,7 @@ FILE = f"{os.environ.get('XDG_CACHE_HOME') or os.path.expanduser('~/.cache')}/ba
 
 
 def git(top, *words):
-    """What git says in a tree; nothing where it fails."""
+    """Returns the output of git in a tree; nothing if it fails."""
     run = subprocess.run(["git", "-C", top, *words], capture_output=True, text=True, check=False)
     return "" if run.returncode else run.stdout.strip()
 
@@ -28,8 +29,8 @@ def last():
 
 
 def before(top):
-    """The revision with which a tree is compared: what landed last, where the tree stands on it, or else its last revision where its
-    files were changed, or the one before."""
+    """Returns the revision with which a tree is compared: the one that landed last, if the tree is built on it; else its
+    last revision if its files were changed, or the one before."""
     revision = last()[0]
     head = git(top, "rev-parse", "HEAD")
     if revision and revision != head and git(top, "merge-base", revision, head) == revision:

@@ -21,7 +21,7 @@ class Task:
 
 
 def share(task, free, ready):
-    """How many of the free threads a task gets beside so many others that are ready."""
+    """How many of the free threads a task gets beside `ready` others that are ready."""
     if task.is_idle:
         return 0
     return min(MOST, max(1, free // (ready + 1))) if task.name else 1

@@ -11,12 +11,12 @@ from kit import rt
 
 # The last line of a run.
 ENDED = re.compile(r"^\d+ passed, \d+ failed", re.M)
-# What a library has, but for the texts in it.
+# The parts of a library, without the texts in it.
 PARTS = ("format", "toolchain/checked.a", "toolchain/checked.json", "toolchain/mir.json")
 
 
 def touched(crate):
-    """What tells whether a file of the crate was changed, also where it was changed back."""
+    """Returns a mark that shows whether the file of the crate was changed, even if it was changed back."""
     found = []
     for part in (*rt.rtlib.PARTS, "c"):
         for at, folders, names in os.walk(f"{crate.folder}/{part}"):
@@ -52,8 +52,8 @@ def program(crate):
 
 
 class Proved:
-    """What a run proves: the top of the copy of the repository that it reads, the file that has what it said so far, and what was
-    noted of the crates' files before it."""
+    """The proofs of a run: the top of the copy of the repository that it reads, the file with its output so far, and the
+    notes of the crates' files before it."""
 
     def __init__(self, top, log, noted):
         self.top, self.log = top, log
@@ -63,7 +63,7 @@ class Proved:
         self.noted, self.sum = told["crates"], told["sum"]
 
     def said(self):
-        """What the run said so far."""
+        """Returns the output of the run so far."""
         return rt.rtlib.text_of(self.log) or ""
 
     def proves(self, name):

@@ -55,7 +55,8 @@ def rlib(top, name):
     return f"{top}/crates/{name}/out/rlib/{name}.rlib"
 
 
-# What happens during the run, or is left by it, and which of what it proved still is that: of `below`, `above` and `program`.
+# Events during the run, or left by it; and which of the crates that it proved are still as proved: of `below`, `above` and
+# `program`.
 CASES = {
     "nothing": (lambda top: None, NAMES),
     "no folder": (lambda top: shutil.rmtree(rlib(top, "above")), ["below", "program"]),
@@ -73,7 +74,7 @@ CASES = {
     "no program": (lambda top: os.remove(f"{top}/{PROGRAM}"), ["below", "above"]),
 }
 
-# What is done to a copy in which a program is built, and whether that is still what is built of it.
+# Changes of a copy in which a program is built, and whether the program is still built of it.
 CHANGES = {
     "nothing": (lambda top: None, True),
     "the time of a file": (lambda top: os.utime(f"{top}/crates/below/src/lib.rt"), True),
@@ -110,7 +111,7 @@ def stamps(top):
 
 
 def kept_well(kept, happens, wanted):
-    """Whether just what is wanted gets its stamp."""
+    """Whether exactly the crates that must be kept get their stamp."""
     with tempfile.TemporaryDirectory() as top:
         copy(top)
         happens(top)

@@ -119,7 +119,7 @@ def tasks_beside(run, crates):
     tasks = [lanes.Task((), lambda _, it=it: run.take(it), it.name, is_idle=True) for it in {below for it in left for below in it.below()}]
     for crate, them in left.items():
         call = lambda threads, it=crate, them=them: run.prove(it, them, threads)
-        # (a static library comes last: where another run builds it meanwhile, its work is taken)
+        # (a static library comes last: if another run builds it meanwhile, its result is taken)
         tasks.append(lanes.Task((0, crate.is_static, -crate.count(rb"\n")), call, f"{crate.name}'s edits", {it.name for it in crate.below()}))
     return tasks
 

@@ -65,7 +65,7 @@ beside() {
     groups[$1]=$!
 }
 
-# join NAME..: waits for steps that run beside one another, and tells of each
+# join NAME..: waits for steps that run beside one another, and prints the outcome of each
 join() {
     local name status seconds
     for name; do

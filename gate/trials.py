@@ -16,13 +16,14 @@ from kit import rt
 # How many bodies are turned at once, at most, where they begin with what is proved: more would leave threads without work.
 MOST = 16
 
-# What makes answers hold a fault: where a function's don't, and it isn't proved, the prover runs once more to offer some.
+# A declaration with which answers hold a fault: if a function's answers have none, and it isn't proved, the prover runs once
+# more to offer some.
 FAULTY = f"{verdicts.FAULT} : Type 0\n{verdicts.FAULT} = Type 0\n"
 
-# What `rt` writes before why an edit came to what it did.
+# The text that `rt` writes before the reason of an edit's verdict.
 LABEL = re.compile(r"^must-fail \S+: (?:refused, as it must be|NOT REFUSED|BAD EDIT|NOT TRIED)[: ]*")
 
-# Where the compiler rejects a text.
+# The text with which the compiler rejects a text.
 REJECTED = re.compile(r"^(?:\./)?(src/\S+?):(\d+):\d+: error\[", re.M)
 
 
@@ -64,7 +65,7 @@ class Trial:
 
 @dataclass
 class Result:
-    """What the trial of an edit came to, why, and what a refusal rests on."""
+    """The verdict of an edit's trial, the reason, and the ground of a refusal."""
 
     edit: object
     kind: str
@@ -84,9 +85,10 @@ def rounds(pairs):
 
 
 def planned(crate, edits, begins=False):
-    """The trials of a crate's edits: of one function's bodies all but the first in copies of it, or in other trials; what turns more
-    than one function, over the functions that it says refuse it, or else over the whole crate. Where none takes the whole crate, and
-    nothing is proved that they begin with, the first trial of bodies leads, with as many as there are."""
+    """Returns the trials of a crate's edits. Of one function's bodies all but the first are turned in copies of it, or in
+    other trials. An edit that turns more than one function is tried over the functions that it says refuse it, or else
+    over the whole crate. If none takes the whole crate, and no proofs exist that they begin with, the first trial of
+    bodies leads, with as many as there are."""
     pairs = copies.apart(edits)
     named = [Trial(crate, [it], [it.refused_by]) for it, paths in pairs if not paths and it.refused_by]
     alone = [Trial(crate, [it], [()]) for it, paths in pairs if not paths and not it.refused_by]
@@ -122,22 +124,22 @@ def turned(trial):
 
 
 def over_kept(crate, call):
-    """What a call gives that gets a copy of the work that the crate's own check left."""
+    """Returns the result of a call on a copy of the work that the crate's own check left."""
     with tempfile.TemporaryDirectory(prefix="wrong-bodies-") as room:
         rt.linked(f"{crate.folder}/out/incremental", f"{room}/kept")
         return call(f"{room}/kept")
 
 
 def over_nothing(crate, call):
-    """What a call gives that gets the folder in which the work is left that others begin with."""
+    """Returns the result of a call on the folder with the work that others begin with."""
     folder = f"{crate.folder}/out/incremental"
     os.makedirs(folder, exist_ok=True)
     return call(folder)
 
 
 def proofs_in(trial):
-    """The proofs of the copies in a trial; and of all functions that it turns, or that it says refuse it, the answers with a fault,
-    but for those whose whole proof is written."""
+    """Returns the proofs of the copies in a trial; and, for all functions that it turns, or that it says refuse it, the
+    answers with a fault, except those whose whole proof is written."""
     folder, found = trial.crate.folder, {}
     for path in [*trial.controls, *trial.asked]:
         proofs = functions.proofs_of(folder, path)
@@ -151,7 +153,7 @@ def proofs_in(trial):
 
 
 def checked(trial, flags, kept):
-    """What the prover says of the crate with all of a trial's edits, and with answers that hold a fault."""
+    """Returns the prover's output for the crate with all of a trial's edits, and with answers that hold a fault."""
     crate, texts = copy.copy(trial.crate), proofs_in(trial) | turned(trial)[0]
     with tempfile.TemporaryDirectory(prefix="wrong-bodies-") as crate.folder:
         for part in rt.rtlib.PARTS:
@@ -163,7 +165,7 @@ def checked(trial, flags, kept):
 
 
 def ask(trial, asked, threads):
-    """What the prover says of some functions of the crate with all of a trial's edits."""
+    """Returns the prover's output for some functions of the crate with all of a trial's edits."""
     flags = ["--jobs", str(threads), *[word for it in asked for word in ("--only", it)]]
     over = over_nothing if trial.leads else over_kept
     for _ in range(2):
@@ -208,9 +210,9 @@ def first_fault(said):
 
 
 def of_named(trial, said, beside=()):
-    """What the run came to over the functions that an edit says refuse it: they, or lemmas on which they rest, aren't proved, and
-    one of the functions beside them is. Else, as where only a limit of the prover was met, or where the edited text can't be read,
-    it is to be tried over the whole crate."""
+    """Returns the verdict of a run over the functions that an edit says refuse it: they, or lemmas on which they rest,
+    aren't proved, and one of the functions beside them is. Else the edit is to be tried over the whole crate, as it is if
+    only a limit of the prover was met, or if the edited text can't be read."""
     edit, told = trial.edits[0], verdicts.told(said)
     kind, why, ground = verdicts.verdict(trial.asked, told)
     lost = verdicts.refuted(said)
@@ -224,7 +226,8 @@ def of_named(trial, said, beside=()):
 
 
 def tried(trial, threads=1):
-    """What a trial's edits came to, those that are to be tried again, and the unturned functions that aren't proved."""
+    """Returns the verdicts of a trial's edits, those that are to be tried again, and the unturned functions that aren't
+    proved."""
     if trial.is_whole:
         return [whole(trial)], [], []
     if trial.is_named:

@@ -1,4 +1,4 @@
-"""What the prover said of the functions that it was asked for, and what that means for the edits that turned them."""
+"""The prover's verdicts on the functions that it was asked for, and the verdicts on the edits that turned them."""
 import re
 from dataclasses import dataclass
 
@@ -13,8 +13,8 @@ UNTURNED = "ISN'T PROVED, though no edit turned it"
 # A try with others says nothing of the edit, so it is tried by itself.
 UNSETTLED = "unsettled"
 
-# What a refusal rests on, and first what says most: a clause of the contract that isn't proved any more; an invariant, of a loop or
-# of a value; what a call or an operation asks for. Where a proof by hand no longer fits, the body may be right all the same.
+# The grounds of a refusal, the strongest first: a clause of the contract that is no longer proved; an invariant, of a loop or
+# of a value; a condition of a call or an operation. If a proof by hand no longer fits, the body may be right all the same.
 CLAUSE = "a clause"
 INVARIANT = "an invariant"
 CONDITION = "a condition of what it calls"
@@ -23,7 +23,7 @@ GROUNDS = (CLAUSE, INVARIANT, CONDITION, BY_HAND)
 
 # The declaration that faulty answers hold.
 FAULT = "holds_a_fault"
-# What of a function's search failed, which the prover tells above the function's line.
+# The failure of a function's search, which the prover prints above the function's line.
 UNMET = re.compile(r"^note: src/\S+: .*(?:not proved|no proof).*\(`([^`]+)`\)", re.M)
 LINE = re.compile(r"^fn (\S+): (proved|not proved|no proof|could not tell)\b(.*)$", re.M)
 OF_OTHERS = re.compile(r"which (?:is|are) not proved$")
@@ -35,7 +35,7 @@ PROOF_ERROR = re.compile(r"^(?:\./)?proofs/\S+\.antt:\d+:\d+: error: (?:`([^`]+)
 WENT = re.compile(r"has no field|is not in scope|has no `|was not admitted")
 # A proof that came to no end, within the prover's own limits: it says nothing of what it is to prove.
 STOPPED = re.compile(r"stopped at the \w+ limit|ran out of|outgrew the memory limit|came to no verdict")
-# Of what `rt` says of a whole check, what each ground of a refusal has in it, as the prover tells it above the code.
+# For the output of a whole check: the text by which each ground of a refusal is known, as the prover prints it above the code.
 TOLD_OF_CODE = re.compile(r"note: src/\S+: .*?\b(?:(ensures)|(invariant)|(requires))\b")
 # The last line of a run that came to its end.
 ENDED = re.compile(r"^only=\d+ proved=\d+$", re.M)
@@ -43,8 +43,8 @@ ENDED = re.compile(r"^only=\d+ proved=\d+$", re.M)
 
 @dataclass
 class Function:
-    """What the prover said of a function: its state, the goals that it didn't prove, those whose proof by hand no longer fits, those
-    whose proof names what went, and whether it is wanting in nothing but that others aren't proved."""
+    """The prover's verdict on a function: its state, the goals that it didn't prove, those whose proof by hand no longer
+    fits, those whose proof names something that is gone, and whether it only lacks other proofs."""
 
     state: str
     left: list
@@ -69,7 +69,7 @@ def folder_of(name):
 
 
 def told(text):
-    """What a run said of each function, by its name as it is printed."""
+    """Returns the verdict of a run on each function, by its name as it is printed."""
     errors, functions, above = {}, {}, 0
     for folder, goal, why in ERROR.findall(text):
         errors.setdefault(folder, []).append((goal, why))
@@ -86,8 +86,8 @@ def told(text):
 
 
 def refuted(text):
-    """The goals and lemmas of which a run said that their proof is none, but for those that name what went, and those at which a
-    limit of the prover was met."""
+    """Returns the goals and lemmas that a run said are not proved by their proof, except those that name something that is
+    gone, and those at which a limit of the prover was met."""
     said = [it for it in PROOF_ERROR.findall(text) if it[0] != FAULT]
     return [goal or "a proof" for goal, why in said if not WENT.search(why) and not STOPPED.search(why)]
 
@@ -120,19 +120,19 @@ def clauses(goals):
 
 
 def ground_of(goal):
-    """What a refusal rests on where the prover doesn't find a goal any more."""
+    """Returns the ground of a refusal if the prover no longer finds a goal."""
     if goal.startswith("returns"):
         return CLAUSE
     return INVARIANT if re.search(r"invariant|(?:^|-)loop-|decreases", goal) else CONDITION
 
 
 def ground(left):
-    """What a refusal rests on, by the goals that the prover doesn't find any more, if there are such: what says most."""
+    """Returns the ground of a refusal by the goals that the prover no longer finds, if there are any: the strongest."""
     return min((ground_of(it) for it in left), key=GROUNDS.index, default=BY_HAND)
 
 
 def ground_told(said):
-    """What a refusal rests on, by what `rt` says of a whole check: it tells one goal, or an error in a proof."""
+    """Returns the ground of a refusal by the output of `rt` for a whole check: it prints one goal, or an error in a proof."""
     found = TOLD_OF_CODE.search(said)
     if not found:
         return CONDITION if "note: src/" in said else BY_HAND
@@ -140,8 +140,8 @@ def ground_told(said):
 
 
 def verdict(paths, functions):
-    """What a run says of the edit that turned the functions with these paths, which goals went unproved, and what a refusal rests
-    on."""
+    """Returns the verdict of a run on the edit that turned the functions with these paths, the unproved goals, and the
+    ground of a refusal."""
     said = [it for name, it in functions.items() if any(is_within(name, path) for path in paths)]
     left = [goal for it in said for goal in it.left]
     unfit = [goal for it in said for goal in it.unfit]

@@ -1,4 +1,4 @@
-"""A test of the trials, on a crate of its own: what is right isn't told as refused, and what is wrong is."""
+"""A test of the trials, on a crate of its own: a right body isn't reported as refused, and a wrong one is."""
 import json
 import os
 import tempfile
@@ -129,7 +129,7 @@ FILES = {
     "crates/told/proofs/named/Answers.antt": ANSWERS,
     "crates/told/proofs/total/Invariants.antt": INVARIANTS,
 }
-# An edit's name, what it turns into what, and what it is to come to, a refusal by what. Of those of one function all but the first
+# An edit's name, its old and new text, its verdict, and the ground of a refusal. Of the edits of one function all but the first
 # turn copies of it.
 CASES = [
     ("a_sum_turned_round", "x as u32 + 1", "1 + x as u32", NOT_REFUSED, ""),
@@ -159,7 +159,7 @@ CASES = [
     ("is_nowhere", "8 + 8", "9 + 9", BAD, ""),
 ]
 
-# What the prover says of `limit` where a lemma on which it rests came to a limit, and where it is no proof.
+# The prover's output for `limit` if a lemma on which it rests met a limit, and if the lemma's proof is none.
 STOPPED = """./proofs/Limits.antt:5:5: error: `of_three`: in its elaboration (it was elaborating the text at 7:12–7:16): stopped at the step limit (50000000 steps a task, the default)
 ./proofs/limit/Answers.antt:4:5: error: 1 declaration that depends on `of_three`, which was not admitted, was not checked: returns
 fn told::limit: could not tell
@@ -179,7 +179,7 @@ fn told::seven: proved
 only=2 proved=1
 """
 
-# What a file of the store may hold that isn't what was kept: then it counts for nothing.
+# Contents of a file of the store other than those that were kept: then it counts for nothing.
 FORGED = ["", "refused", "{}", "[1]", json.dumps({"refused": [CLAUSE, "it"]})]
 
 # The functions that edits say refuse them.
@@ -307,7 +307,8 @@ def goes_together(crate):
 
 
 def asks_besides(crate):
-    """Whether a trial that leads asks also for what other edits say refuses them, but for what it turns itself."""
+    """Whether a trial that leads also asks for the functions that other edits say refuse them, except those that it turns
+    itself."""
     names = ("adds_two", "has_another_limit", "says_what_refuses_it", "says_what_has_no_answers")
     them = [edits.read(crate, f"{crate.folder}/{edits.FOLDER}/{it}.edit") for it in names]
     return [

@@ -1,8 +1,8 @@
 /*
- * calls KIND PAGES COUNT MOST: prepares a heap of so many pages and does COUNT calls of a kind, those of `bench_calls`. Built with
- * -DFLOOR the heap is the one of floor.c, and else the library. It writes what `bench_calls` does: the kind, how many calls, how
- * many of them answered other than they should, the sum of what they told, nanoseconds, and 0. What is prepared doesn't depend
- * on COUNT, so two runs differ by the calls alone.
+ * calls KIND PAGES COUNT MOST: prepares a heap of PAGES pages and does COUNT calls of a kind, those of `bench_calls`. Built with
+ * -DFLOOR the heap is the one of floor.c, and else the library. It writes the same line as `bench_calls`: the kind, how many calls,
+ * how many of them gave a wrong answer, the sum of their answers, nanoseconds, and 0. The prepared heap doesn't depend on COUNT, so
+ * two runs differ only by their calls.
  */
 #define _POSIX_C_SOURCE 200809L
 #include <inttypes.h>

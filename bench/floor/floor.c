@@ -41,7 +41,7 @@ static inline uint64_t resolve(const floor_heap *heap, uint64_t reference) {
     return reference ? heap->words[reference - 1] + 1 : 0;
 }
 
-/* Where cell i stands in an array of more cells than a part has: by its spine. */
+/* Returns cell i of an array of more cells than a part has: by its spine. */
 static APART uint64_t *far_cell(const floor_heap *heap, uint64_t block, uint32_t i) {
     uint64_t part = heap->words[heap->words[block + CELLS + i / PART_CELLS] - 1];
     return &heap->words[part + CELLS + i % PART_CELLS];

@@ -24,7 +24,7 @@ struct page {
     uint16_t blocks;
 };
 
-/* What a mutator has recorded. */
+/* The records of a mutator. */
 struct records {
     uint32_t count;
     uint64_t references[RECORDS];
@@ -37,13 +37,13 @@ struct records {
  */
 typedef struct floor_heap {
     uint64_t *words;
-    uint64_t *slots;             /* of each mutator SLOTS */
-    uint32_t room[MUTATORS];     /* how many slots a mutator has that is live, and else 0 */
+    uint64_t *slots;             /* SLOTS for each mutator */
+    uint32_t room[MUTATORS];     /* how many slots a mutator has if it is live, else 0 */
     uint64_t next;               /* the identity of the next object */
     uint64_t identities;         /* the greatest one */
-    bool records;                /* whether what is overwritten is recorded */
-    uint8_t colour;              /* of new objects */
-    uint32_t grey;               /* the first of what was recorded and is to be looked at */
+    bool records;                /* whether overwritten references are recorded */
+    uint8_t colour;              /* the colour of new objects */
+    uint32_t grey;               /* the first recorded block that is still to be looked at */
     uint32_t free_pages;
     uint32_t free_blocks[CLASSES];
     uint8_t class_of[PART_CELLS + 1]; /* by the number of cells */
@@ -53,10 +53,10 @@ typedef struct floor_heap {
     struct records recorded[MUTATORS];
 } floor_heap;
 
-/* A heap of so many pages, of which so many mutators are live; NULL where there is no memory. */
+/* Makes a heap of `pages` pages with `mutators` live mutators; NULL if there is no memory. */
 floor_heap *floor_create(uint32_t pages, uint32_t mutators);
 
-/* A cycle begins, and what is overwritten is recorded from then on. */
+/* Begins a cycle: overwritten references are recorded from then on. */
 void floor_begin(floor_heap *heap);
 
 metronome_answer floor_new_plain(floor_heap *heap, uint32_t mutator, uint32_t dst, uint32_t refs, uint32_t words);

@@ -57,7 +57,7 @@ static inline const char *field(const char *at, char end, uint32_t *told) {
     return at + 1;
 }
 
-/* So many of them, the last before the end of the line. */
+/* Reads `count` fields, the last before the end of the line. */
 static inline const char *fields(const char *at, struct entry *entry, int first, int count) {
     for (int k = 0; k < count && at != NULL; k++)
         at = field(at, k + 1 < count ? ' ' : '\n', &entry->operands[first + k]);

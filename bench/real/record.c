@@ -104,7 +104,7 @@ void *calloc(size_t number, size_t each) {
     return after;
 }
 
-/* Where it is refused the block stays, but for one that is to have no bytes. */
+/* If it is refused, the block stays, unless the new one is to have no bytes. */
 void *realloc(void *before, size_t bytes) {
     take_turn();
     void *after = __libc_realloc(before, bytes);

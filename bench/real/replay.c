@@ -1,14 +1,13 @@
 /*
- * replay RECORDING TIMES UNITS [least]: does what a recorded program asked of malloc on a heap that keeps a plan. Each block is an
- * array of as many words, which a table of references holds until the program gives it back; the plan is for the most words of
- * blocks that the program, and the table, have live at once, on TIMES as many pages as are the fewest with a plan, or on so many
- * more that it lets the largest object be made; quanta have UNITS. No object may be refused, and each must have its number in it
- * when it goes.
+ * replay RECORDING TIMES UNITS [least]: repeats a recorded program's calls of malloc on a heap that keeps a plan. Each block is an
+ * array of as many words, which a table of references holds until the program gives it back. The plan is for the most words of
+ * blocks that the program, and the table, have live at once. The heap has TIMES the fewest pages with a plan, or more, so that the
+ * largest object can be made; quanta have UNITS. No object may be refused, and each must have its number in it when it goes.
  *
  * It prints the calls that make a block, the most live words, the fewest pages with a plan, the pages, the plan's words for each
  * quantum, the quanta that were spent, the most of them before one object, the nanoseconds of the longest call and the seconds of
- * all; and, where `least` is asked for, the fewest pages on which the same calls meet no refusal with the same words for each
- * quantum and each cycle, found by halving. The status is 1 where an object was refused, or isn't as it was made.
+ * all. With `least` it also prints the fewest pages on which the same calls meet no refusal with the same words for each quantum
+ * and each cycle, found by halving. The status is 1 if an object was refused, or isn't as it was made.
  */
 #define _POSIX_C_SOURCE 200809L
 #include "metronome.h"
@@ -20,29 +19,29 @@
 
 enum { PIECE = 252, MOST_CELLS = 4000000 };
 
-/* The slots: of an object that is just made, of the table, of nothing, and of an object that goes. */
+/* The slots: for an object that is just made, for the table, for null, and for an object that goes. */
 enum { MADE, TABLE, NOTHING, GOES, SLOTS };
 
 #define NONE UINT32_MAX
 
-/* A call: cells of a new object, if any, and where in the table it is put; and which place is emptied then, if any. */
+/* A call: the cells of a new object, if any, and its place in the table; and the place that is emptied then, if any. */
 struct call {
     uint32_t cells;
     uint32_t made;
     uint32_t gone;
 };
 
-/* What a program asks for. */
+/* The calls of a program. */
 struct program {
     struct call *calls;
     size_t count;
     size_t made;          /* how many calls make an object */
-    uint32_t places;      /* of the table */
+    uint32_t places;      /* how many places the table has */
     uint64_t live_words;  /* the most at once, with those of the table */
-    uint64_t most_words;  /* of one object */
+    uint64_t most_words;  /* the most words of one object */
 };
 
-/* What came of a program on a heap. */
+/* The outcome of a program on a heap. */
 struct outcome {
     uint64_t refused;
     uint64_t changed; /* objects that weren't as they were made */
@@ -50,7 +49,7 @@ struct outcome {
     metronome_work work;
 };
 
-/* The words of a block for an object of so many cells, as the heap says, and those of all blocks of an object. */
+/* By an object's number of cells: the words of a block for them, as the heap says, and of all its blocks. */
 static uint32_t block_words[PIECE + 1];
 
 static void fail(const char *what) {
@@ -111,7 +110,7 @@ static uint64_t *addresses_of(const struct record *records, size_t count, size_t
     return them;
 }
 
-/* What stands at each address: a place in the table, and the cells of the object there. */
+/* For each address: its object's place in the table, and its cells. */
 struct standing {
     uint32_t place;
     uint32_t cells;
@@ -128,7 +127,7 @@ static uint32_t take_place(struct places *places) {
     return places->left > 0 ? places->free[--places->left] : places->taken++;
 }
 
-/* What a record comes to. A block that isn't known was there before the recording began. */
+/* Makes the call of a record. An unknown block was there before the recording began. */
 static struct call call_of(const struct record *record, struct standing *before, struct standing *after, struct places *places) {
     struct call call = { 0, NONE, NONE };
     if (record->before != 0 && before->place != NONE) {
@@ -145,7 +144,7 @@ static struct call call_of(const struct record *record, struct standing *before,
     return call;
 }
 
-/* The calls of records: of a block that grows both the new one and the old one are live for a while. */
+/* Makes the calls of records. If a block grows, both the new one and the old one are live for a while. */
 static struct program program_of(const struct record *records, size_t count) {
     struct program program = { room_for(count, sizeof(struct call)), count, 0, 0, 0, 0 };
     struct places places = { room_for(count, sizeof(uint32_t)), 0, 0 };
@@ -204,7 +203,7 @@ struct paced {
     uint64_t spent;  /* quanta in all */
 };
 
-/* Whether so many words may be made now. */
+/* Whether this many words may be made now. */
 static bool may_make(struct paced *p, uint64_t words) {
     uint32_t phase = METRONOME_IDLE;
     metronome_phase(&p->heap, &phase);
@@ -212,7 +211,7 @@ static bool may_make(struct paced *p, uint64_t words) {
     return phase == METRONOME_IDLE || p->words + words <= (p->quanta + 1) * p->flow.quantum_words;
 }
 
-/* The collector works until so many words may be made. */
+/* Lets the collector work until this many words may be made. */
 static void pay(struct paced *p, uint64_t words) {
     metronome_spent spent;
     while (!may_make(p, words)) {
@@ -234,7 +233,7 @@ static uint64_t now(void) {
     return (uint64_t)time.tv_sec * 1000000000u + (uint64_t)time.tv_nsec;
 }
 
-/* A new object, or the table. Answers whether it was made. */
+/* Makes an object, or the table. Returns whether it was made. */
 static bool make(struct paced *p, uint32_t slot, uint32_t cells, struct outcome *outcome) {
     const uint64_t began = now();
     if (!p->keeps) pay(p, words_of(cells));
@@ -246,7 +245,7 @@ static bool make(struct paced *p, uint32_t slot, uint32_t cells, struct outcome 
     return answer.kind == METRONOME_MADE;
 }
 
-/* An object is made, has its number put into it, and is put into the table. */
+/* Makes an object, puts its number into it, and puts it into the table. */
 static void come(struct paced *p, const struct call *call, struct outcome *outcome) {
     if (!make(p, MADE, call->cells, outcome)) return;
     if (call->cells > 0) metronome_put(&p->heap, 0, MADE, call->cells - 1, call->made);
@@ -254,7 +253,7 @@ static void come(struct paced *p, const struct call *call, struct outcome *outco
     metronome_clear(&p->heap, 0, MADE);
 }
 
-/* An object goes, once it was looked at whether its last word is its number still. */
+/* Drops an object, after a test whether its last word is still its number. */
 static void go(struct paced *p, uint32_t place, struct outcome *outcome) {
     metronome_shape shape;
     metronome_load(&p->heap, 0, GOES, TABLE, place);
@@ -285,7 +284,7 @@ static metronome_settings settings_of(uint64_t pages, uint32_t units) {
     return settings;
 }
 
-/* A program on a heap of so many pages that keeps a plan, or is paced by it here. */
+/* Runs a program on a heap of `pages` pages that keeps a plan, or is paced by it here. */
 static struct outcome run_on(const struct program *program, uint64_t pages, const metronome_flow *flow, bool keeps) {
     const metronome_settings settings = settings_of(pages, flow->budget);
     struct paced paced = { METRONOME_CLOSED, *flow, keeps, 0, 0, 0 };
@@ -312,7 +311,7 @@ static uint64_t pages_for(const struct program *program, uint64_t times, uint32_
     return 0;
 }
 
-/* The fewest pages, of at most so many, on which a program meets no refusal at the pace of a plan. */
+/* Finds the fewest pages, up to a number, on which a program meets no refusal at the pace of a plan. */
 static uint64_t least_for(const struct program *program, uint64_t pages, const metronome_flow *flow) {
     uint64_t refused = program->live_words / 2048, passed = pages;
     while (passed - refused > 1) {

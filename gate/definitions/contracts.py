@@ -1,4 +1,4 @@
-"""What a piece of code names: definitions in what is said of it, and types."""
+"""The names in a piece of code: definitions in its contracts, and types."""
 import re
 import sys
 from dataclasses import dataclass, field
@@ -16,8 +16,8 @@ IS_OWN = re.compile(r"\b[Ss]elf\b")
 
 @dataclass
 class Named:
-    """What a piece of code names: definitions, each a module and a name; types, each a crate and a name; the definitions
-    that are asked of a type's values only, and say nothing of what contracts see of them; and the texts that name them."""
+    """The names in a piece of code: definitions, each a module and a name; types, each a crate and a name; the definitions
+    that only the invariant of a type cites, and not the contracts' view of it; and the texts that name them."""
 
     definitions: set = field(default_factory=set)
     types: set = field(default_factory=set)
@@ -33,8 +33,8 @@ class Named:
 
 @dataclass
 class Around:
-    """What stands around a piece of code: its crate, the types and the definitions that are taken from elsewhere, the type or
-    trait whose block it is in, and whether that block is a trait or of one, in which all is public."""
+    """The surroundings of a piece of code: its crate, the types and the definitions that it imports, the type or trait whose
+    block it is in, and whether that block is a trait or of one, in which all is public."""
 
     crate: str
     types: dict
@@ -43,7 +43,8 @@ class Around:
     is_trait: bool = False
 
     def named(self, code, is_type=False):
-        """What a piece of code names. In a type a ghost part with a colon is asked of its values, if it isn't a public field."""
+        """Returns the names in a piece of code. In a type, a ghost part with a colon is part of the invariant, unless it is
+        a public field."""
         plain, ghosts, promises, texts, at = "", "", "", [], 0
         while found := GHOST.search(code, at):
             end = group_end(code, found.end() - 1)
@@ -70,7 +71,7 @@ class Around:
 
 
 def around(crate, text):
-    """What stands around the items of a file."""
+    """Returns the surroundings of the items of a file."""
     types = {}
     for front, names, name in RUST_USE.findall(text):
         of = crate if front in ("crate", "self", "super") else front
@@ -82,7 +83,7 @@ def around(crate, text):
 
 
 def contract_end(code, at):
-    """Where the contract ends of the function whose name ends at a place, and where the function does."""
+    """Returns the ends of the contract, and of the function, whose name ends at a place."""
     body = body_of(code, at)
     if body is not None:
         return body, group_end(code, body)
@@ -91,7 +92,7 @@ def contract_end(code, at):
 
 
 def closing(code, at, signs):
-    """Where one of some signs stands first behind a place, in no bracket."""
+    """Returns the first place of one of some signs behind a place, outside brackets."""
     depth = 0
     while depth or code[at] not in signs:
         depth += {"(": 1, "[": 1, "{": 1, ")": -1, "]": -1, "}": -1}.get(code[at], 0)

@@ -1,4 +1,4 @@
-"""What a crate's code declares, and the contracts of its calls."""
+"""The declarations of a crate's code, and the contracts of its calls."""
 import re
 import textwrap
 from dataclasses import dataclass
@@ -34,8 +34,8 @@ class Call:
 
 
 class CodeFile:
-    """A file of code: what it declares, each with what it names; what the blocks of a type say of it, by the type; its calls;
-    and which types and constants are declared public."""
+    """A file of code: its declarations, each with the names in it; the names in the blocks of a type, by the type; its
+    calls; and which types and constants are public."""
 
     def __init__(self, crate, path, text):
         self.crate, self.path, self.text = crate, path, text
@@ -44,7 +44,7 @@ class CodeFile:
         self.items(0, len(text), around(crate, text))
 
     def told(self):
-        """What the file says of itself."""
+        """Reads the declarations of the file."""
         return " ".join(line[3:].strip() for line in self.text.split("\n") if line.startswith("//!"))
 
     def items(self, at, end, here):
@@ -141,8 +141,8 @@ def public_files(texts):
 
 
 def public_names(files):
-    """The types, traits, constants and free functions of a crate that can be named from outside. Of a program or a library for
-    C all that it declares public counts."""
+    """Returns the types, traits, constants and free functions of a crate that can be named from outside. In a program or a
+    library for C all public declarations count."""
     texts = {it.path: it.text for it in files}
     inside, names = public_files(texts), set()
     for path in inside & texts.keys():

@@ -94,17 +94,17 @@ class Listing:
         return self.trust.crates.index(place.crate), place.file, self.trust.definitions[place].line
 
     def of_crate(self, crate):
-        """What is listed of a crate, and what of that the headline rests on."""
+        """The list of a crate, and the part of it on which the headline rests."""
         listed = [it for it in self.listed if it.crate == crate]
         return listed, [it for it in listed if it in self.headline]
 
     def others_of(self, crates):
-        """What contracts and definitions of some crates take from the language, its library and packages."""
+        """The names that contracts and definitions of some crates take from the language, its library and packages."""
         cited = (self.trust.others.get(crate, set()) for crate in crates)
         return set().union(*cited, *(self.trust.definitions[it].others for it in self.listed if it.crate in crates))
 
     def counts(self):
-        """What is counted of all crates, as text."""
+        """The counts over all crates, as text."""
         text = (
             f"The contracts of {len(self.trust.calls)} public calls rest on {len(self.listed)} definitions, the headline on"
             f" {len(self.headline)} of them; the contracts from `{FIRST_OUTER}` on, with the headline, on {len(self.outer)}."

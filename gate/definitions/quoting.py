@@ -1,4 +1,4 @@
-"""The page that quotes definitions: what stands in its blocks is what the tree says."""
+"""The page that quotes definitions: its blocks must be the text of the tree."""
 import re
 
 from tree import Place
@@ -7,7 +7,7 @@ from tree import Place
 PLACE = r"(?P<crate>\w+)/(?P<file>[\w/]+)\.(?:antt|rt)"
 BLOCK = re.compile(rf"^(?P<head>```(?:antt|rust) {PLACE} (?P<names>[^\n]+))\n.*?^```$", re.M | re.S)
 
-# What counts are put between.
+# The marks around counts.
 COUNTS = re.compile(r"^<!-- gate/definitions: counts -->\n(.*?)^<!-- end -->$", re.M | re.S)
 
 

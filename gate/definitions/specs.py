@@ -12,7 +12,7 @@ IS_COMMENT = re.compile("--").match
 
 
 class Written:
-    """A definition as its file has it: where it begins, what is said above it, and its text."""
+    """A definition as its file has it: its place, the comment above it, and its text."""
 
     def __init__(self, line, comment, text):
         self.line, self.comment, self.text = line, comment, text

@@ -1,4 +1,4 @@
-"""What is trusted, one by one: a definition, where it stands, and how a name finds it from where it is used."""
+"""The definitions that are trusted: each with its place, and how a name finds it from its uses."""
 import hashlib
 import os
 import re
@@ -10,13 +10,13 @@ TOP = os.path.dirname(os.path.dirname(os.path.dirname(os.path.abspath(__file__))
 NAME = re.compile(r"(?<![\w.'])[A-Za-z_][\w'-]*(?:\.[A-Za-z_][\w'-]*)?")
 USE = re.compile(r"\buse (?:Rattle\.)?([a-z_]+\.[\w.]+?)(?:\.\{([^}]*)\})?(?: as (\w+))?(?=[;\n]|$)")
 
-# What is said of a field where its record is made or declared: the field's name says nothing of definitions.
+# The name of a field where its record is made or declared: it names no definition.
 LABEL = re.compile(r"(?<=[{;])\s*\w+\s*=(?!=)|^\s+(?:pub )?[\w]+ :(?= )", re.M)
 
 
 @dataclass(frozen=True)
 class Place:
-    """Where a definition stands: its crate, its file below the crate without the ending, and its name."""
+    """The place of a definition: its crate, its file below the crate without the ending, and its name."""
 
     crate: str
     file: str
@@ -25,9 +25,9 @@ class Place:
 
 @dataclass
 class Definition:
-    """A definition: its place, the line of its file at which it begins, what is said of it above it, its text without comments,
-    its value or its parts as the code has them, the places of the definitions that it names, and what it takes from the
-    language's library and from packages, each a module and a name."""
+    """A definition: its place, the line of its file at which it begins, the comment above it, its text without comments, its
+    value or its parts as the code has them, the places of the definitions that it names, and the names that it takes from
+    the language's library and from packages, each a module and a name."""
 
     place: Place
     line: int

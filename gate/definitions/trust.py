@@ -3,7 +3,7 @@ from declared import public_names, read_code
 from specs import read_specs
 from tree import Place, crates
 
-# The calls whose contracts are the headline: of each its crate, its type and its name.
+# The calls whose contracts are the headline: for each its crate, its type and its name.
 HEADLINE = [("machine", "Recorded", "new"), ("machine", "Recorded", "run")]
 
 # The first of the crates that a user of the program meets; those before it are the core.
@@ -11,7 +11,7 @@ FIRST_OUTER = "heap_server"
 
 
 def place_of(module, name):
-    """Where a name of a module is declared or defined."""
+    """Returns the place where a name of a module is declared or defined."""
     crate, _, *parts = module.split(".")
     if parts[:1] != ["declared"]:
         return Place(crate, "specs/" + "/".join(parts), name)

@@ -4,7 +4,7 @@ from collections import Counter
 
 from finders import imports, tree
 
-# What the prover reads by itself, and figures that it computes for the reader.
+# Lemmas that the prover reads by itself, and figures that it computes for the reader.
 ENDS = ("/Answers.antt", "/Invariants.antt", "/Proof.antt", "/TheLaws.antt", "/Figures.antt")
 
 WORD = re.compile(r"[\w'#?-]+")

@@ -81,7 +81,7 @@ module _ (n : ℕ) where
 """
 
 
-# What each finder is to find there.
+# The findings of each finder there.
 WANTED = {
     paths: [
         "README.md: docs/no.md isn't there",
@@ -128,7 +128,7 @@ def written(top):
 
 
 def faults():
-    """What a finder finds there that it isn't to, and what it doesn't find."""
+    """Returns the findings of a finder that are wrong there, and those that are missing."""
     with tempfile.TemporaryDirectory() as top:
         written(top)
         for finder, wanted in WANTED.items():

@@ -16,7 +16,7 @@ CODE = [
     ("gate", ("",)),
     ("include", ("",)),
 ]
-# (a folder of tests/, but for the cases)
+# (folders of tests/, without the cases)
 TESTS = ("runner", "traces", "work")
 
 

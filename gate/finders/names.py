@@ -4,7 +4,7 @@ from collections import defaultdict
 
 from finders import tree
 
-# What documents name with a method that isn't of the tree: types of the language's library, and what CMake finds.
+# Names with a method in documents that aren't of the tree: types of the language's library, and the package that CMake finds.
 OF_OTHERS = {"Vec", "Box", "Mutex", "Metronome"}
 
 CODE = (".rt", ".antt", ".rs")

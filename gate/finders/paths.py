@@ -4,7 +4,8 @@ import re
 
 from finders import tree
 
-# What documents name: in a link, or as a word of its own that begins with a folder of the repository, of a crate, or with a crate.
+# The paths in documents: in a link, or as a word of its own that begins with a folder of the repository, of a crate, or with a
+# crate.
 LINK = re.compile(r"\]\(([^)#:]+)\)")
 FOLDERS = "bench|bin|crates|docs|examples|gate|include|tests|bindings"
 PARTS = "src|specs|proofs|must-fail|wrong-bodies"

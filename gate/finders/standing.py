@@ -1,4 +1,4 @@
-"""What stands today against a rule: findings that are known, a line each in a file, to which nothing is added."""
+"""Known findings against a rule: a line each in a file, to which none is added."""
 
 KNOWN = "gate/standing.txt"
 

@@ -1,7 +1,7 @@
 """The files of a tree: its documents, its crates, and what of them a finder reads."""
 import os
 
-# What the toolchain and other tools make, and what git keeps.
+# The folders that the toolchain, other tools and git make.
 MADE = {".git", "out", "target", "__pycache__"}
 
 

@@ -1,11 +1,11 @@
-"""The commands that documents show with what they print.
+"""The commands that documents show with their output.
 
 A line '    $ COMMAND' of an indented block, or '$ COMMAND' of one between ``` lines, is a command; the lines below it in the
-block, up to the next command or an empty line, are what it prints; a line '..' of them stands for any lines. Commands run in
-a new folder, which has bin/metronome and the examples, those of a document one after the other. Each run of the program ends with
-status 0 in them, and the command too, but for one that ends in a search which finds nothing (1); the error stream gets nothing.
-Where a command has `2>&1` a fault is shown, and the program ends with another status. One that begins with a program that the
-gate can do without is left out where that isn't installed, and told of.
+block, up to the next command or an empty line, are its output; a line '..' of them stands for any lines. Commands run in
+a new folder, which has bin/metronome and the examples, those of a document one after the other. Each run of the program in them must end
+with status 0, and so must the command, unless it ends in a search which finds nothing (1); the error stream gets nothing.
+If a command has `2>&1`, it shows a fault, and the program ends with another status. A command that begins with a program that the
+gate can do without is left out if that isn't installed, and it is printed.
 """
 import os
 import re
@@ -19,10 +19,10 @@ from runner.results import Result, difference, is_as_wanted
 SHOWN = re.compile(r"^( {4}|)\$ (.*)$")
 SEARCH = re.compile(r".*\| grep [^|]*")
 
-# What commands begin with that the gate can do without.
+# The beginnings of commands that the gate can do without.
 SPARED = ("dot",)
 
-# What stands in the program's place: it runs the program, and notes with which status that ended.
+# The stand-in for the program: it runs the program, and notes its status.
 NOTING = """#!/bin/sh
 status=0
 '{program}' "$@" || status=$?
@@ -41,7 +41,7 @@ class Shown:
     end: int
 
     def wanted(self, lines):
-        """What it prints, by the lines of the document."""
+        """Returns its output, by the lines of the document."""
         return "".join(f"{it.removeprefix(self.indent)}\n" for it in lines[self.start : self.end]).encode()
 
 
@@ -58,7 +58,7 @@ class Document:
 
     @property
     def title(self):
-        """What its cases are."""
+        """Returns its cases."""
         return "commands of a document"
 
     def play(self, program):
@@ -67,7 +67,7 @@ class Document:
         return [self.result(it, it.wanted(lines), *ran) for it, *ran in self.outputs(program, lines)]
 
     def result(self, shown, wanted, ended, statuses):
-        """What came of a command, by how it ended, and the program in it."""
+        """Returns the outcome of a command, by how it and the program in it ended."""
         faults = [] if is_as_wanted(wanted, ended.output) else [difference("output", wanted, ended.output)]
         if ended.errors:
             faults.append(difference("errors", b"", ended.errors))
@@ -96,7 +96,7 @@ class Document:
             return [(it, *ran(it.command, folder, statuses)) for it in commands(lines) if is_installed(it.command)]
 
     def write(self, program):
-        """Writes what its commands print into the document, but for those with a line '..'."""
+        """Writes the output of its commands into the document, except those with a line '..'."""
         lines = self.lines()
         for shown, ended, _ in reversed(self.outputs(program, lines)):
             if b"..\n" not in shown.wanted(lines).splitlines(keepends=True):

@@ -56,7 +56,7 @@ def spread(lines, names):
 
 
 def block(lines, at):
-    """Of the loop or the table that begins at a place: the place before its first line, and that of its end."""
+    """Returns, for the loop or the table that begins at a place, the place before its first line, and the place of its end."""
     begin = at
     if TABLE.fullmatch(lines[at].text):
         begin = next((k for k in range(at, len(lines)) if lines[k].text == "do"), None)
@@ -73,7 +73,7 @@ def block(lines, at):
 
 
 def ranged(line, loop, names):
-    """What a loop names: one number at a time, of a range or of a list."""
+    """Yields the names of a loop: one number at a time, of a range or of a list."""
     low, dots, high = loop[2].partition("..")
     if dots:
         numbers = range(value(line, low, names), value(line, high, names))
@@ -83,7 +83,7 @@ def ranged(line, loop, names):
 
 
 def rowed(lines, table, names):
-    """What a table names: one row at a time. Its columns stand between |, and a number is one."""
+    """Yields the names of a table: one row at a time. Its columns stand between |, and a number is one."""
     columns = table[1].split(", ")
     for line in lines:
         cells = [it.strip() for it in told(line, names).split(" | ")]
@@ -93,7 +93,7 @@ def rowed(lines, table, names):
 
 
 def value(line, text, names):
-    """What an expression of names and numbers is worth."""
+    """Returns the value of an expression of names and numbers."""
     try:
         return eval(text, {"__builtins__": {}}, names)
     except (NameError, SyntaxError, TypeError) as fault:

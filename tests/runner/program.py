@@ -26,11 +26,12 @@ class Ended:
 
 @dataclass(frozen=True)
 class Streams:
-    """What a run is given: its input, whether a read fails where that ends, and how many bytes its output and its error
-    stream have room for (None: any number)."""
+    """The input of a run, whether a read fails at its end, whether it comes through a pipe, and how many bytes its output and
+    its error stream have room for (None: any number)."""
 
     given: bytes = b""
     breaks: bool = False
+    piped: bool = False
     room: int | None = None
     errors_room: int | None = None
 
@@ -49,11 +50,14 @@ class Program:
         with contextlib.ExitStack() as opened:
             given, output, errors = (opened.enter_context(tempfile.TemporaryFile()) for _ in range(3))
             how = {"cwd": folder, "timeout": LIMIT, "restore_signals": not rooms, **limits}
-            how["stdin"] = opened.enter_context(broken(streams.given)) if streams.breaks else filled(given, streams.given)
+            if streams.piped:
+                how["input"] = streams.given
+            else:
+                how["stdin"] = opened.enter_context(broken(streams.given)) if streams.breaks else filled(given, streams.given)
             how["stdout"] = output if streams.room is not None else subprocess.PIPE
             how["stderr"] = errors if streams.errors_room is not None else subprocess.PIPE
             ran = subprocess.run([self.path, *words], check=False, **how)
-            took = None if streams.breaks else os.lseek(given.fileno(), 0, os.SEEK_CUR)
+            took = None if streams.breaks or streams.piped else os.lseek(given.fileno(), 0, os.SEEK_CUR)
             return Ended(ran.returncode, written(output, ran.stdout), written(errors, ran.stderr), took)
 
 
@@ -78,7 +82,7 @@ def broken(data):
 
 
 def written(file, told):
-    """What was written into a file, where no pipe told it."""
+    """Returns the text that was written into a file, if no pipe took it."""
     if told is not None:
         return told
     file.seek(0)

@@ -1,4 +1,4 @@
-"""What comes of a case, and how outputs are compared."""
+"""Outcomes of cases, and comparison of outputs."""
 import difflib
 import re
 from dataclasses import dataclass, field
@@ -8,14 +8,14 @@ from runner.lines import shown
 
 @dataclass
 class Result:
-    """What came of a case: where it stands, what it says, and what is wrong with it."""
+    """The outcome of a case: its place, its text, and its faults."""
 
     place: str
     title: str
     faults: list = field(default_factory=list)
 
     def report(self):
-        """What to print of a case that failed."""
+        """Returns the text to print for a case that failed."""
         return "\n".join([f"{self.place}: {self.title}", *self.faults])
 
 

@@ -5,7 +5,7 @@ import tempfile
 
 from runner.program import Program
 
-# What stands in the program's place: it answers by its words, and typed lines by the lines.
+# The stand-in for the program: it answers by its words, and typed lines by the lines.
 PROGRAM = """#!/usr/bin/env python3
 import sys
 status, output, errors, *taken = {answers!r}.get(" ".join(sys.argv[1:]), (9, "", ""))
@@ -53,7 +53,7 @@ OF_FAULT = {
     "play config text --history": (4, ENTRY, FAULT),
     "play config -": (4, "", FAULT),
 }
-# What is wrong with a program: the file that is to show it, the words, and the answer to them.
+# Wrong programs: the file that must show the fault, the words, and the answer to them.
 WRONG = [
     ("right.story", "play config text", (0, "made 1\nmade 2\n", "")),
     ("right.story", "play config text", (9, "made 1\n", "")),
@@ -108,7 +108,7 @@ def written(folder, name, text):
 
 
 def fails(chosen, played, folder, name, changed):
-    """Whether a file's cases fail with the program that answers so, but for what is changed."""
+    """Whether a file's cases fail with the program that gives these answers, except for the changed ones."""
     answers = {**ANSWERS, **(OF_FAULT if name == "faulty.story" else {}), **changed}
     program = Program(written(folder, "program", PROGRAM.format(answers=answers, reply="made 1\n")))
     cases, wrong = chosen([f"{folder}/{name}"])
@@ -116,7 +116,7 @@ def fails(chosen, played, folder, name, changed):
 
 
 def looks(chosen, played, folder):
-    """Each look at the runner: what it is, and whether it is as it must be."""
+    """Yields each look at the runner: its name, and whether it is as it must be."""
     for name, text in FILES.items():
         written(folder, name, text)
         yield name, not fails(chosen, played, folder, name, {})

@@ -46,14 +46,14 @@ class Run:
             if narrow:
                 given = dataclasses.replace(given, **{"errors_room" if narrow[1] else "room": int(narrow[2])})
             elif word.startswith("<"):
-                name, breaks = word[1:].rstrip("!"), word.endswith("!")
-                given = dataclasses.replace(given, given=self.files[name], breaks=breaks)
+                how = {"given": self.files[word[1:].rstrip("!|")], "breaks": word.endswith("!"), "piped": word.endswith("|")}
+                given = dataclasses.replace(given, **how)
             else:
                 words.append(lines.escaped("" if word == "''" else word))
         return words, given
 
     def faults(self, program, folder):
-        """What is wrong with the run."""
+        """Yields the faults of the run."""
         words, given = self.called()
         ended = program.run(words, folder, given)
         if ended.status != self.status:
@@ -72,7 +72,7 @@ class Run:
 
 
     def faults_of_output(self, program, folder, given, ended):
-        """What is wrong with what the run wrote."""
+        """Yields the faults of the run's output."""
         if not is_as_wanted(self.errors[: given.errors_room], ended.errors):
             yield difference("errors", self.errors[: given.errors_room], ended.errors)
         if self.before is not None:

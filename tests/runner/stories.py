@@ -26,8 +26,8 @@ class Line:
 
 @dataclass
 class Story:
-    """A heap's story: its configuration, its trace, and what is asked: by the number of events before it, lines of the report
-    and quanta; windows by the lines of the trace before them; and how else it is played: cut, or typed."""
+    """A heap's story: its configuration, its trace, and its questions. By the number of events before them: lines of the
+    report, and quanta. By the lines of the trace before them: windows. And how else it is played: cut, or typed."""
 
     place: str
     title: str
@@ -55,19 +55,19 @@ class Story:
             return [Result(self.place, self.title, faults)]
 
     def count(self):
-        """How many lines it has, of the trace and of what is asked."""
+        """How many lines it has, of the trace and of questions."""
         return len(self.trace) + len(self.reported) + len(self.quanta) + len(self.windows) + len(self.ways) + bool(self.status)
 
     def text(self, count):
-        """The text of so many lines of the trace."""
+        """The text of this many lines of the trace."""
         return "".join(f"{it.text}\n" for it in self.trace[:count])
 
     def errors(self):
-        """What the error stream has at the end."""
+        """The text on the error stream at the end."""
         return f"metronome: {self.fault}\n".encode() if self.status else b""
 
     def sound(self):
-        """The text of the lines that are played: all, but for the last where the run ends there."""
+        """The text of the lines that are played: all, except the last if the run ends there."""
         return self.text(len(self.trace) - bool(self.status))
 
     def history(self):
@@ -76,7 +76,7 @@ class Story:
         return "".join(f"{it}\n" for it in entries)
 
     def replies(self, count):
-        """The replies to so many lines of the trace."""
+        """The replies to this many lines of the trace."""
         return "".join(f"{it.reply}\n" for it in self.trace[:count] if it.reply is not None)
 
 
@@ -137,7 +137,7 @@ def add_event(story, line):
 
 
 class Heard:
-    """What the program says of a story, in a folder that has its configuration and its trace."""
+    """The program's output for a story, in a folder that has its configuration and its trace."""
 
     def __init__(self, story, program, folder):
         self.story, self.program, self.folder = story, program, folder
@@ -149,7 +149,7 @@ class Heard:
         return self.program.run(words, self.folder, Streams(given))
 
     def faults(self):
-        """What is wrong with the story as the program tells it."""
+        """Yields the faults of the story with the program."""
         yield from self.faults_of_replies()
         yield from self.faults_of_history()
         yield from self.faults_of_windows()
@@ -168,7 +168,7 @@ class Heard:
             yield difference("errors", self.story.errors(), ended.errors)
 
     def first_difference(self, got):
-        """Where lines differ first from the replies that are wanted."""
+        """Returns the first line that differs from the wanted replies."""
         for line, answer in zip(self.replied, got):
             if answer != line.reply:
                 return f"  line {line.number}: {line.text}: expected {line.reply}, got {answer or 'nothing'}"
@@ -187,7 +187,7 @@ class Heard:
             yield f"  check of its history: status {ended.status}, {lines.shown(ended.output + ended.errors)}"
 
     def faults_of_windows(self):
-        """Whether mmu says of each window what is wanted, of the lines before it."""
+        """Whether mmu prints the wanted figures of each window, for the lines before it."""
         for count, number, (width, least, bound, permille) in self.story.windows:
             ended = self.run("mmu", "config", "-", width, given=self.story.text(count).encode())
             wanted = f"window {width} least {least} bound {bound} permille {permille}\n"
@@ -195,7 +195,7 @@ class Heard:
                 yield f"  line {number}: expected {wanted}    got {lines.shown(ended.output + ended.errors)}, status {ended.status}"
 
     def report(self, events):
-        """The lines of the report behind so many events."""
+        """The lines of the report after this many events."""
         if events not in self.reports:
             ended = self.run("inspect", "config", "sound", "--after", str(events))
             self.reports[events] = lines.shown(ended.output).splitlines()
@@ -212,7 +212,7 @@ class Heard:
                 yield "\n".join([f"  line {number}: expected {wanted}, got the report", *(f"    {it}" for it in report)])
 
     def faults_of_quanta(self):
-        """Whether each quantum spends what is wanted, and ends in that phase; outside a cycle it spends nothing."""
+        """Whether each quantum spends the wanted units, and ends in the wanted phase; outside a cycle it spends nothing."""
         for events, number, units, phase in self.story.quanta:
             before, behind = figures(self.report(events - 1)), figures(self.report(events))
             spent = int(behind["units"]) - int(before["units"])
@@ -222,5 +222,5 @@ class Heard:
 
 
 def figures(report):
-    """Of the lines of a report that have two words, the second by the first."""
+    """Returns, for the lines of a report that have two words, the second by the first."""
     return dict(it.split(" ") for it in report if it.count(" ") == 1)

@@ -13,8 +13,8 @@ PATIENCE = 60
 
 
 def faults_of_cuts(story, program, folder):
-    """What is wrong where the trace ends behind any of its bytes, where reading fails there, and where the output has room
-    for so many bytes alone."""
+    """Yields the faults if the trace ends behind any of its bytes, if reading fails there, and if the output has room for
+    only that many bytes."""
     text = story.text(len(story.trace)).encode()
     for count in range(len(text) + 1):
         front = text[:count]
@@ -32,14 +32,14 @@ def faults_of_cuts(story, program, folder):
 
 
 def fault_of(program, folder, how, streams, wanted):
-    """What is wrong with a play, whose end is wanted so."""
+    """Yields the faults of a play that must end in this way."""
     ended = program.run(PLAY, folder, streams)
     if ended != wanted:
         yield f"  {how}: expected {wanted}, got {ended}"
 
 
 def faults_of_typing(story, program, folder):
-    """What is wrong where each line is typed once the reply to the one before it is there."""
+    """Yields the faults if each line is typed once the reply to the one before it is there."""
     how = {"stdin": subprocess.PIPE, "stdout": subprocess.PIPE, "stderr": subprocess.PIPE, "cwd": folder}
     with subprocess.Popen([program.path, *PLAY], **how) as typed:
         for event in story.trace:
@@ -64,7 +64,7 @@ def answer(stream):
 
 
 def writes(program, words, folder, given):
-    """What each write of a run to its output has."""
+    """Returns the bytes of each write of a run to its output."""
     here, there = socket.socketpair(socket.AF_UNIX, socket.SOCK_SEQPACKET)
     with here, open(f"{folder}/.given", "w+b") as file:
         how = {"stdin": filled(file, given), "stdout": there, "stderr": subprocess.DEVNULL, "cwd": folder}

@@ -1,4 +1,4 @@
-"""Drawn scripts of 16 mutators, 20000 commands in all, beside 2000 quanta. Blocks are moved, and mutators join and leave: of 16
+"""Random scripts of 16 mutators, 20000 commands in all, beside 2000 quanta. Blocks are moved, and mutators join and leave:
 only 12 are live at first. Each history must be a merge of the scripts, and be accepted by `check`."""
 from traces import drawn
 
@@ -23,7 +23,7 @@ def scripts(draw):
 
 
 def fault_of(path, lines):
-    """What is wrong with a run of scripts, or None."""
+    """Returns the fault of a run of scripts, or None."""
     words = ["threads", path, "-", "--turns", "2000", "--budget", "256"]
     status, history, errors = drawn.run(words, drawn.text([drawn.SECOND, *lines]))
     if status or errors:
@@ -41,7 +41,7 @@ def fault_of(path, lines):
 
 
 def faults(draw, folder, words):
-    """What is wrong with each run."""
+    """Yields the fault of each run."""
     path = drawn.written(f"{folder}/config.toml", drawn.toml(KEYS))
     for _ in range(int(words.count)):
         yield fault_of(path, scripts(draw))

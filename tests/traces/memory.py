@@ -3,10 +3,10 @@
 Under valgrind the runs below, those of two drawn traces and those of drawn scripts must end as they do without it, with no bad
 access and no memory that is lost.
 
-Where memory is refused, each request of a run is in turn: the first in one run, the second in the next, and so on until a run
-meets no refusal. It must end as with ample memory, or with status 6 and a beginning of what it writes then, or, of scripts, with
-status 8 and fronts of them; one that is asked to explain its fault may tell fewer lines of it. A test must pass, or answer an
-error: what it asks for must hold.
+Memory is refused to each request of a run in turn: to the first in one run, to the second in the next, and so on until a run
+meets no refusal. A run must end as with ample memory; or with status 6 and a beginning of its output; or, with scripts, with
+status 8 and the first commands of each. With --explain it may print fewer lines. A test must pass, or return an
+error: its assertions must hold.
 """
 import os
 import subprocess
@@ -126,7 +126,7 @@ def drawn_runs(draw, folder):
 
 
 def watched(draw, folder, _):
-    """What valgrind finds in each run, and whether that ends otherwise than without it."""
+    """Yields the findings of valgrind in each run, and whether the run ends otherwise than without it."""
     write_files(folder)
     for wanted, run in [*RUNS, *drawn_runs(draw, folder)]:
         words, given = started(run, folder)
@@ -158,7 +158,7 @@ def are_fronts(output, script):
 
 
 def fault_of_scripts(script, ended, folder):
-    """What is wrong with a run of scripts, or None."""
+    """Returns the fault of a run of scripts, or None."""
     status, output, errors = ended
     checked = subprocess.run([drawn.program, "check", "four", "-"], input=output, capture_output=True, cwd=folder)
     if not are_fronts(output, script) or checked.returncode:
@@ -172,7 +172,7 @@ def fault_of_scripts(script, ended, folder):
 
 
 def fault_of_run(words, ended, ample):
-    """What is wrong with a run that writes no history of threads, by how it ends with ample memory, or None."""
+    """Returns the fault of a run that writes no history of threads, by how it ends with ample memory, or None."""
     status, output, errors = ended
     if status == 6:
         is_front = ample[1].startswith(output) and output[-1:] in (b"", b"\n")
@@ -183,13 +183,14 @@ def fault_of_run(words, ended, ample):
 
 
 def is_as_wanted(words, wanted, ample):
-    """Whether a run ends with its status and tells a fault, of which an explanation has more lines, but for a wrong reply's."""
+    """Whether a run ends with its status and prints a fault, of which an explanation has more lines, except for a wrong
+    reply's."""
     least = 0 if wanted == 0 else 2 if "--explain" in words and wanted != 7 else 1
     return ample[0] == wanted and (ample[2].count(b"\n") >= least if wanted else not ample[2])
 
 
 def faults_of(wanted, run, folder):
-    """What is wrong with a run of the program for each request."""
+    """Yields the fault of a run of the program for each request."""
     words, given = started(run, folder)
     ample, _ = refusing(words, given, 0, folder)
     if not is_as_wanted(words, wanted, ample):
@@ -200,7 +201,7 @@ def faults_of(wanted, run, folder):
 
 
 def fault_of_test(ended):
-    """What is wrong with a run of a test, or None."""
+    """Returns the fault of a run of a test, or None."""
     status, output, errors = ended
     if status == 0 or b"the test failed: its result gives status 1\n" in output + errors:
         return None
@@ -208,7 +209,7 @@ def fault_of_test(ended):
 
 
 def each_request(name, words, given, folder, fault_of):
-    """What is wrong with a run for each request that is refused, up to the first that meets no refusal."""
+    """Yields the fault of a run for each request that is refused, up to the first that meets no refusal."""
     number, met = 0, True
     while met:
         number += 1
@@ -229,7 +230,7 @@ def program_of_tests(crate, takes_built):
 
 
 def refused(_, folder, words):
-    """What is wrong with each run in which a request for memory is refused."""
+    """Yields the fault of each run in which a request for memory is refused."""
     subprocess.run(["cc", "-shared", "-fPIC", "-O1", "-o", f"{folder}/refuse.so", f"{drawn.TOP}/tests/refuse.c"], check=True)
     write_files(folder)
     for wanted, run in RUNS:

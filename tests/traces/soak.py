@@ -7,7 +7,8 @@ import time
 
 from traces import drawn
 
-# What must have come in many traces: each command done, each phase reported, and objects made so.
+# Events that must occur in many traces: each command done, each phase reported, and objects made by each command that makes
+# them.
 NEEDED = {
     *("new load store cas get put casput copy clear loadstatic storestatic casstatic same describe join leave".split()),
     *("phase idle", "phase roots", "phase marking", "phase sweeping", "phase moving"),
@@ -33,7 +34,7 @@ def note(entries, seen):
 
 
 def fault_of_history(path, lines, seen):
-    """What is wrong with the replies to a trace, or None."""
+    """Returns the fault of the replies to a trace, or None."""
     text = drawn.text(lines)
     commands = [it for it in lines if drawn.is_command(it)]
     status, history, errors = drawn.run(["play", path, "-", "--history"], text)
@@ -56,7 +57,7 @@ def fault_of_history(path, lines, seen):
 
 
 def fault_of_report(draw, path, keys, lines, seen):
-    """What is wrong with a report somewhere in a trace, or None."""
+    """Returns the fault of a report somewhere in a trace, or None."""
     after = str(draw.randint(0, len(lines)))
     status, report, errors = drawn.run(["inspect", path, "-", "--after", after], drawn.text(lines))
     if status or errors:
@@ -67,7 +68,7 @@ def fault_of_report(draw, path, keys, lines, seen):
 
 
 def fault_of_windows(draw, path, lines):
-    """What is wrong with the utilisation of some windows, or None."""
+    """Returns the fault of the utilisation of some windows, or None."""
     windows = [str(draw.randint(1, 200)) for _ in range(3)]
     status, output, errors = drawn.run(["mmu", path, "-", *windows], drawn.text(lines))
     if status or errors or len(output.splitlines()) != 3:
@@ -80,7 +81,7 @@ def fault_of_windows(draw, path, lines):
 
 
 def fault_of_bytes(draw, path, lines):
-    """What is wrong with a run of a trace that has a wrong byte, or None."""
+    """Returns the fault of a run of a trace that has a wrong byte, or None."""
     text = drawn.text(lines)
     at = draw.randrange(len(text))
     text = text[:at] + chr(draw.randint(0, 127)) + text[at + 1 :]
@@ -99,7 +100,7 @@ def kept(keys, lines):
 
 
 def faults(draw, folder, words):
-    """What is wrong with each trace."""
+    """Yields the fault of each trace."""
     end = time.monotonic() + 60 * words.count
     traces = commands = 0
     seen = set()

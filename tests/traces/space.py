@@ -53,18 +53,18 @@ def lines_of(words, text):
 
 
 class Plays:
-    """Plays of traces: where their configurations stand, how many met a refusal, and how many were promised none. What is wrong
-    with them is yielded, and None for each play that is as it must be."""
+    """Plays of traces: the path of their configurations, how many met a refusal, and how many were promised none. Yields
+    their faults, and None for each play that is as it must be."""
 
     def __init__(self, path):
         self.path, self.full, self.promised = path, 0, 0
 
     def asked(self, keys, text, *words):
-        """What `pages` tells of a trace on a configuration."""
+        """Returns the lines of `pages` for a trace on a configuration."""
         return lines_of(["pages", drawn.written(self.path, drawn.toml(keys)), "-", *words], text)
 
     def play(self, keys, text):
-        """Plays a trace on a configuration; what `pages` tells of it."""
+        """Plays a trace on a configuration; returns the lines of `pages` for it."""
         lines = self.asked(keys, text)
         promised = suffices(lines) or suffices(self.asked(keys, text, "--pace"))
         count = lines_of(["play", self.path, "-"], text).count("refused 7")
@@ -110,7 +110,7 @@ class Plays:
 
 
 def faults(draw, folder, words):
-    """What is wrong with each play."""
+    """Yields the fault of each play."""
     plays = Plays(f"{folder}/config.toml")
     for _ in range(int(words.count)):
         keys = drawn.configuration(draw)

@@ -1,4 +1,4 @@
--- What a heap that agrees with a graph heap has of an object.
+-- The object in a heap that agrees with a graph heap.
 use Rattle.std.proofs.Common.{◌≡◌, ◌≢◌, ℕ, ◌+◌, ◌<◌, length, get_or, ap, ◌∙◌, sym, subst}
 use Rattle.std.proofs.lemmas.List.FromFn.{length-map-range_with_len, fill_by_all}
 use Rattle.graph_heap.specs.declared.command.Shape.{Shape}

@@ -20,7 +20,7 @@ use Rattle.arraylets.specs.declared.cells.Cell.{Cell}
 use Rattle.arraylets.specs.Cells.{IsCell, IsObject, IsRef, IsWord, SetsRef, SetsWord, KeepsOthers, cell_at, shape_at, part_at, piece_at, ref_place, word_place, refs_of, words_of}
 use Rattle.arraylets.proofs.Lists.{row_at, row_same, row_set}
 
--- one cell is written, and otherwise allocated blocks say what they said, but for their colours
+-- one cell is written, and otherwise allocated blocks keep their records, except for their colours
 pub record WritesCell (s n : Store) (at : Cell) (v : ℕ) : Type 0 where
   pub cell : IsCell s at
   pub here : (record_of n at.block).cells ≡ set (record_of s at.block).cells at.index v

@@ -1,4 +1,4 @@
--- Where the cells of an object stand.
+-- The positions of an object's cells.
 use Rattle.std.specs.Prelude.{ℕ, ◌+◌, nat_lt, if◌then◌else◌, Result, Ok, Err}
 use Rattle.graph_heap.specs.declared.command.Shape.{Shape}
 use Rattle.graph_heap.specs.declared.command.Refusal.{Refusal}

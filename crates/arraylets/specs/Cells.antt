@@ -14,7 +14,7 @@ pub record IsCell (s : Store) (at : Cell) : Type 0 where
   pub allocated : is_allocated s at.block ≡ true
   pub within : at.index < length (record_of s at.block).cells
 
--- what a cell holds
+-- the value in a cell
 abbrev pub cell_at : Store → Cell → ℕ
 cell_at s at = slice_index (record_of s at.block).cells at.index
 
@@ -30,25 +30,25 @@ part_at s object part = block_of s (cells_of (shape_at s object)) object part
 abbrev pub piece_at : Store → ℕ → ℕ → ℕ
 piece_at s object i = part_at s object (part_in (cells_of (shape_at s object)) i)
 
--- where reference cell i stands
+-- the place of reference cell i
 abbrev pub ref_place : Store → ℕ → ℕ → Cell
 ref_place s object i = record { block = piece_at s object i; index = column_in i }
 
--- where word cell i stands: words come after references
+-- the place of word cell i: words come after references
 abbrev pub word_place : Store → ℕ → ℕ → Cell
 word_place s object i =
     record { block = piece_at s object i; index = width_at (record_of s (piece_at s object i)) + column_in i }
 
--- what the reference cells of an object hold, as a list
+-- the values in the reference cells of an object, as a list
 abbrev pub refs_of : Store → ℕ → List ℕ
 refs_of s object = map (λ i. cell_at s (ref_place s object i)) (range_with_len 0 (ref_cells (shape_at s object)))
 
--- what the word cells of an object hold, as a list
+-- the values in the word cells of an object, as a list
 abbrev pub words_of : Store → ℕ → List ℕ
 words_of s object = map (λ i. cell_at s (word_place s object i)) (range_with_len 0 (word_cells (shape_at s object)))
 
--- An object is there, with its part 0 at this block: each of its parts is found from there, as a main copy with the
--- object's identity and shape, and each step to it is by a cell that refers to an allocated block.
+-- An object is there, with its part 0 in this block. Each of its parts is found from there, as a main copy with the
+-- object's identity and shape. Each step to it is by a cell that refers to an allocated block.
 pub record IsObject (s : Store) (object : ℕ) : Type 0 where
   pub main : (part : ℕ) → part < parts_in (cells_of (shape_at s object)) → IsMainCopy s (part_at s object part)
       (record { identity = (record_of s object).identity; part = part })

@@ -1,4 +1,4 @@
--- What a write of a reference cell leaves.
+-- The effect of a write of a reference cell.
 use Rattle.std.specs.Prelude.{◌≡◌, ℕ}
 use Rattle.heap_model.specs.Block.{with_cell}
 use Rattle.heap_model.specs.Change.{Records}
@@ -11,7 +11,7 @@ use Rattle.satb_barrier.specs.Recording.{buffers_after}
 use Rattle.arraylets.specs.declared.cells.Cell.{Cell}
 use Rattle.arraylets.specs.Cells.{cell_at}
 
--- What the cell held was recorded, in the mutator's buffer, and the cell was written then.
+-- The old value of the cell was recorded in the mutator's buffer, and then the cell was written.
 pub record IsStored (a : HeapFields) (mutator : ℕ) (at : Cell) (reference : ℕ) (b : HeapFields) : Type 0 where
   pub mid : HeapState
   pub recorded : Records (state_of a) (cell_at a.nodes at) mid

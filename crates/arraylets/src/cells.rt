@@ -11,15 +11,15 @@ ghost use Rattle.arraylets.specs.Stored.{IsStored};
 use nodes::{HeapFields, Nodes};
 use satb_barrier::record;
 
-/// Where a cell of an object stands: in a block, a main copy of a part of the object, by its number
-/// among the cells there.
+/// The place of a cell of an object: a block, which is a main copy of a part of the object, and the cell's number
+/// there.
 #[derive(Clone, Copy, Debug, PartialEq, Eq)]
 pub struct Cell {
     pub block: usize,
     pub index: usize,
 }
 
-/// What a reference cell holds.
+/// Returns the value in a reference cell.
 #[inline(always)]
 pub fn load(nodes: &Nodes, at: Cell) -> u64
     requires { IsCell nodes.now at }
@@ -30,7 +30,7 @@ pub fn load(nodes: &Nodes, at: Cell) -> u64
     nodes.cell(block, index)
 }
 
-/// What a word cell holds.
+/// Returns the value in a word cell.
 #[inline(always)]
 pub fn get(nodes: &Nodes, at: Cell) -> u64
     requires { IsCell nodes.now at }
@@ -41,7 +41,7 @@ pub fn get(nodes: &Nodes, at: Cell) -> u64
     nodes.cell(at.block, at.index)
 }
 
-/// Writes a reference cell, for a mutator: what it held is recorded first, while roots are scanned or parts marked. No
+/// Writes a reference cell, for a mutator: while roots are scanned or parts marked, its old value is recorded first. No
 /// other cell of any object changes.
 #[inline(always)]
 pub fn store(heap: &mut HeapFields, mutator: u32, at: Cell, reference: u64)

@@ -78,7 +78,7 @@ fn link(nodes: &mut Nodes, parts: &Parts, spines: &Spines, part: u32, block: usi
     }
 }
 
-/// Notes the address of a part, where it may be a spine.
+/// Notes the address of a part, if the part may be a spine.
 fn note(spines: &mut Spines, part: u32, block: usize)
     ensures here { part < SPINES → slice_index spines.new part ≡ block }
     ensures others { (p : ℕ) → p ≢ part → slice_index spines.new p ≡ slice_index spines.old p }

@@ -1,4 +1,4 @@
-//! Where the cells of an object stand.
+//! The positions of an object's cells.
 ghost use Rattle.std.specs.Prelude.{◌≡◌, ◌≢◌, ◌<◌, ◌≤◌, true};
 ghost use Rattle.graph_heap.specs.declared.command.TheConstants.{ARRAY_CELLS};
 ghost use Rattle.graph_heap.specs.Shape.{fits};
@@ -10,7 +10,7 @@ use graph_heap::{Refusal, Shape};
 use nodes::Nodes;
 use size_classes::{PART_CELLS, Position, spines_in};
 
-/// Where a cell of an object stands: in which part, and at which place among that part's cells.
+/// The position of a cell of an object: its part, and its place among that part's cells.
 #[derive(Clone, Copy, Debug, PartialEq, Eq)]
 pub struct CellPosition {
     pub part: u32,
@@ -48,7 +48,7 @@ fn far_cut(cells: u32, i: u32) -> CellPosition
     }
 }
 
-/// Where reference cell i of an object stands, or why there is none.
+/// Returns the position of reference cell i of an object, or why there is none.
 #[inline(always)]
 #[tactic(auto, unfolding(size_classes::specs::Parts::part_in, size_classes::specs::Parts::column_in))]
 pub fn ref_position(shape: Shape, i: u32) -> Result<CellPosition, Refusal>
@@ -66,7 +66,7 @@ pub fn ref_position(shape: Shape, i: u32) -> Result<CellPosition, Refusal>
     }
 }
 
-/// Where word cell i of an object stands, or why there is none.
+/// Returns the position of word cell i of an object, or why there is none.
 #[inline(always)]
 #[tactic(auto, unfolding(size_classes::specs::Parts::part_in, size_classes::specs::Parts::column_in, heap_model::specs::Cut::width_in))]
 pub fn word_position(shape: Shape, i: u32) -> Result<CellPosition, Refusal>
@@ -104,8 +104,8 @@ fn follow_cell(nodes: &Nodes, block: usize, cell: usize) -> usize
     nodes.forward_of(reference as usize - 1) as usize
 }
 
-/// The block of a part of an object, from the block of its part 0: that itself, or what a spine refers to,
-/// which part 0 may refer to.
+/// Returns the block of a part of an object, from the block of its part 0. For part 0 it is that block. The spine of
+/// each other part refers to it, and is part 0 or a part to which part 0 refers.
 #[inline(always)]
 pub fn part_block(nodes: &Nodes, shape: Shape, block: usize, part: u32) -> usize
     requires fits { fits shape ≡ true }

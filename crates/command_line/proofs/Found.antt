@@ -1,4 +1,4 @@
--- What clap found, read as rows.
+-- The arguments that clap found, read as rows.
 use Rattle.std.proofs.Common.{◌≡◌, ℕ, Bool, true, false, List, [], ◌∷◌, map, take, get_or, length, ◌++◌, ◌+◌, ◌<◌, Option, Some, None, option_map, refl, ap, ◌∙◌, sym, subst}
 use Rattle.std.specs.Prelude.{option_and_then, slice_get, find, codes, unwrap_or, Result, Ok, Err}
 use Rattle.std.specs.Borrow.{Bor}

@@ -12,7 +12,7 @@ use Rattle.clap.proofs.OnLiterals.{clap_on_literals}
 use Rattle.command_line.specs.Program.{by_default, metronome, on_file, IsArgument, IsSubcommand}
 use Rattle.command_line.specs.Words.{AsksForHelp}
 
--- the third of these is false where all hold but those of which it is said that they don't
+-- the third of these is false if all hold except those that are negated
 pub third_off : (a b c rest : Bool) → (a && (not b && (not c && rest))) ≡ true → c ≡ false
 third_off true false false rest e = refl
 third_off true false true rest e = absurd (let z : false ≡ true = e in cc)
@@ -47,7 +47,7 @@ pub is_free_program : is_simple_and_free metronome ≡ true
 unfolding clap_on_literals
 is_free_program = refl
 
--- a subcommand was found of the name and the rows that are told of it
+-- a subcommand was found that has this name and these rows
 pub found_so : {A : Type 0} (found : Option A) (told : A → Text × List Row) (n : Text) (r : List Row) → Some n ≡ option_map (λ a. (told a).0) found
     → Some r ≡ option_map (λ (p : Text × List Row). p.1) (option_map told found) → option_map told found ≡ Some (n, r)
 found_so None told n r e f = absurd (let z : Some n ≡ None = e in cc)

@@ -1,4 +1,4 @@
--- What the words of a command line ask for.
+-- The jobs that the words of a command line ask for.
 use Rattle.std.specs.Prelude.{◌≡◌, ℕ, ◌<◌, ◌≤◌, List, length, Option, None, unwrap_or, codes}
 use Rattle.std.specs.List.{All}
 use Rattle.std.specs.Option.{IfSome}
@@ -60,8 +60,8 @@ report_name reports.Pages = codes "page"
 report_name reports.Sizes = codes "size"
 report_name reports.Shapes = codes "shape"
 
--- The drawing has this name: the run, with the plans for this many live words; or, after this many event lines, its events, or
--- at most this many objects of its graph.
+-- The drawing has this name. It is the run, with the plans for this many live words; or, after this many event lines,
+-- its events, or at most this many objects of its graph.
 abbrev pub IsDrawing : List ℕ → Option ℕ → Option ℕ → Option ℕ → Drawing → Type 0
 IsDrawing name lines objects words (drawings.Run form live) =
     (name ≡ form_name form) × (lines ≡ None) × (objects ≡ None) × (words ≡ live)

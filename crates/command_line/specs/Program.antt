@@ -61,7 +61,7 @@ long_figure name = long (word name)
 abbrev pub figures : Text → Rule
 figures name = many (figure name)
 
--- an argument that is this where it isn't given
+-- an argument that is this if it isn't given
 abbrev pub by_default : Text → Rule → Rule
 by_default value rule = record rule { defaults = value ∷ [] }
 
@@ -96,15 +96,15 @@ threads = on_file (codes "threads") (place (codes "SCRIPTS"))
 abbrev pub inspect : Shape
 inspect = on_trace (codes "inspect") (by_default (codes "page") (word (codes "by")) ∷ figure (codes "after") ∷ [])
 
--- tells of each cycle
+-- reports each cycle
 abbrev pub cycles : Shape
 cycles = on_trace (codes "cycles") (flag (codes "csv") ∷ [])
 
--- tells why an object is alive
+-- reports why an object is alive
 abbrev pub path : Shape
 path = on_trace (codes "path") (number (codes "ID") ∷ figure (codes "after") ∷ [])
 
--- tells the least that mutators have of windows
+-- prints the least ticks that mutators have of windows
 abbrev pub mmu : Shape
 mmu = on_trace (codes "mmu") (numbers (codes "WINDOW") ∷ [])
 
@@ -114,11 +114,11 @@ draw = on_trace (codes "draw")
     (by_default (codes "page") (word (codes "as")) ∷ figure (codes "after") ∷ figure (codes "most")
     ∷ long_figure (codes "live") ∷ [])
 
--- tells how many pages suffice
+-- prints how many pages suffice
 abbrev pub pages : Shape
 pages = on_trace (codes "pages") (flag (codes "pace") ∷ flag (codes "plan") ∷ [])
 
--- tells how a heap would pace itself
+-- prints how a heap would pace itself
 abbrev pub plan : Shape
 plan = on_config (codes "plan")
     (needed (long_figure (codes "live")) ∷ figures (codes "classes") ∷ [])

@@ -19,13 +19,13 @@ use Rattle.command_line.specs.declared.fault.WordsFault.TheVariants.{Help}
 use Rattle.command_line.specs.Job.{IsDrawing, report_name, words_of}
 use Rattle.command_line.specs.Program.{metronome}
 
--- the number below 2 ^ bits in a text, where there is a text with one
+-- the number below 2 ^ bits in a text, if there is a text with one
 abbrev pub IsNumber : ℕ → Option Text → Option ℕ → Type 0
 IsNumber bits None n = n ≡ None
 IsNumber bits (Some text) (Some n) = ParsesUnsigned {E = Unit {0}} bits 10 text (Ok n)
 IsNumber bits (Some text) None = ParsesUnsigned {E = Unit {0}} bits 10 text (Err tt)
 
--- a number that is 0 where it isn't said
+-- a number that is 0 if it isn't said
 abbrev pub IsNumberOrZero : ℕ → Option Text → ℕ → Type 0
 IsNumberOrZero bits text n = (said : Option ℕ) × IsNumber bits text said × (n ≡ unwrap_or said 0)
 
@@ -33,24 +33,24 @@ IsNumberOrZero bits text n = (said : Option ℕ) × IsNumber bits text said × (
 abbrev pub IsClassOf : Text → ℕ → Type 0
 IsClassOf size class = IsNumber 32 (Some size) (Some (size_of class))
 
--- the size classes of some sizes; none where no sizes are said
+-- the size classes of some sizes; none if no sizes are said
 abbrev pub AreClassesOf : Option (List Text) → Option (List ℕ) → Type 0
 AreClassesOf None classes = classes ≡ None
 AreClassesOf (Some sizes) None = ⊥
 AreClassesOf (Some sizes) (Some classes) = AllZip IsClassOf sizes classes
 
--- a flag is set where its text is true, and isn't where it is false or there is none
+-- a flag is set if its text is true; it isn't if its text is false or there is none
 abbrev pub IsFlag : Option Text → Bool → Type 0
 IsFlag None set = set ≡ false
 IsFlag (Some text) set = (text ≡ codes "true" → set ≡ true) × (text ≡ codes "false" → set ≡ false)
 
--- what the pages are reckoned from, by the flags for the pace and for a plan
+-- the base from which the pages are calculated, by the flags for the pace and for a plan
 abbrev pub IsSizing : Bool → Bool → Sizing → Type 0
 IsSizing pace plan Demand = (pace ≡ false) × (plan ≡ false)
 IsSizing pace plan Pace = (pace ≡ true) × (plan ≡ false)
 IsSizing pace plan By_plan = (pace ≡ false) × (plan ≡ true)
 
--- what is drawn, by its name
+-- the drawing that is asked for, by its name
 abbrev pub IsDrawn : List Row → Drawing → Type 0
 IsDrawn rows drawing = (after : Option ℕ) × (most : Option ℕ) × (live : Option ℕ)
     × IsNumber 32 (one_of (codes "after") rows) after
@@ -86,7 +86,7 @@ file_argument name = if bytes_eq name (codes "check") then Some (codes "HISTORY"
     else if bytes_eq name (codes "threads") then Some (codes "SCRIPTS")
     else if bytes_eq name (codes "plan") then None else Some (codes "TRACE")
 
--- the file that an argument names; none where there is no such argument
+-- the file that an argument names; none if there is no such argument
 abbrev pub NamesFile : Option Text → List Row → Option (Bor Text) → Type 0
 NamesFile None rows file = file ≡ None
 NamesFile (Some argument) rows None = ⊥
@@ -103,7 +103,7 @@ pub record AreWords (name : Text) (rows : List Row) (words : Words) : Type 0 whe
 abbrev pub AsksFor : Text → List Row → Job → Type 0
 AsksFor name rows job = Asks name rows job × AreWords name rows (words_of job)
 
--- The words of a command line ask for a job: what they give of the program's subcommands and their arguments asks for it.
+-- The words of a command line ask for a job: the program's subcommands and their arguments in them ask for it.
 abbrev pub IsAskedForBy : List Text → Job → Type 0
 IsAskedForBy words job = (name : Text) × (rows : List Row) × (subcommand_of metronome words ≡ Some (name, rows))
     × AsksFor name rows job

@@ -30,7 +30,7 @@ fn classes_of(alloc: Global, sizes: &[&str]) -> Result<Vec<Class>, Refusal>
 {
     let mut classes = Vec::new(alloc);
     for size in sizes {
-        // (clap has refused what is no such number)
+        // (clap has refused words that are no such number)
         let Ok(words) = size.parse::<u32>() else {
             return Err(refused(alloc, "a size is not a number"));
         };

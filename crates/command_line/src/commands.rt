@@ -188,7 +188,7 @@ fn needed<'a>(arg: Arg<'a>) -> Arg<'a>
     arg.required(true)
 }
 
-/// An argument that is this where it isn't given.
+/// An argument that is this if it isn't given.
 fn by_default<'a>(arg: Arg<'a>, value: &'a str) -> Arg<'a>
     requires { arg.global ≡ false }
     ensures { IsArgument (words.by_default value.now (rule_of arg.entry)) result }
@@ -196,7 +196,7 @@ fn by_default<'a>(arg: Arg<'a>, value: &'a str) -> Arg<'a>
     arg.default_value(value)
 }
 
-/// The name alone.
+/// Returns an argument that is only a name.
 fn flag<'a>(alloc: Global, name: &'a str, help: &'a str) -> Arg<'a>
     ensures { IsArgument (words.flag name.now) result }
 {

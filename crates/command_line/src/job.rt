@@ -1,4 +1,4 @@
-//! What the words of a command line ask for.
+//! The jobs that the words of a command line ask for.
 ghost use Rattle.std.specs.Prelude.{◌≡◌};
 ghost use Rattle.command_line.specs.Job.{words_of};
 
@@ -24,10 +24,10 @@ pub enum Report {
     Shapes,
 }
 
-/// What the pages that suffice are reckoned from.
+/// The base from which the pages that suffice are calculated.
 #[derive(Clone, Copy, Debug, PartialEq, Eq)]
 pub enum Sizing {
-    /// What the trace needed.
+    /// The needs of the trace.
     Demand,
     /// The pace at which it asked.
     Pace,
@@ -35,7 +35,7 @@ pub enum Sizing {
     Plan,
 }
 
-/// What is drawn of the run of a trace.
+/// A drawing of the run of a trace.
 #[derive(Clone, Copy, Debug, PartialEq, Eq)]
 pub enum Drawing {
     /// The run's data; with the plans for this many words of live blocks, if it is said.
@@ -53,13 +53,13 @@ pub struct Words<'a> {
     pub config: &'a str,
     /// The other file, if the subcommand has one; `-` is standard input.
     pub file: Option<&'a str>,
-    /// Whether standard error is told how many lines were read.
+    /// Whether standard error gets the number of lines that were read.
     pub progress: bool,
-    /// Whether standard error is told more of what is wrong.
+    /// Whether standard error gets an explanation of a fault.
     pub explain: bool,
 }
 
-/// What the words of a command line ask for: a case for each subcommand, with its words and numbers.
+/// A job: a case for each subcommand, with its words and numbers.
 #[derive(Debug, PartialEq, Eq, Drop)]
 pub enum Job<'a> {
     /// Play a trace, and write its replies, or with `history` its entries.
@@ -93,24 +93,24 @@ pub enum Job<'a> {
         words: Words<'a>,
         drawing: Drawing,
     },
-    /// Play a trace, and tell of each cycle, with `csv` with commas between the figures.
+    /// Play a trace, and report each cycle; `csv` puts commas between the figures.
     Cycles {
         words: Words<'a>,
         csv: bool,
     },
-    /// Play a trace, or its first event lines, and tell why the object of an identity is alive.
+    /// Play a trace, or its first event lines, and report why the object of an identity is alive.
     Path {
         words: Words<'a>,
         id: u64,
         after: Option<u32>,
     },
-    /// Play a trace, and tell how many pages suffice.
+    /// Play a trace, and report how many pages suffice.
     Pages {
         words: Words<'a>,
         by: Sizing,
     },
-    /// Tell how a heap would pace itself with this many words of live blocks, on some numbers of pages, for a program
-    /// that asks for blocks of these size classes alone, or of all. It has no other file.
+    /// Report how a heap would pace itself with this many words of live blocks, on some numbers of pages, for a program
+    /// that requests blocks of these size classes alone, or of all. It has no other file.
     Plan {
         words: Words<'a>,
         live: u64,

@@ -18,8 +18,8 @@ use std::alloc::Global;
 use std::convert::AsStr;
 use std::fmt::Display;
 
-/// What the words ask for; the first is the program's name. Where they ask for help, or are refused, the
-/// answer is the text for the user.
+/// Returns the job that the words ask for; the first word is the program's name. If they ask for help, or are refused,
+/// it returns the text for the user.
 pub fn read_words<'a, S: AsStr>(alloc: Global, words: &'a [S]) -> Result<Job<'a>, WordsFault>
     ensures range { IfOk result IsInRange }
     ensures asked { IfOk result IsAskedFor }
@@ -39,7 +39,7 @@ pub fn read_words<'a, S: AsStr>(alloc: Global, words: &'a [S]) -> Result<Job<'a>
     Ok(job_of(alloc, name, found)?)
 }
 
-/// The argument that has the name of a subcommand's other file, if the subcommand has one.
+/// Returns the argument that has the name of a subcommand's other file, if the subcommand has one.
 fn file_argument(name: &str) -> Option<&'static str>
     ensures { option_map (λ argument. argument.now) result ≡ file_argument name.now }
 {
@@ -51,7 +51,7 @@ fn file_argument(name: &str) -> Option<&'static str>
     }
 }
 
-/// The name of a subcommand's other file, if the subcommand has one.
+/// Returns the name of a subcommand's other file, if the subcommand has one.
 fn file_of<'a>(
     alloc: Global,
     name: &str,
@@ -65,7 +65,7 @@ fn file_of<'a>(
     }
 }
 
-/// The words that every subcommand has.
+/// Returns the words that every subcommand has.
 fn words_of<'a>(alloc: Global, name: &str, found: &ArgMatches<'a>) -> Result<Words<'a>, Refusal>
     ensures { IfOk result (AreWords name.now (rows_of (found_of found.now))) }
 {
@@ -77,7 +77,7 @@ fn words_of<'a>(alloc: Global, name: &str, found: &ArgMatches<'a>) -> Result<Wor
     })
 }
 
-/// What the words of a subcommand ask for.
+/// Returns the job that the words of a subcommand ask for.
 fn job_of<'a>(alloc: Global, name: &str, found: &ArgMatches<'a>) -> Result<Job<'a>, Refusal>
     ensures range { IfOk result IsInRange }
     ensures asked { IfOk result (AsksFor name.now (rows_of (found_of found.now))) }
@@ -92,7 +92,7 @@ fn job_of<'a>(alloc: Global, name: &str, found: &ArgMatches<'a>) -> Result<Job<'
     }
 }
 
-/// What an error of `clap` tells the user.
+/// Returns the text for the user of an error of `clap`.
 fn fault_of(alloc: Global, error: &clap::Error) -> WordsFault
     ensures { IsHelp result → (kind_of error.now ≡ ErrorKind.DisplayHelp) ⊎ (kind_of error.now ≡ ErrorKind.DisplayVersion) }
 {
@@ -106,7 +106,7 @@ fn fault_of(alloc: Global, error: &clap::Error) -> WordsFault
     }
 }
 
-/// A refusal in the form of those of `clap`.
+/// Makes a refusal in the form of those of `clap`.
 pub(crate) fn refused<T: Display + Drop>(alloc: Global, why: T) -> Refusal {
     match format!(in alloc; "error: {why}\n\nFor more information, try '--help'.\n") {
         Ok(text) => Refusal::Refused(text),
@@ -114,13 +114,13 @@ pub(crate) fn refused<T: Display + Drop>(alloc: Global, why: T) -> Refusal {
     }
 }
 
-/// What the words of `threads` ask for.
+/// Returns the job of `threads`.
 fn threads<'a>(alloc: Global, words: Words<'a>, found: &ArgMatches) -> Result<Job<'a>, Refusal>
     ensures range { IfOk result IsInRange }
     ensures words { IfOk result (λ job. words_of job ≡ words.entry) }
     ensures asked { IfOk result (Asks (codes "threads") (rows_of (found_of found.now))) }
 {
-    // (clap gives each its default where it isn't named)
+    // (clap gives each its default if it isn't named)
     let turns = number(found, "turns").unwrap_or(0);
     let budget = number(found, "budget").unwrap_or(0);
     within(alloc, "--turns <N>", u64::from(turns), 0, 10000)?;
@@ -133,14 +133,14 @@ fn threads<'a>(alloc: Global, words: Words<'a>, found: &ArgMatches) -> Result<Jo
     })
 }
 
-/// What the words of `plan` ask for.
+/// Returns the job of `plan`.
 fn plan<'a>(alloc: Global, words: Words<'a>, found: &ArgMatches) -> Result<Job<'a>, Refusal>
     ensures range { IfOk result IsInRange }
     ensures words { IfOk result (λ job. words_of job ≡ words.entry) }
     ensures asked { IfOk result (Asks (codes "plan") (rows_of (found_of found.now))) }
 {
     let classes = classes_said(alloc, found.get_strs("classes"))?;
-    // (clap has refused what is no such number)
+    // (clap has refused words that are no such number)
     let live = long_number(found, "live").unwrap_or(0);
     Ok(Job::Plan {
         words,
@@ -149,7 +149,7 @@ fn plan<'a>(alloc: Global, words: Words<'a>, found: &ArgMatches) -> Result<Job<'
     })
 }
 
-/// What a subcommand over a run asks for.
+/// Returns the job of a subcommand over a run.
 fn run_job<'a>(
     alloc: Global,
     words: Words<'a>,
@@ -185,7 +185,7 @@ fn run_job<'a>(
     }
 }
 
-/// What a subcommand over the heap after some event lines, or all, asks for.
+/// Returns the job of a subcommand over the heap after some event lines, or all.
 fn heap_job<'a>(
     alloc: Global,
     words: Words<'a>,
@@ -198,13 +198,13 @@ fn heap_job<'a>(
 {
     let after = number(found, "after");
     match name {
-        // (clap gives `by` its default where it isn't named)
+        // (clap gives `by` its default if it isn't named)
         "inspect" => Ok(Job::Inspect {
             words,
             by: report(alloc, word(found, "by").unwrap_or(""))?,
             after,
         }),
-        // (clap has refused what is no such number)
+        // (clap has refused words that are no such number)
         "path" => Ok(Job::Path {
             words,
             id: long_number(found, "ID").unwrap_or(0),
@@ -214,7 +214,7 @@ fn heap_job<'a>(
     }
 }
 
-/// What a word stands for, of the choices of an argument.
+/// Returns the choice that a word names, of those that an argument has.
 fn chosen<T: Copy>(
     alloc: Global,
     word: &str,
@@ -233,7 +233,7 @@ fn chosen<T: Copy>(
     Err(refused(alloc, why))
 }
 
-/// The report of a heap of a name.
+/// Returns the report of a heap that has this name.
 fn report(alloc: Global, name: &str) -> Result<Report, Refusal>
     ensures { IfOk result (λ report. name.now ≡ report_name report) }
 {
@@ -246,18 +246,19 @@ fn report(alloc: Global, name: &str) -> Result<Report, Refusal>
     chosen(alloc, name, &reports, "--by <PART>", expected)
 }
 
-/// What the words of `draw` ask for.
+/// Returns the drawing that the words of `draw` ask for.
 fn drawing(alloc: Global, found: &ArgMatches) -> Result<Drawing, Refusal>
     ensures range { IfOk result IsDrawable }
     ensures asked { IfOk result (IsDrawn (rows_of (found_of found.now))) }
 {
-    // (clap gives `as` its default where it isn't named)
+    // (clap gives `as` its default if it isn't named)
     let name = word(found, "as").unwrap_or("");
     let (most, live) = (number(found, "most"), long_number(found, "live"));
     drawing_of(alloc, name, number(found, "after"), most, live)
 }
 
-/// The drawing of a name. A run is drawn whole, plans are of a run alone, and objects are counted of a graph alone.
+/// Returns the drawing that has this name. A run is drawn whole; only a run has plans; and only a graph has a number of
+/// objects.
 fn drawing_of(
     alloc: Global,
     name: &str,
@@ -285,7 +286,7 @@ fn drawing_of(
     Ok(Drawing::Run { form, live })
 }
 
-/// Refuses a number that isn't for what has a name, as `clap` does.
+/// Refuses a number that a drawing doesn't take, as `clap` does.
 fn without<T: Copy>(
     alloc: Global,
     number: Option<T>,
@@ -301,7 +302,7 @@ fn without<T: Copy>(
     Err(refused(alloc, why))
 }
 
-/// What the pages are reckoned from: one way at most is asked for.
+/// Returns the base from which the pages are calculated. At most one may be asked for.
 fn sizing(alloc: Global, pace: bool, plan: bool) -> Result<Sizing, Refusal>
     ensures { IfOk result (IsSizing pace plan) }
 {
@@ -313,7 +314,7 @@ fn sizing(alloc: Global, pace: bool, plan: bool) -> Result<Sizing, Refusal>
     }
 }
 
-/// The form of a run's data of a name.
+/// Returns the form of a run's data that has this name.
 fn form(alloc: Global, name: &str) -> Result<Form, Refusal>
     ensures { IfOk result (λ form. name.now ≡ form_name form) }
 {
@@ -322,7 +323,7 @@ fn form(alloc: Global, name: &str) -> Result<Form, Refusal>
     chosen(alloc, name, &forms, "--as <PICTURE>", expected)
 }
 
-/// The ticks of each window: there is at least one.
+/// Returns the ticks of each window: there is at least one.
 fn windows_of(alloc: Global, words: &[&str]) -> Result<Vec<u64>, Refusal>
     ensures range { IfOk result (λ windows. (0 < length windows.items) × All IsWindow windows.items) }
     ensures each { IfOk result (λ windows. AllZip (λ word ticks. IsNumber 64 (Some word) (Some ticks))
@@ -344,7 +345,7 @@ fn windows_of(alloc: Global, words: &[&str]) -> Result<Vec<u64>, Refusal>
     Ok(windows)
 }
 
-/// The name of a file.
+/// Returns the name of a file.
 fn file<'a>(alloc: Global, found: &ArgMatches<'a>, name: &str) -> Result<&'a str, Refusal>
     ensures { IfOk result (λ file. first_of name.now (rows_of (found_of found.now)) ≡ Some file.now) }
 {
@@ -354,7 +355,7 @@ fn file<'a>(alloc: Global, found: &ArgMatches<'a>, name: &str) -> Result<&'a str
     }
 }
 
-/// The first word of an argument.
+/// Returns the first word of an argument.
 fn word<'a>(found: &ArgMatches<'a>, name: &str) -> Option<&'a str>
     ensures { option_map (λ word. word.now) result ≡ first_of name.now (rows_of (found_of found.now)) }
 {
@@ -368,14 +369,14 @@ fn flag(found: &ArgMatches, name: &str) -> bool
     found.get_flag(name)
 }
 
-/// The number of an argument.
+/// Returns the number of an argument.
 fn number(found: &ArgMatches, name: &str) -> Option<u32>
     ensures { IsNumber 32 (one_of name.now (rows_of (found_of found.now))) result }
 {
     found.get_one(name)
 }
 
-/// The number of an argument that may be long.
+/// Returns the number of an argument that may be long.
 fn long_number(found: &ArgMatches, name: &str) -> Option<u64>
     ensures { IsNumber 64 (one_of name.now (rows_of (found_of found.now))) result }
 {

@@ -11,7 +11,7 @@ abbrev pub chosen_of : List (Option Page) → ℕ → Option Candidate → Chose
 chosen_of pages class None = answers.NoPage
 chosen_of pages class (Some c) = if is_chosen pages class (Some c) then answers.Page c.page else answers.NoPage
 
--- after a look at a page, with the best page so far
+-- the answer after a look at a page, with the best page so far
 abbrev pub chosen_after : List (Option Page) → ℕ → ℕ → Option Candidate → Chosen
 chosen_after pages class page best =
     if nat_lt (page + 1) (length pages) then answers.Looked

@@ -15,9 +15,9 @@ use Rattle.defrag.specs.Moving.{IsEmptied}
 use Rattle.defrag.specs.declared.moving.Moved.{Moved}
 use Rattle.defrag.specs.declared.moving.Moved.TheVariants as answers
 
--- A block of a page, a main copy, is an old copy from then on: it forwards to a block that was free, of the first page
--- of its class that isn't evacuating and has one. That is the main copy then, and has the block's words but the
--- forwarding word.
+-- A block of a page, a main copy, is an old copy from then on. It forwards to a block that was free, of the first page
+-- of its class that isn't evacuating and has a free one. That block is the main copy then, with the same words except
+-- the forwarding word.
 pub record RetiresMain (h : HeapState) (p : Page) (m : MovesNext h p) (new : Store) : Type 0 where
   pub name : Name
   pub from : ℕ
@@ -31,8 +31,8 @@ pub record RetiresMain (h : HeapState) (p : Page) (m : MovesNext h p) (new : Sto
   pub words : record_of new to ≡ with_forward (record_of h.store from) to
   pub old : record_of new from ≡ with_forward (record_of h.store from) to
 
--- What a move off a page came to, from a block on, with this room: the words of the next block, which it cost; or
--- nothing changed, since the block doesn't fit, or since no block is left or there is no place for it.
+-- The effect of a move off a page, from a block on, with this room: the words of the next block, which are its cost. Or
+-- nothing changed, because the block doesn't fit, because no block is left, or because there is no place for it.
 abbrev pub MovesOne : HeapFields → ℕ → ℕ → ℕ → Moved → HeapFields → Type 0
 MovesOne old page block room (answers.Words words) new =
     (p : Page) × (m : MovesNext (state_of old) p) × (words ≡ size_of p.class) × (words ≤ room)

@@ -17,7 +17,7 @@ use heap_model::phase::{Candidate, Moving, Phase};
 use nodes::{HeapFields, Nodes};
 use size_classes::{CLASSES, Class};
 
-/// What a look of a pass came to.
+/// The effect of a look of a pass.
 #[derive(Clone, Copy, Debug, PartialEq, Eq)]
 pub enum Chosen {
     /// The page isn't the last one, and the pass goes on.
@@ -28,8 +28,8 @@ pub enum Chosen {
     NoPage,
 }
 
-/// Does the next steps of a pass: looks at the class's next pages before the last, as many as are left or as
-/// there is room for; where none is left, the look at the last one; after the last class the end of moving.
+/// Does the next steps of a pass: looks at the class's next pages before the last, as far as there is room. If none is
+/// left, it looks at the last one. After the last class it ends moving.
 pub fn pass_next(
     heap: &mut HeapFields,
     class: u32,
@@ -64,8 +64,8 @@ pub fn pass_next(
     heap.charge(count * LOOK, Phase::Moving(place));
 }
 
-/// Does one look of a pass: looks at a page of a class, with the best page so far. After a look at the last page the
-/// best one is chosen, if its blocks find a place on the class's other pages; else the next class gets a pass.
+/// Does one look of a pass: looks at a page of a class, with the best page so far. After a look at the last page it
+/// chooses the best one, if its blocks find a place on the class's other pages. Else the next class gets a pass.
 pub fn choose_one(
     heap: &mut HeapFields,
     class: u32,
@@ -142,7 +142,7 @@ fn look_on(
     candidate
 }
 
-/// The candidate after a look at a page.
+/// Returns the candidate after a look at a page.
 fn consider(nodes: &Nodes, class: Class, page: u32, best: Option<Candidate>) -> Option<Candidate>
     requires { page < length nodes.now.pages }
     ensures { result ≡ candidate_after nodes.now.pages class page best }

@@ -1,4 +1,4 @@
--- What is counted of each course by its events, and a run that keeps to a bound.
+-- The counts of each course by its events, and a run that keeps to a bound.
 use Rattle.std.proofs.Common.{◌≡◌, ℕ, ◌+◌, ◌*◌, ◌/◌, ◌<◌, ◌≤◌, Bool, true, false, if◌then◌else◌, List, [], ◌∷◌, Option, Some, None, length, drop, take, ap, ◌∙◌, sym, subst, arith, rules, refl, mul-zero}
 use Rattle.std.specs.Prelude.{count_by}
 use Rattle.std.proofs.lemmas.List.Folds.{sum_by-replicate}
@@ -47,19 +47,20 @@ use Rattle.fragmentation.specs.Tight.{staying_pages}
 use Rattle.fragmentation.proofs.Tight.IsLeftover.{evacuates, IsSettled}
 use Rattle.fragmentation.proofs.Tight.Actions.{chain_out}
 
--- What there was when a cycle began: it is at the front of what is present, and what was live of it needs at most this many blocks.
+-- The objects that existed when a cycle began: the present objects begin with them, and those that were live need at
+-- most this many blocks.
 pub record WasLive (r : Course) (origin : Graph) (most : ℕ → ℕ) : Type 0 where
   pub live : LiveWithin origin most
   pub kept : KeepsShapes origin.objects (present_of r).objects
 
--- of the first `count` objects, those that there were then, only those that were live have a main copy
+-- among the first `count` objects, which existed then, only those that were live have a main copy
 pub record HasOnly (r : Course) (count : ℕ) (most : ℕ → ℕ) : Type 0 where
   pub origin : Graph
   pub base : count ≡ length origin.objects
   pub was : WasLive r origin most
   pub only : KeepsOnly r.heap.store (length origin.objects) was.live.ids
 
--- Of those objects that there were when the cycle began whose sweep ended last, the ones with a main copy need no more
+-- Among the objects that existed when the cycle began whose sweep ended last, the ones with a main copy need no more
 -- than live ones did.
 pub record IsCounted (r : Course) (s : Season) (live : Lives) : Type 0 where
   pub graph : s.graph ≡ present_of r

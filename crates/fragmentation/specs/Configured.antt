@@ -1,4 +1,4 @@
--- What suffices, in a configuration's numbers.
+-- The pages that suffice, in a configuration's numbers.
 use Rattle.std.specs.Prelude.{ℕ, ◌+◌, ◌*◌, ◌<◌, ◌≤◌, ◌⊎◌}
 use Rattle.size_classes.specs.declared.class.TheConstants.{CLASSES}
 use Rattle.size_classes.specs.declared.config.Config.{Config}
@@ -12,9 +12,9 @@ pub record MovesAll (c : Config) : Type 0 where
   pub always : c.pages < c.defrag_below
   pub all : c.pages ≤ c.defrag_pages
 
--- There are as many pages as this many blocks of each class take: with as many more for each class as a cycle may
--- empty; with no more, where so many stay free that moving never begins; or with the one of each class that may be
--- left, and as many more, once for all classes, as a cycle may empty.
+-- There are as many pages as this many blocks of each class take, in one of three ways: with as many more for each
+-- class as a cycle may empty; with no more, if enough stay free that moving never begins; or with the one of each class
+-- that may be left, and as many more, once for all classes, as a cycle may empty.
 abbrev pub FitsTogether : Config → (ℕ → ℕ) → Type 0
 FitsTogether c blocks =
     (pages_for blocks (spare_in c) CLASSES ≤ c.pages)

@@ -1,4 +1,4 @@
--- What holds while blocks are gathered on few pages, so that each class whose passes are over is tight.
+-- The invariant while blocks are gathered on few pages: each class whose passes are over is tight.
 use Rattle.std.specs.Prelude.{◌≡◌, ℕ, ◌<◌, ◌≤◌, ◌⊎◌, true, false, List, Option, Some, None, count_by}
 use Rattle.heap_model.specs.declared.phase.Phase.{Phase}
 use Rattle.heap_model.specs.declared.phase.Phase.TheVariants as phases
@@ -17,7 +17,7 @@ abbrev pub ReceivesFirst : List (Option Page) → Type 0
 ReceivesFirst pages = (k j : ℕ) (p q : Page) → page_at pages k ≡ Some p → p.is_target ≡ true
     → is_usable p.class (Some p) ≡ true → page_at pages j ≡ Some q → is_usable p.class (Some q) ≡ true → k ≤ j
 
--- in a pass: the best page so far may be chosen; and where there is none, no page so far may be, or the class is tight
+-- in a pass: the best page so far may be chosen; if there is none, no page so far may be, or the class is tight
 abbrev pub HasLooked : List (Option Page) → ℕ → ℕ → Option Candidate → Type 0
 HasLooked pages class page None = ((k : ℕ) → k < page → is_choosable class (page_at pages k) ≡ false)
     ⊎ IsTight pages class

@@ -1,4 +1,4 @@
--- What a list of events adds up to, by the events alone, where what is needed shifts from cycle to cycle.
+-- The sums of a list of events, by the events alone, if the needs shift from cycle to cycle.
 use Rattle.std.specs.Prelude.{ℕ, ◌+◌, Bool, true, false, if◌then◌else◌, List, [], ◌∷◌, length, drop}
 use Rattle.graph_heap.specs.declared.command.Limits.{Limits}
 use Rattle.graph_heap.specs.Graph.{Graph, opening}
@@ -9,7 +9,7 @@ use Rattle.heap_model.specs.Phases.{awaits_sweep_end}
 
 -- The graph heap to which the events lead; how many cycles began; whether one runs whose sweep hasn't ended; how many
 -- objects there were when the last cycle began, when that one began whose sweep ended last, and at that sweep's end;
--- which cycle that was; and of each class what was needed up to that sweep's end since the cycle before began.
+-- which cycle that was; and, for each class, the need up to that sweep's end since the cycle before began.
 pub record Season : Type 0 where
   pub graph : Graph
   pub cycles : ℕ
@@ -20,7 +20,7 @@ pub record Season : Type 0 where
   pub number : ℕ
   pub before : ℕ → ℕ
 
--- where no event was done yet
+-- the season before the first event
 abbrev pub opening_season : Limits → Season
 opening_season l = record {
   graph = opening l;
@@ -33,7 +33,7 @@ opening_season l = record {
   before = λ class. 0;
 }
 
--- what live objects need at most where the nth cycle begins, by class; before the first, n is 0
+-- the most blocks that live objects need when the nth cycle begins, by class; before the first, n is 0
 abbrev pub Lives : Type 0
 Lives = ℕ → ℕ → ℕ
 
@@ -41,11 +41,11 @@ Lives = ℕ → ℕ → ℕ
 abbrev pub made_since : ℕ → Season → ℕ → ℕ
 made_since count s class = blocks_of (drop count s.graph.objects) class
 
--- of a class, what was live where the cycle began whose sweep ended last, with what is made since
+-- the blocks of a class that were live when the cycle began whose sweep ended last, with those made since
 abbrev pub needed_since : Lives → Season → ℕ → ℕ
 needed_since live s class = live s.number class + made_since s.base s class
 
--- where a sweep ended: the cycle whose sweep it was is now the one whose sweep ended last
+-- the season after a sweep ended: its cycle is now the one whose sweep ended last
 abbrev pub season_swept : Lives → Season → Season
 season_swept live s = record s {
   awaiting_sweep_end = false;
@@ -66,8 +66,8 @@ season_after live s (Quantum_done budget units phase) =
     if awaits_sweep_end phase then s else (if s.awaiting_sweep_end then season_swept live s else s)
 season_after live s (Quantum_refused budget) = s
 
--- An event keeps to a bound. At a command the bound holds of the season and of the blocks that are asked for; and where
--- a cycle begins, what is live needs no more than was said.
+-- An event keeps to a bound. At a command the bound holds of the season and of the requested blocks. When a cycle
+-- begins, live objects need no more than `live` says.
 abbrev pub Keeps : (Season → (ℕ → ℕ) → Type 0) → Lives → Season → Event → Type 0
 Keeps Bound live s (Command_done m c reply) = Bound s (asked_for s.graph m c)
 Keeps Bound live s Cycle_begun = LiveWithin s.graph (live (s.cycles + 1))

@@ -12,26 +12,25 @@ pub record GathersAll (h : HeapState) : Type 0 where
   pub always : length h.store.pages < h.defrag_below
   pub all : length h.store.pages ≤ h.defrag_pages
 
--- The pages of a class whose blocks were gathered, for this many blocks: the whole pages that these take, and one more
--- where they fill a page, since one page may be left whose blocks found no place.
+-- The pages of a class whose blocks were gathered, for this many blocks: the whole pages that these take; and one more
+-- if they fill a page, because one page may be left whose blocks found no place.
 abbrev pub gathered_pages : ℕ → ℕ → ℕ
 gathered_pages class blocks =
     if nat_lt blocks (blocks_in class) then whole_pages class blocks else whole_pages class blocks + 1
 
--- Of all classes, the pages that were gathered at the last sweep's end, and those that were opened since, with what is
--- asked for.
+-- the pages of all classes: those gathered at the last sweep's end, and those opened since, with the requested blocks
 abbrev pub season_pages : Season → (ℕ → ℕ) → ℕ
 season_pages s asked =
     class_sum (λ class. gathered_pages class (s.before class)
     + whole_pages class (made_since s.swept s class + asked class))
     CLASSES
 
--- a season and what is asked for take at most this many pages
+-- a season and the requested blocks take at most this many pages
 abbrev pub WithinPages : ℕ → Season → (ℕ → ℕ) → Type 0
 WithinPages pages s asked = season_pages s asked ≤ pages
 
--- A demand that is taken together: of each class, what was live when the cycle began whose sweep ended last, what is
--- made since and what is asked for are at most this many blocks.
+-- A joint demand: in each class, the blocks that were live when the cycle began whose sweep ended last, with those made
+-- since and those requested, are at most this many.
 abbrev pub WithinBlocks : (ℕ → ℕ) → Lives → Season → (ℕ → ℕ) → Type 0
 WithinBlocks blocks live s asked =
     (class : ℕ) → class < CLASSES → needed_since live s class + asked class ≤ blocks class
@@ -44,8 +43,8 @@ sparse_pages blocks = class_sum (λ class. gathered_pages class (blocks class)) 
 abbrev pub pages_of : (ℕ → ℕ) → ℕ
 pages_of blocks = class_sum (λ class. whole_pages class (blocks class)) CLASSES
 
--- How many pages live objects take at most where a cycle begins, all classes together, and how many the objects that
--- are made from there, or from the start, up to the end of the next cycle's sweep, with the one asked for.
+-- The most pages that live objects take when a cycle begins, all classes together; and the most for the objects made
+-- from then, or from the start, to the end of the next cycle's sweep, with the one requested.
 pub record PageDemand : Type 0 where
   pub live : ℕ
   pub made : ℕ
@@ -54,7 +53,7 @@ pub record PageDemand : Type 0 where
 abbrev pub demand_pages : PageDemand → ℕ
 demand_pages b = b.live + 2 * b.made + CLASSES
 
--- what is made since the cycle began whose sweep ended last, and what is asked for, take at most the pages that the
--- demand has for what is made
+-- the blocks made since the cycle began whose sweep ended last, with those requested, take at most the pages that the
+-- demand has for made objects
 abbrev pub WithinPageDemand : PageDemand → Season → (ℕ → ℕ) → Type 0
 WithinPageDemand b s asked = pages_of (λ class. made_since s.base s class + asked class) ≤ b.made

@@ -46,7 +46,7 @@ pub fn tight_pages_are_fewest()
         → staying_pages pages class ≡ whole_pages class (main_blocks pages class) }
 {}
 
-/// A page is chosen only where as many blocks of its class are free as a page has.
+/// A page is chosen only if as many blocks of its class are free as a page has.
 pub fn chosen_has_a_page_free()
     ensures { (pages : List (Option Page)) (class : ℕ) (c : Candidate) → ArePages pages
         → is_chosen pages class (Some c) ≡ true → blocks_in class ≤ free_blocks pages class }
@@ -59,14 +59,14 @@ pub fn actions_gather()
         → IsGathering after.store.pages (length after.store.pages) after.phase }
 {}
 
-/// So does what a command changes.
+/// So does each change that a command makes.
 pub fn changes_gather()
     ensures { (h after : HeapState) (g : Graph) (c : Change) → ArePages h.store.pages
         → IsGathering h.store.pages (length h.store.pages) h.phase → DoesChange h g c after
         → IsGathering after.store.pages (length after.store.pages) after.phase }
 {}
 
-/// A class that is tight stays so but for a sweep, through actions and changes.
+/// A tight class stays tight through each action outside a sweep, and through each change.
 pub fn tight_classes_stay()
     ensures action { (h after : HeapState) (cost class : ℕ) → ArePages h.store.pages → is_sweeping h.phase ≡ false
         → Action h cost after → IsTight h.store.pages class → IsTight after.store.pages class }
@@ -74,26 +74,27 @@ pub fn tight_classes_stay()
         → DoesChange h g c after → IsTight h.store.pages class → IsTight after.store.pages class }
 {}
 
-/// When moving has been over all classes, each is tight.
+/// When moving has gone over all classes, each is tight.
 pub fn moving_ends_tight()
     ensures { (h : HeapState) (page chosen : ℕ) (best : Option Candidate)
         → IsGathering h.store.pages (length h.store.pages) h.phase
         → h.phase ≡ phases.Moving (moves.Pass CLASSES page best chosen) → AreTight h.store.pages CLASSES }
 {}
 
-/// The space bound for a demand that shifts. In every run of events from an opening heap that moves after each sweep,
-/// and may empty as many pages as it has, no new object is refused for lack of space, where at each command there are
-/// as many pages as its season takes: what was needed up to the last sweep's end since the cycle before began, and what
-/// was made since.
+/// The space bound for a demand that shifts. Take a run of events from an opening heap that moves after each sweep and
+/// may empty as many pages as it has. If at each command there are as many pages as its season takes, no new object is
+/// refused for lack of space. A season counts the need up to the last sweep's end since the cycle before began, and the
+/// blocks made since.
 pub fn moving_suffices()
     ensures { (h : HeapState) (es : List Event) (new : Course) (live : Lives) → IsOpening h → 0 < length h.store.pages
         → GathersAll h → Runs (opened h) es new
         → AllKeep (WithinPages (length h.store.pages)) live (opening_season h.limits) es → EveryNewFindsRoom es }
 {}
 
-/// So where live objects take at most some number of pages whenever a cycle begins, and what is made from there, or from
-/// the start, to the end of the next cycle's sweep at most another, with the object asked for, no new object is refused
-/// for lack of space with the pages of live objects, twice those made, and one for each class: whatever the sizes of the
+/// The space bound for a demand in pages, in a heap that moves after each sweep and may empty as many pages as it has.
+/// Let live objects take at most some number of pages whenever a cycle begins; and those made from then, or from the
+/// start, to the end of the next cycle's sweep at most another, with the one requested. Then the pages of live objects,
+/// twice those made, and one for each class suffice: no new object is refused for lack of space, whatever the sizes of
 /// objects are, and however these change.
 pub fn page_demand_suffices()
     ensures { (h : HeapState) (es : List Event) (new : Course) (b : PageDemand) (live : Lives) → IsOpening h
@@ -102,27 +103,28 @@ pub fn page_demand_suffices()
         → demand_pages b ≤ length h.store.pages → EveryNewFindsRoom es }
 {}
 
-/// The blocks of a page have at least `LEAST_PAGE_FILL` words, whatever its class, and those of one class no more.
+/// The blocks of a page have at least `LEAST_PAGE_FILL` words, whatever its class; in one class they have exactly as
+/// many.
 pub fn pages_have_words()
     ensures least { (class : ℕ) → class < CLASSES → LEAST_PAGE_FILL ≤ size_of class * blocks_in class }
     ensures attained { (class : ℕ) × (class < CLASSES) × (size_of class * blocks_in class ≡ LEAST_PAGE_FILL) }
 {}
 
-/// No new object is refused for lack of space in a run that keeps to a flow which fits: where what is live takes at
-/// most so many words whenever a cycle begins, and the program asks, over all size classes together, for at most so
-/// many words for each quantum of at least k units until a cycle's sweep ends, and for so many from one cycle's
-/// beginning to the next. Whatever the sizes of the objects are, and however these shift.
+/// In a heap that moves after each sweep and may empty as many pages as it has, no new object is refused for lack of
+/// space in a run that keeps to a flow which fits. A flow limits, over all size classes together: the words that are
+/// live whenever a cycle begins; the words requested for each quantum of at least k units until a cycle's sweep ends;
+/// and those requested from one cycle's beginning to the next. The sizes of objects may be any, and may shift.
 pub fn flow_suffices()
     ensures { (h : HeapState) (es : List Event) (new : Course) (f : Flow) (k : ℕ) → 0 < k → IsOpening h
         → 0 < length h.store.pages → GathersAll h → Runs (opened h) es new
         → AllMetered k (KeepsFlow f) (opening_meter h.limits) es → FlowFits f k h → EveryNewFindsRoom es }
 {}
 
-/// How long a cycle lasts in a run that keeps to a flow, with quanta of at least k units: `sweep_quanta` up to its
-/// sweep's end, and `flow_quanta` as a whole, where up to its sweep's end a cycle makes no more than may be made until
-/// the next one. Marking and moving take no more words than what is live and what is made have, however many pages
-/// there are; and moving spends on a page either a look at every page, if it is chosen, or the words that go there. If
-/// smaller quanta are done as well, those of k units or more still keep to these numbers.
+/// The most quanta of a cycle in a run that keeps to a flow, with quanta of at least k units: `sweep_quanta` to its
+/// sweep's end, and `flow_quanta` as a whole, if a cycle makes no more words to its sweep's end than may be made until
+/// the next one. Marking and moving take no more words than live and made objects have, however many pages there are.
+/// Moving spends on a page either a look at every page, if it is chosen, or the words that go there. If smaller quanta
+/// are done as well, those of k units or more still keep to these numbers.
 pub fn flow_cycles_end()
     ensures sweep { (h : HeapState) (es : List Event) (new : Course) (f : Flow) (k : ℕ) → LEAST_BUDGET ≤ k → IsOpening h
         → 0 < length h.store.pages → Runs (opened h) es new
@@ -142,9 +144,9 @@ pub fn flow_cycles_end()
         < flow_quanta f (length h.roots) (length h.store.pages) k }
 {}
 
-/// The space bound for a demand that is taken together, whatever moves: in every run that keeps, at each command, what
-/// was live when the cycle began whose sweep ended last, with what is made since and asked for, within a number of
-/// blocks of each class, no new object is refused for lack of space, where there are as many pages as those take.
+/// The space bound for a joint demand, whatever moves. Take a run in which, at each command, the blocks that were live
+/// when the cycle began whose sweep ended last, with those made since and those requested, are within a number of each
+/// class. If there are as many pages as these numbers take, no new object is refused for lack of space.
 pub fn joint_suffices()
     ensures { (h : HeapState) (es : List Event) (new : Course) (blocks : ℕ → ℕ) (live : Lives) → IsOpening h
         → 0 < length h.store.pages → Runs (opened h) es new
@@ -152,7 +154,7 @@ pub fn joint_suffices()
         → pages_for blocks (spare_of h) CLASSES ≤ length h.store.pages → EveryNewFindsRoom es }
 {}
 
-/// Nor is one refused where as many pages stay free besides those that the blocks take as moving begins below: then no
+/// The same bound without moving: as many pages stay free besides those of the blocks as moving begins below. Then no
 /// sweep is followed by moving, and no page is left sparse.
 pub fn joint_suffices_unmoved()
     ensures { (h : HeapState) (es : List Event) (new : Course) (blocks : ℕ → ℕ) (live : Lives) → IsOpening h
@@ -161,8 +163,8 @@ pub fn joint_suffices_unmoved()
         → pages_for blocks 0 CLASSES + below_of h ≤ length h.store.pages → EveryNewFindsRoom es }
 {}
 
-/// The same with fewer pages, however many a cycle may empty: one page more than its blocks take for each class that
-/// has a page's blocks or more, and as many as a cycle may empty once for all classes.
+/// The same bound with fewer pages, however many a cycle may empty: one page more than its blocks take for each class
+/// that has a page's blocks or more; and as many as a cycle may empty, once for all classes.
 pub fn sparse_suffices()
     ensures { (h : HeapState) (es : List Event) (new : Course) (blocks : ℕ → ℕ) (live : Lives) → IsOpening h
         → 0 < length h.store.pages → Runs (opened h) es new
@@ -170,10 +172,9 @@ pub fn sparse_suffices()
         → sparse_pages blocks + spare_of h ≤ length h.store.pages → EveryNewFindsRoom es }
 {}
 
-/// In a heap of a configuration no reply of a run is the refusal for lack of space: where the run keeps to a demand
-/// that is taken together and fits; where each cycle gathers every class, and the run keeps within the configuration's
-/// pages; and there, where it keeps to a demand in pages for which the configuration has enough, or to a flow that
-/// fits.
+/// In a heap of a configuration no reply of a run is the refusal for lack of space, if the run keeps to a joint demand
+/// that fits. Nor is one if each cycle gathers every class, and the run keeps within the configuration's pages, to a
+/// demand in pages for which the configuration has enough, or to a flow that fits.
 pub fn configured_pages_suffice()
     ensures joint { (config : Config) (h : HeapState) (es : List Event) (new : Course) (blocks : ℕ → ℕ) (live : Lives)
         → 1 ≤ config.pages → IsOpening h → settings_of h ≡ settings_by config → Runs (opened h) es new

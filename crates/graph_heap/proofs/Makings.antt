@@ -1,4 +1,4 @@
--- What adds an object, and tells so.
+-- Changes that add an object, and the replies that say so.
 use Rattle.std.proofs.Common.{ℕ, Bool, true, false, cond, Result, Ok, Err, slice_index, ◌==◌}
 use Rattle.graph_heap.specs.declared.command.Reply.{Reply}
 use Rattle.graph_heap.specs.declared.command.Refusal.{Refusal}
@@ -8,7 +8,7 @@ use Rattle.graph_heap.specs.declared.command.Command.TheVariants as commands
 use Rattle.graph_heap.specs.Graph.{Graph}
 use Rattle.graph_heap.specs.Effect.{◌>>=◌, settled, admitted, admitted_effect, effect_of, AddsObject, TellsMade, slot_at, static_at, ref_at, word_at, object_at, fitting, next_identity, with_room}
 
--- a change that adds an object has the reply that tells so
+-- a change that adds an object has the reply that says so
 abbrev pub SaysSo : Reply × Change → Type 0
 SaysSo x = AddsObject x.1 → TellsMade x.0
 

@@ -1,4 +1,4 @@
--- What stands under an identity, and the identities of what can be reached.
+-- The object of an identity, and the identities of the objects that can be reached.
 use Rattle.std.proofs.Common.{◌≡◌, ◌≢◌, ℕ, ◌-◌, ◌<◌, ◌≤◌, ◌⊎◌, inl, inr, Bool, true, false, ◌==◌, cond, List, length, map, get_or, ap, ◌∙◌, sym, subst, refl, arith}
 use Rattle.std.specs.Prelude.{Ok, Err, slice_get, unwrap_or, Option, Some, None, nat_eq}
 use Rattle.std.specs.Bool.{Decides}

@@ -1,4 +1,4 @@
--- What a command does to the graph heap, and what it replies.
+-- The effect of a command on the graph heap, and its reply.
 use Rattle.std.specs.Prelude.{◌≡◌, ℕ, ◌+◌, ◌-◌, ◌*◌, Bool, true, false, ◌&&◌, nat_lt, ◌==◌, if◌then◌else◌, List, length, slice_index, slice_index_or, slice_get, Option, Some, None, Result, Ok, Err}
 use Rattle.graph_heap.specs.declared.command.Shape.{Shape}
 use Rattle.graph_heap.specs.declared.command.Command.{Command}
@@ -19,58 +19,58 @@ abbrev pub ◌>>=◌ : {A B : Type 0} → Result A Refusal → (A → Result B R
 (Ok x) >>= f = f x
 (Err e) >>= f = Err e
 
--- where a slot stands in the row of roots
+-- the place of a slot in the row of roots
 abbrev pub slot_at : Limits → ℕ → ℕ → Result ℕ Refusal
 slot_at l m s = if nat_lt m l.mutators && nat_lt s l.slots then Ok (m * l.slots + s) else Err refusals.BadSlot
 
--- where a static stands in the row of roots, behind the slots
+-- the place of a static in the row of roots, behind the slots
 abbrev pub static_at : Limits → ℕ → Result ℕ Refusal
 static_at l k = if nat_lt k l.statics then Ok (l.mutators * l.slots + k) else Err refusals.BadStatic
 
--- the object of an identity that a slot holds
+-- an object that was looked up; if there is none, NullSlot
 abbrev pub found : Option Object → Result Object Refusal
 found None = Err refusals.NullSlot
 found (Some o) = Ok o
 
--- the object of an identity; null is refused
+-- the object of an identity; NullSlot for null, and for an identity that isn't given yet
 abbrev pub object_at : List Object → ℕ → Result Object Refusal
 object_at objects id = if id == 0 then Err refusals.NullSlot else found (slice_get objects (id - 1))
 
--- what a cell of an object holds
+-- the identity in a reference cell of an object, or 0 for null
 abbrev pub ref_cell : Object → ℕ → Result ℕ Refusal
 ref_cell o i = if takes_refs o.shape
     then (if nat_lt i (length o.refs) then Ok (slice_index o.refs i) else Err refusals.BadIndex)
     else Err refusals.WrongKind
 
--- what a word cell of an object holds
+-- the word in a word cell of an object
 abbrev pub word_cell : Object → ℕ → Result ℕ Refusal
 word_cell o i = if takes_words o.shape
     then (if nat_lt i (length o.words) then Ok (slice_index o.words i) else Err refusals.BadIndex)
     else Err refusals.WrongKind
 
--- what a reference cell of the object of an identity holds
+-- the identity in a reference cell, by the identity of its object
 abbrev pub ref_at : List Object → ℕ → ℕ → Result ℕ Refusal
 ref_at objects id i = object_at objects id >>= λ o. ref_cell o i
 
--- what a word cell of the object of an identity holds
+-- the word in a word cell, by the identity of its object
 abbrev pub word_at : List Object → ℕ → ℕ → Result ℕ Refusal
 word_at objects id i = object_at objects id >>= λ o. word_cell o i
 
--- a shape that isn't too large
+-- a shape, if it isn't too large
 abbrev pub fitting : Shape → Result Shape Refusal
 fitting shape = if fits shape then Ok shape else Err refusals.TooLarge
 
--- the next identity
+-- the next identity, if the limit allows one more
 abbrev pub next_identity : Graph → Result ℕ Refusal
 next_identity g = if nat_lt (length g.objects) g.limits.identities then Ok (length g.objects + 1)
     else Err refusals.IdentitiesSpent
 
--- the refusal for lack of space, where there is no room
+-- the refusal for lack of space, if there is no room
 abbrev pub with_room : Bool → Result (Unit {0}) Refusal
 with_room room = if room then Ok tt else Err refusals.NoSpace
 
--- What a command of mutator m does once it is admitted: its reply, and what changes. The tests stand in
--- the order in which refusals are looked for. `room` says whether there is room for what New asks for.
+-- The effect of a command of mutator m, once it is admitted: its reply and one change. Refusals are looked for in the
+-- order of the tests. `room` says whether there is room for the object of a New.
 abbrev pub admitted_effect : Bool → Graph → ℕ → Command → Result (Reply × Change) Refusal
 admitted_effect room g m (commands.New dst shape) = do
   d ← slot_at g.limits m dst
@@ -140,19 +140,19 @@ admitted_effect room g m (commands.Describe a) = do
 admitted_effect room g m commands.Join = Ok (replies.Done, changes.Join m)
 admitted_effect room g m commands.Leave = Ok (replies.Done, changes.Leave m)
 
--- whether the command is for a mutator that isn't live
+-- whether the command is Join, which is for a mutator that isn't live
 abbrev pub is_join : Command → Bool
 is_join commands.Join = true
 is_join _ = false
 
--- a mutator that is live may ask for all but Join, and one that isn't for Join alone
+-- a live mutator may give any command except Join, and a mutator that isn't live only Join
 abbrev pub admits : Bool → Bool → Result (Unit {0}) Refusal
 admits true true = Err refusals.AlreadyLive
 admits true false = Ok tt
 admits false true = Ok tt
 admits false false = Err refusals.NotLive
 
--- the admission of a mutator, for Join or for all else: there is such a mutator, and it is live or not
+-- the admission of a mutator, for Join or for any other command: it exists, and it is live, or for Join isn't
 abbrev pub admitted_to : Limits → List Bool → ℕ → Bool → Result (Unit {0}) Refusal
 admitted_to l live m joins = if nat_lt m l.mutators then admits (slice_index_or live m false) joins
     else Err refusals.BadSlot
@@ -161,7 +161,7 @@ admitted_to l live m joins = if nat_lt m l.mutators then admits (slice_index_or 
 abbrev pub admitted : Graph → ℕ → Command → Result (Unit {0}) Refusal
 admitted g m c = admitted_to g.limits g.live m (is_join c)
 
--- what a command of mutator m does: its admission stands before all else
+-- the effect of a command of mutator m: its admission is tested before all else
 abbrev pub effect_of : Bool → Graph → ℕ → Command → Result (Reply × Change) Refusal
 effect_of room g m c = admitted g m c >>= λ ok. admitted_effect room g m c
 
@@ -170,7 +170,7 @@ abbrev pub settled : Result (Reply × Change) Refusal → Reply × Change
 settled (Ok x) = x
 settled (Err e) = (replies.Refused e, changes.Nothing)
 
--- the reply to a command, and the graph heap after it
+-- the reply to a command of mutator m
 unfoldable pub reply_of : Bool → Graph → ℕ → Command → Reply
 reply_of room g m c = (settled (effect_of room g m c)).0
 
@@ -183,17 +183,17 @@ abbrev pub AddsObject : Change → Type 0
 AddsObject (changes.New cell id shape) = Unit {0}
 AddsObject _ = ⊥
 
--- the reply tells that an object is made
+-- the reply says that an object was made
 abbrev pub TellsMade : Reply → Type 0
 TellsMade (replies.Made id) = Unit {0}
 TellsMade _ = ⊥
 
--- One step: the reply and the graph heap after it are those of the command. Room is the one thing
--- that the graph heap leaves open.
+-- One step: the reply and the graph heap after it are those of the command, with room or without. Room is the only
+-- thing that the graph heap leaves open.
 abbrev pub IsStep : Graph → ℕ → Command → Reply → Graph → Type 0
 IsStep g m c r after = (room : Bool) × (reply_of room g m c ≡ r) × (next_of room g m c ≡ after)
 
--- what the slow heap sees is what the graph heap gives
+-- a look-up in the slow heap gives the same as in the graph heap, seen through a view
 abbrev pub Sees : {X Y : Type 0} → (X → Y) → Result X Refusal → Result Y Refusal → Type 0
 Sees view (Ok x) read = read ≡ Ok (view x)
 Sees view (Err n) read = read ≡ Err n

@@ -13,9 +13,9 @@ pub record Object : Type 0 where
   pub refs : List ℕ
   pub words : List ℕ
 
--- A graph heap. The object of identity n stands at place n - 1, so that the next identity is the
--- number of objects and one. The roots are one row of identities, 0 for null: slot s of mutator m
--- at m * slots + s, and then the statics. Mutator m is live where the row `live` says so.
+-- A graph heap. The object of identity n stands at place n - 1, so the next identity is one more than the number of
+-- objects. The roots are one row of identities, 0 for null: slot s of mutator m at m * slots + s, and then the statics.
+-- Mutator m is live if the row `live` says so.
 pub record Graph : Type 0 where
   pub limits : Limits
   pub objects : List Object
@@ -39,7 +39,7 @@ abbrev pub nulled : List ℕ → ℕ → ℕ → List ℕ
 nulled roots first zero = roots
 nulled roots first (suc n) = slice_set (nulled roots first n) (first + n) 0
 
--- where the slots of a mutator begin in the row of roots
+-- the place at which the slots of a mutator begin in the row of roots
 abbrev pub first_slot : Limits → ℕ → ℕ
 first_slot l m = m * l.slots
 
@@ -59,7 +59,7 @@ no_object = record { shape = Plain 0 0; refs = []; words = [] }
 unfoldable pub object_of : List Object → ℕ → Object
 object_of objects id = if id == 0 then no_object else slice_index_or objects (id - 1) no_object
 
--- an object with another value in one cell
+-- an object with another value in one reference cell
 abbrev pub with_ref : Object → ℕ → ℕ → Object
 with_ref o i v = record { shape = o.shape; refs = slice_set o.refs i v; words = o.words }
 

@@ -7,12 +7,12 @@ use Rattle.graph_heap.specs.declared.command.Entry.{Entry}
 use Rattle.graph_heap.specs.Graph.{Graph}
 use Rattle.graph_heap.specs.Effect.{reply_of, next_of}
 
--- whether there was room, by the reply: there was none where it is the refusal for lack of space
+-- whether there was room, by the reply: there was none if it is the refusal for lack of space
 abbrev pub had_room : Reply → Bool
 had_room (replies.Refused refusals.NoSpace) = false
 had_room _ = true
 
--- the entry's reply is what the graph heap replies, with room or without as the reply shows
+-- the entry's reply is that of the graph heap, with room or without, as the reply shows
 abbrev pub IsEntryOf : Graph → Entry → Type 0
 IsEntryOf g e = reply_of (had_room e.reply) g e.mutator e.command ≡ e.reply
 

@@ -1,4 +1,4 @@
--- A history that is a merge of scripts: of each mutator it has the commands of its script, in their order.
+-- A history that is a merge of scripts: the commands of each mutator are its script, in the same order.
 use Rattle.std.specs.Prelude.{ℕ, zero, suc, ◌≡◌, ◌+◌, List, [], ◌∷◌, ◌++◌, map, nat_eq, slice_index_or, if◌then◌else◌}
 use Rattle.graph_heap.specs.declared.command.Command.{Command}
 use Rattle.graph_heap.specs.declared.command.Entry.{Entry}
@@ -18,10 +18,10 @@ mine_from place (e ∷ es) m = if nat_eq e.mutator m then (place, e) ∷ mine_fr
 abbrev pub mine : List Entry → ℕ → List (ℕ × Entry)
 mine h m = mine_from 0 h m
 
--- their commands, in order
+-- the commands of entries with their places, in order
 abbrev pub commands_of : List (ℕ × Entry) → List Command
 commands_of es = map (λ e. e.1.command) es
 
--- Of each mutator the history has just its script, in its order: it is a merge of the scripts.
+-- the history is a merge of the scripts: the commands of each mutator are its script, in the same order
 abbrev pub IsMerge : List Entry → List (List Command) → Type 0
 IsMerge h scripts = (m : ℕ) → commands_of (mine h m) ≡ slice_index_or scripts m []

@@ -18,6 +18,6 @@ graph_in a = record {
 abbrev pub TellsLive : Inside → Type 0
 TellsLive a = a.roots.limits.mutators ≤ length a.live.items
 
--- what a slot of a mutator holds
+-- the identity in a slot of a mutator, or 0 for null
 abbrev pub referent_at : Graph → ℕ → ℕ → Result ℕ Refusal
 referent_at g m slot = slot_at g.limits m slot >>= λ at. Ok (slice_index g.roots at)

@@ -26,7 +26,7 @@ slots_below (suc m) n = slots_below m n ++ slots_of m n
 abbrev pub null_slots : List (ℕ × ℕ) → List ((ℕ × ℕ) × ℕ)
 null_slots names = map (λ name. (name, 0)) names
 
--- the roots: what bounds them, and what they hold, in one row
+-- the roots: their limits, and the identity in each, in one row
 pub record Row : Type 0 where
   pub limits : Limits
   pub cells : List ℕ
@@ -40,6 +40,6 @@ pub record IsWhole (a : Inside) : Type 0 where
   pub slots : keys a.slots ≡ slots_below a.limits.mutators a.limits.slots
   pub statics : length a.statics.items ≡ a.limits.statics
 
--- what a root holds, where it stands in the row
+-- the identity in the root at a place of the row
 abbrev pub held_at : Row → Result ℕ Refusal → Result ℕ Refusal
 held_at r at = at >>= λ i. Ok (slice_index r.cells i)

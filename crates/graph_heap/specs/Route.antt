@@ -13,14 +13,14 @@ use Rattle.graph_heap.specs.declared.reachability.route.Standing.TheVariants.{Re
 use Rattle.graph_heap.specs.Distance.{found_at}
 use Rattle.graph_heap.specs.Search.{IsAt}
 
--- from an object the cells lead to another: each is a cell of what the one before it holds
+-- the cells lead from one object to another: each is a cell of the object that the cell before it holds
 abbrev pub Leads : Graph → ℕ → List Step → ℕ → Type 0
 Leads g from [] id = from ≡ id
 Leads g from (step ∷ steps) id =
     (from ≡ step.object) × (step.cell < length (object_of g.objects step.object).refs)
     × Leads g (slice_index (object_of g.objects step.object).refs step.cell) steps id
 
--- a root, and cells that lead from what it holds to the object
+-- a path to an object: a root, and cells that lead there from the object that the root holds
 abbrev pub IsPath : Graph → ℕ → Route → Type 0
 IsPath g id r = (r.root < length g.roots) × Leads g (slice_index g.roots r.root) r.steps.items id
 

@@ -1,4 +1,4 @@
--- What a search has found, and what it adds.
+-- The objects that a search has found, and those that it adds.
 use Rattle.std.specs.Prelude.{◌≡◌, ◌≢◌, ℕ, ◌+◌, ◌-◌, ◌<◌, ◌⊎◌, List, [], ◌∷◌, ◌++◌, Option, Some, None, length, nat_lt, count_by, slice_index}
 use Rattle.graph_heap.specs.Reaching.{IsAmong}
 use Rattle.graph_heap.specs.declared.reachability.found.Holder.{Holder}
@@ -12,7 +12,7 @@ pub record Findings : Type 0 where
   pub found : List Found
   pub objects : ℕ
 
--- what was found, and one place in the table for each object
+-- the objects that were found, and how many objects there are: one place of the table for each
 abbrev pub findings_in : Inside → Findings
 findings_in a = record { found = a.found.items; objects = length a.places.items }
 
@@ -37,7 +37,7 @@ Stands found f = (k : ℕ) × (k < length found) × (found_at found k ≡ f)
 abbrev pub IsNowhere : List Found → ℕ → Type 0
 IsNowhere found id = (k : ℕ) → k < length found → (found_at found k).id ≢ id
 
--- It is added, where it is an object that wasn't found before.
+-- the search takes a find: an object that wasn't found before is added, and else nothing changes
 abbrev pub Takes : Found → Findings → Findings → Type 0
 Takes f old new =
     ((new ≡ old) × (IsAmong old.objects f.id → (k : ℕ) × IsAt old.found f.id k))
@@ -56,7 +56,7 @@ pub record IsOneOf (cells : List ℕ) (d : ℕ) (holder : ℕ → Holder) (count
   pub distance : f.distance ≡ d
   pub holder_is : f.holder ≡ holder cell
 
--- What the first `count` cells hold is found, if it is an object, and nothing else is added.
+-- The objects that the first `count` cells hold are found, unless they were before, and nothing else is added.
 pub record Adds (cells : List ℕ) (d : ℕ) (holder : ℕ → Holder) (count : ℕ) (old new : Findings) : Type 0 where
   pub more : List Found
   pub grows : new.found ≡ old.found ++ more

@@ -17,8 +17,8 @@ pub fn live_row(alloc: Global, limits: &Limits) -> Result<Vec<bool>, NoMemory>
     Ok(live)
 }
 
-/// Lets a mutator ask: for Join (`joins`) it has to be one that isn't live, and for all else one
-/// that is. Refused: BadSlot where there is no such mutator, NotLive, AlreadyLive, in this order.
+/// Tests whether a mutator may give a command: Join (`joins`) is for a mutator that isn't live, all others are for one
+/// that is. Refusals: BadSlot if there is no such mutator, then NotLive, AlreadyLive.
 pub fn admit(limits: &Limits, live: &[bool], mutator: u32, joins: bool) -> Result<(), Refusal>
     requires { limits.now.mutators ≤ length live.now }
     ensures admitted { result ≡ admitted_to limits.now live.now mutator joins }
@@ -31,7 +31,7 @@ pub fn admit(limits: &Limits, live: &[bool], mutator: u32, joins: bool) -> Resul
     }
 }
 
-/// All but Join are for a mutator that is live.
+/// Tests whether a mutator that is live or not may give Join, or a command other than Join.
 fn admission_of(live: bool, joins: bool) -> Result<(), Refusal>
     ensures { result ≡ admits live joins }
 {
@@ -42,7 +42,7 @@ fn admission_of(live: bool, joins: bool) -> Result<(), Refusal>
     }
 }
 
-/// Why a mutator may not ask: it is live already, or it isn't live.
+/// Returns why a mutator may not give the command: it is live already, or it isn't live.
 #[cold]
 #[inline(never)]
 fn refusal_of(joins: bool) -> Refusal
@@ -55,7 +55,7 @@ fn refusal_of(joins: bool) -> Refusal
     }
 }
 
-/// Says whether a mutator is live, if there is such a mutator. The others stay.
+/// Sets whether a mutator is live, if there is such a mutator. The flags of the others stay.
 pub fn set_live(live: &mut [bool], mutator: u32, to: bool)
     ensures { live.new ≡ slice_set live.old mutator to }
 {

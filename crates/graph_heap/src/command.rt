@@ -1,4 +1,4 @@
-//! What a mutator may ask, and what it is told.
+//! The commands of a mutator, and the replies to them.
 
 /// How many cells a plain object has at most.
 pub const PLAIN_CELLS: u32 = 252;
@@ -17,29 +17,28 @@ pub enum Shape {
     WordArray(u32),
 }
 
-/// A command of a mutator. The fields `dst`, `obj`, `src`, `expect`, `a` and `b`, and `new` of
-/// `CompareStore` and `CompareStatic`, are slots of that mutator; `k` is a static; `i` counts the
-/// cells of the kind that the command is about, from 0.
+/// A command of a mutator. The fields `dst`, `obj`, `src`, `expect`, `a` and `b` are slots of that mutator, as is `new`
+/// of `CompareStore` and `CompareStatic`. `k` is a static. `i` counts from 0 the cells of the command's kind.
 #[derive(Clone, Copy, Debug, PartialEq, Eq)]
 pub enum Command {
-    /// A new object, with null references and zero words, into slot dst.
+    /// Makes an object, with null references and zero words, and puts it into slot dst.
     New {
         dst: u32,
         shape: Shape,
     },
-    /// A reference cell into slot dst.
+    /// Loads a reference cell into slot dst.
     Load {
         dst: u32,
         obj: u32,
         i: u32,
     },
-    /// What slot src holds into a reference cell.
+    /// Stores the reference in slot src into a reference cell.
     Store {
         obj: u32,
         i: u32,
         src: u32,
     },
-    /// What slot new holds into a reference cell, if that holds what slot expect does.
+    /// Stores the reference in slot new into a reference cell, if that cell holds the same as slot expect.
     CompareStore {
         obj: u32,
         i: u32,
@@ -57,55 +56,55 @@ pub enum Command {
         i: u32,
         word: u64,
     },
-    /// Writes a word cell, if that is old.
+    /// Writes a word cell, if it holds old.
     ComparePut {
         obj: u32,
         i: u32,
         old: u64,
         new: u64,
     },
-    /// What slot src holds into slot dst.
+    /// Copies slot src into slot dst.
     Copy {
         dst: u32,
         src: u32,
     },
-    /// Null into slot dst.
+    /// Sets slot dst to null.
     Clear {
         dst: u32,
     },
-    /// What static k holds into slot dst.
+    /// Loads static k into slot dst.
     LoadStatic {
         dst: u32,
         k: u32,
     },
-    /// What slot src holds into static k.
+    /// Stores the reference in slot src into static k.
     StoreStatic {
         k: u32,
         src: u32,
     },
-    /// What slot new holds into static k, if that holds what slot expect does.
+    /// Stores the reference in slot new into static k, if that static holds the same as slot expect.
     CompareStatic {
         k: u32,
         expect: u32,
         new: u32,
     },
-    /// Whether two slots hold the same identity, or both null.
+    /// Compares two slots: whether they hold the same identity, or both null.
     Same {
         a: u32,
         b: u32,
     },
-    /// The identity and the shape of slot a's object.
+    /// Returns the identity and the shape of slot a's object.
     Describe {
         a: u32,
     },
-    /// The mutator becomes live.
+    /// Makes the mutator live.
     Join,
-    /// Null into each slot of the mutator, which is live no more.
+    /// Sets each slot of the mutator to null; the mutator is then no longer live.
     Leave,
 }
 
 /// Hands a command to the function of `$on` that does it, with the heap, the mutator and the fields of the command.
-/// `make`, which does New, also gets whether there is room, where that is told.
+/// `make`, which does New, also gets `$room`, if it is given.
 #[macro_export]
 macro_rules! dispatch {
     ($on:ident, $heap:expr, $mutator:expr, $command:expr $(, $room:expr)?) => {
@@ -199,7 +198,7 @@ impl Refusal {
     }
 }
 
-/// The answer to a command. Where it names an object, 0 is null.
+/// The reply to a command. In place of an identity, 0 is null.
 #[derive(Clone, Copy, Debug, PartialEq, Eq)]
 pub enum Reply {
     /// The identity of the new object.
@@ -229,8 +228,8 @@ pub struct Entry {
     pub reply: Reply,
 }
 
-/// What bounds a heap: mutators, slots of each, statics, and the greatest identity; and how many
-/// mutators are live at first.
+/// The limits of a heap: mutators, slots of each, statics, and the greatest identity; and how many mutators are live at
+/// first.
 #[derive(Clone, Copy, Debug, PartialEq, Eq)]
 pub struct Limits {
     pub mutators: u32,
@@ -240,8 +239,8 @@ pub struct Limits {
     pub live: u32,
 }
 
-/// What a command changes. Roots are numbered in one row: the slots of mutator 0, of mutator 1 and so
-/// on, and then the statics.
+/// The change of a command. Roots are numbered in one row: the slots of mutator 0, of mutator 1 and so on, and then the
+/// statics.
 #[derive(Clone, Copy, Debug, PartialEq, Eq)]
 pub enum Change {
     Nothing,

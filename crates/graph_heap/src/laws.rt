@@ -14,8 +14,8 @@ pub fn one_more()
         → IsLegal g (h ++ e ∷ []) }
 {}
 
-/// An entry is one of the graph heap exactly where some step gives its reply, and there is one such
-/// step: a history is determined by its commands and replies.
+/// An entry is one of the graph heap if and only if some step gives its reply. There is only one such step, so a
+/// history is determined by its commands and replies.
 pub fn one_step()
     ensures { (g after : Graph) (e : Entry)
         → IsStep g e.mutator e.command e.reply after ↔ (IsEntryOf g e × (after_entry g e ≡ after)) }

@@ -1,5 +1,5 @@
-//! The graph heap: what mutators may ask of a heap, what they are told, and a slow, plain heap that
-//! never moves or frees an object. All other crates are proved against it.
+//! The graph heap: the commands of mutators, their replies, and a slow, plain heap that never moves or frees an object.
+//! All other crates are proved against it.
 #![tactic(auto)]
 
 pub mod admission;

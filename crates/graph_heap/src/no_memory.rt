@@ -1,4 +1,4 @@
-//! Lack of memory.
+//! The error for memory that is refused.
 use std::alloc::{AllocError, AllocFailed};
 use thiserror::Error;
 

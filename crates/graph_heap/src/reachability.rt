@@ -1,5 +1,5 @@
-//! Which objects of a graph heap can be reached, how far from the roots they are, and by which path; and the graph heap to
-//! which a history leads.
+//! The objects of a graph heap that can be reached, their distances from the roots, and paths to them. Also the graph
+//! heap to which a history leads.
 mod findings;
 mod following;
 mod found;

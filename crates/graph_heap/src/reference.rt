@@ -26,11 +26,11 @@ use row::{slot_of, static_of};
 use std::alloc::Global;
 use std::marker::Model;
 
-/// What a command does: its reply and what changes, or why it is refused.
+/// The effect of a command: its reply and its change, or why it is refused.
 type CommandEffect = Result<(Reply, Change), Refusal>;
 
-/// The slow heap: objects by their identities, which never move or go, slots by their mutators and numbers, and
-/// statics. Contracts see it as the graph heap.
+/// The slow heap: objects by identity, which never move and are never freed; slots by mutator and number; and statics.
+/// Contracts see it as the graph heap.
 #[derive(Drop)]
 pub struct Reference {
     objects: Objects,
@@ -106,7 +106,7 @@ impl Reference {
         Ok(())
     }
 
-    /// What the graph heap does.
+    /// Returns the effect of a command on the graph heap, with room for a new object or without.
     fn plan(&self, room: bool, mutator: u32, command: &Command) -> CommandEffect
         ensures { result ≡ effect_of room self.now mutator command.now }
     {
@@ -115,7 +115,7 @@ impl Reference {
         self.admitted_effect(room, mutator, command)
     }
 
-    /// What the graph heap does for a mutator that may ask this.
+    /// Returns the effect of a command of a mutator that was admitted.
     fn admitted_effect(&self, room: bool, mutator: u32, command: &Command) -> CommandEffect
         ensures { result ≡ admitted_effect room self.now mutator command.now }
     {
@@ -136,7 +136,7 @@ impl Reference {
         }
     }
 
-    /// What a slot of a mutator holds.
+    /// Returns the identity in a slot of a mutator, or 0 for null.
     fn referent(&self, mutator: u32, slot: u32) -> Result<u64, Refusal>
         ensures { result ≡ referent_at self.now mutator slot }
     {
@@ -300,7 +300,7 @@ pub(crate) fn had_room_of(reply: &Reply) -> bool
 }
 
 impl Reference {
-    /// A heap with no object and null roots, where the first `live` mutators are live.
+    /// Makes a heap with no object and null roots, in which the first `live` mutators are live.
     pub fn new(alloc: Global, limits: &Limits) -> Result<Reference, NoMemory>
         ensures { IfOk result (λ r. r ≡ opening limits.now) }
     {
@@ -317,7 +317,7 @@ impl Reference {
         ensures reply { IfOk result (λ r. r ≡ reply_of true self.old mutator command.now) }
         ensures ok { OnOk result (self.new ≡ next_of true self.old mutator command.now) }
         ensures err { OnErr result (self.new ≡ self.old) }
-        // Memory is refused only where an object is to be made.
+        // Memory is refused only if an object is to be made.
         ensures made { OnErr result (TellsMade (reply_of true self.old mutator command.now)) }
     {
         let (reply, change) = self.reply_and_change(true, mutator, command);
@@ -325,13 +325,13 @@ impl Reference {
         Ok(reply)
     }
 
-    /// Whether the entry is a step. Where it is, the step is done.
+    /// Does the step of an entry, if the entry is one; returns whether it is.
     pub fn accepts(&mut self, entry: &Entry) -> Result<bool, NoMemory>
         ensures exact { IfOk result (λ yes. IsTrue yes ↔ IsEntryOf self.old entry.now) }
         ensures yes { IsOkAnd result (λ yes. IsTrue yes) → self.new ≡ after_entry self.old entry.now }
         ensures no { IsOkAnd result (λ yes. ¬ IsTrue yes) → self.new ≡ self.old }
         ensures err { OnErr result (self.new ≡ self.old) }
-        // Memory is refused only where the entry is a step that makes an object.
+        // Memory is refused only if the entry is a step that makes an object.
         ensures made { OnErr result (IsEntryOf self.old entry.now × TellsMade entry.now.reply) }
     {
         let room = had_room_of(&entry.reply);

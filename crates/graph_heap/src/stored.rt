@@ -47,7 +47,7 @@ fn ref_cells(shape: Shape) -> u32
     }
 }
 
-/// How many hold words.
+/// How many cells of an object of a shape hold words.
 fn word_cells(shape: Shape) -> u32
     ensures { result ≡ shapes.word_cells shape }
 {
@@ -67,7 +67,7 @@ pub fn made_of(alloc: Global, shape: Shape) -> Result<StoredObject, NoMemory>
     Ok(StoredObject { shape, refs, words })
 }
 
-/// What a cell holds, of an object that takes such cells or not.
+/// Returns the value in a cell of an object. `takes` says whether the object's kind has such cells: if not, WrongKind.
 fn cell_of(takes: bool, cells: &[u64], i: u32) -> Result<u64, Refusal>
     ensures { result ≡ if takes then
         (if nat_lt i (length cells.now) then Ok (slice_index cells.now i) else Err refusals.BadIndex)

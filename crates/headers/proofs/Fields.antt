@@ -1,4 +1,4 @@
--- What a write inside a block does to its record.
+-- The effect of a write inside a block on its record.
 use Rattle.std.proofs.Common.{◌≡◌, ℕ, ◌+◌, ◌<◌, ◌≤◌, List, length, take, drop, set, get_or, ap, ◌∙◌, arith, refl}
 use Rattle.std.proofs.lemmas.List.{drop-set-lt, drop-set-add, get_or-set_other, get_or-set_same, length-take, length-drop}
 use Rattle.std.proofs.Math.Seq.{take-set-lt}

@@ -1,4 +1,4 @@
--- What was packed is unpacked again.
+-- A packed header is unpacked again.
 use Rattle.std.proofs.Common.{◌≡◌, ℕ, false, List, ◌∷◌, ◌++◌, replicate, refl, ap, ◌∙◌, arith}
 use Rattle.std.proofs.lemmas.List.{take_at, length-replicate}
 use Rattle.std.proofs.lemmas.Grind.{common_steps}

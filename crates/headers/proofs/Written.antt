@@ -1,4 +1,4 @@
--- What a write of one word of a block does to the block's record.
+-- The effect of a write of one word of a block on the block's record.
 use Rattle.std.proofs.Common.{◌≡◌, ℕ, ◌+◌, ◌-◌, ◌*◌, ◌/◌, ◌%◌, ◌<◌, ◌≤◌, ◌⊎◌, Bool, true, false, eqb, List, length, take, drop, set, get_or, ap, ◌∙◌, sym, arith, refl}
 use Rattle.std.proofs.lemmas.List.{drop-set-lt, get_or-set_other, get_or-set_same, length-take, length-drop, get_or-take, get_or-drop, length-replicate}
 use Rattle.heap_model.specs.Header.{Header, HeaderFits, header_in, shape_in, bit_of, recoloured}

@@ -9,11 +9,11 @@ use graph_heap::{NoMemory, Shape};
 use std::alloc::Global;
 use std::marker::Model;
 
-/// The words of a heap. A block has four words of header: the address to which it forwards (Brooks,
-/// 1984), the shape with the part's number and the colour, the identity, and a link; its cells
-/// follow. Addresses count words. Memory for all pages is reserved at the start, and a page's words are cleared when the
-/// page is first touched. Contracts see the list of the words of the pages that were touched, and for how many pages
-/// there is memory; each write is one change of that list.
+/// The words of a heap. A block has four words of header, and then its cells. The header has the address to which the
+/// block forwards (Brooks, 1984), the shape with the part's number and the colour, the identity, and a link. Addresses
+/// count words. Memory for all pages is reserved at the start; a page's words are cleared when it is first touched.
+/// Contracts see the list of the words of the touched pages, and for how many pages there is memory. Each write is one
+/// change of that list.
 #[derive(Drop)]
 pub struct Arena {
     words: Vec<u64>,
@@ -70,7 +70,7 @@ impl Arena {
         self.words.as_slice()
     }
 
-    /// The same for what writes many blocks: what is left there is in the arena when the loan ends.
+    /// Lends the words to loops that write many blocks; words that are left there are in the arena when the loan ends.
     #[inline(always)]
     pub fn words_mut(&mut self) -> &mut [u64]
         ensures* writes_back { sem 𝓛 (LendsWords self.entry result) }
@@ -114,7 +114,7 @@ impl Arena {
         part_of(self.words[block + 1])
     }
 
-    /// The colour of a block.
+    /// Returns the colour of a block.
     pub fn colour(&self, block: usize) -> bool
         requires { block + 1 < length self.now.words }
         ensures { result ≡ (header_in (slice_index self.now.words (block + 1))).colour }
@@ -165,7 +165,7 @@ impl Arena {
         self.words[block + 3] = link;
     }
 
-    /// What cell i of a block holds: a word, or a reference (address plus one, 0 for null).
+    /// Returns cell i of a block: a word, or a reference (address plus one, 0 for null).
     pub fn cell(&self, block: usize, i: usize) -> u64
         requires { block + (4 + i) < length self.now.words }
         ensures { result ≡ slice_index self.now.words (block + (4 + i)) }

@@ -12,7 +12,7 @@ struct Field {
     bits: u32,
 }
 
-/// What the object is: `PLAIN`, `REF_ARRAY` or `WORD_ARRAY`.
+/// The kind of the object: `PLAIN`, `REF_ARRAY` or `WORD_ARRAY`.
 const KIND: Field = Field { low: 0, bits: 2 };
 
 /// The colour, 1 for true.
@@ -37,7 +37,7 @@ const REF_ARRAY: u64 = 1;
 const WORD_ARRAY: u64 = 2;
 
 impl Field {
-    /// What a word has in the field.
+    /// Returns the bits of the field in a word.
     #[inline(always)]
     fn of(self, word: u64) -> u64
         requires low { self.low < 64 }
@@ -59,7 +59,7 @@ impl Field {
     }
 }
 
-/// The word of a shape, a part's number and a colour.
+/// Returns the word of a shape, a part's number and a colour.
 pub fn pack(shape: Shape, part: u32, colour: bool) -> u64
     requires shape { ShapeFits shape }
     requires part { part < 65536 }
@@ -127,7 +127,7 @@ pub fn has_colour(word: u64, colour: bool) -> bool
     bit_in(word) == bit(colour)
 }
 
-/// The word with another colour.
+/// Returns the word with another colour.
 pub fn recolour(word: u64, colour: bool) -> u64
     ensures { result ≡ recoloured word colour }
 {

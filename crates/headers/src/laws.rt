@@ -3,12 +3,12 @@ ghost use Rattle.std.specs.Prelude.{◌≡◌, ℕ, ◌+◌, ◌<◌, ◌≤◌,
 ghost use Rattle.heap_model.specs.Header.{Header, header_in, header_word, recoloured, HeaderFits};
 ghost use Rattle.heap_model.specs.Block.{record_at, cell_count, with_forward, with_colour, with_cell, new_record, new_words, spliced, words_at};
 
-/// What was packed into word 1 is read from it again.
+/// A header that was packed into word 1 is read from it again.
 pub fn header_packed()
     ensures { (h : Header) → HeaderFits h → header_in (header_word h) ≡ h }
 {}
 
-/// A write outside a block leaves its record.
+/// A write outside a block leaves the block's record unchanged.
 pub fn other_blocks()
     ensures { (words : List ℕ) (at v address size : ℕ) → (at < address) ⊎ (address + size ≤ at)
         → record_at (slice_set words at v) address size ≡ record_at words address size }
@@ -20,20 +20,20 @@ pub fn forward_written()
         → record_at (slice_set words address v) address size ≡ with_forward (record_at words address size) v }
 {}
 
-/// So does a write of word 1 with another colour,
+/// A write of word 1 with another colour changes the colour of the block's record, and nothing else of it.
 pub fn colour_written()
     ensures { (words : List ℕ) (colour : Bool) (address size : ℕ) → 4 ≤ size → address + size ≤ length words
         → record_at (slice_set words (address + 1) (recoloured (slice_index words (address + 1)) colour)) address size
         ≡ with_colour (record_at words address size) colour }
 {}
 
-/// of word 3,
+/// A write of word 3, the link, changes nothing of the block's record.
 pub fn link_written()
     ensures { (words : List ℕ) (v address size : ℕ) → 4 ≤ size → address + size ≤ length words
         → record_at (slice_set words (address + 3) v) address size ≡ record_at words address size }
 {}
 
-/// and of a cell of the part.
+/// A write of a cell of the part changes that cell of the block's record, and nothing else of it.
 pub fn cell_written()
     ensures { (words : List ℕ) (i v address size : ℕ) → i < length (record_at words address size).cells
         → address + size ≤ length words

@@ -57,7 +57,7 @@ colour_same : (c : Bool) → same_colour c c ≡ true
 colour_same true = refl
 colour_same false = refl
 
--- a new part has no word but zero
+-- all words of a new part are zero
 take-replicate_min : (n m : ℕ) → take n (replicate {A = ℕ} m 0) ≡ replicate (min n m) 0
 take-replicate_min n m = by_size (nat_le n m) refl
   where

@@ -1,4 +1,4 @@
--- What a phase is that is asked whether it is idle.
+-- A phase by the answer whether it is idle.
 use Rattle.std.proofs.Common.{◌≡◌, ◌≢◌, true, false, refl, ap, sym, ◌∙◌}
 use Rattle.heap_model.specs.declared.phase.Phase.{Phase}
 use Rattle.heap_model.specs.declared.phase.Phase.TheVariants as phases

@@ -1,4 +1,4 @@
--- A block that is taken keeps the pages as they were, but for the block.
+-- A block that is taken keeps the pages as they were, except for the block.
 use Rattle.std.proofs.Common.{◌≡◌, ℕ, ◌+◌, ◌-◌, ◌*◌, ◌/◌, ◌<◌, Bool, true, false, List, length, refl, ap, subst, sym, ◌∙◌, arith, ◌==◌, if◌then◌else◌, nat_lt}
 use Rattle.std.specs.Prelude.{Option, Some, None, position}
 use Rattle.std.proofs.lemmas.Option.{same_Some}

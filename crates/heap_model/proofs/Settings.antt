@@ -13,7 +13,7 @@ use Rattle.heap_model.proofs.Spent.Actions.{shades_units}
 use Rattle.heap_model.proofs.Marks.{action_count}
 use Rattle.heap_model.proofs.Taking.{takes_count}
 
--- the settings but for how many pages there are
+-- the settings except the number of pages
 abbrev pub others : HeapState → HeapSettings
 others h = record (settings_of h) { pages = 0 }
 
@@ -32,7 +32,7 @@ records_settings : (h k : HeapState) (x : ℕ) → Records h x k → settings_of
 records_settings h k x (Records_nothing r) = refl
 records_settings h after x (Records_main k r s) = shades_settings h k _ s
 
--- an action spends its cost, and leaves how many roots there are, and each setting but for how many pages there are
+-- an action spends its cost, and keeps the number of roots, and each setting except the number of pages
 pub action_rest : (h after : HeapState) (cost : ℕ) → Action h cost after → (others after ≡ others h) × (after.units ≡ h.units + cost) × (length after.roots ≡ length h.roots)
 action_rest h after cost (Scans_root next k e l sh) = (ap (λ (s : HeapSettings). with_pages s 0) (shades_settings _ k _ sh), ap (λ z. z + 1) (shades_units _ k _ sh).0, ap length (shades_units _ k _ sh).1 ∙ length-set h.roots next _)
 action_rest h after cost (Ends_roots next e l) = (refl, refl, refl)

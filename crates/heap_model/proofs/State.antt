@@ -1,4 +1,4 @@
--- What is seen of the heap after a write to one block, or to a root.
+-- The view of the heap after a write to one block, or to a root.
 use Rattle.std.proofs.Common.{◌≡◌, ◌≢◌, ℕ, ◌+◌, ◌-◌, ◌/◌, ◌%◌, ◌<◌, Bool, true, false, List, [], length, set, drop, get_or, refl, ap, sym, ◌∙◌, arith, ◌==◌, ◌&&◌, if◌then◌else◌, length-set, get_or-set_other}
 use Rattle.std.proofs.lemmas.List.{drop-set-lt, drop-set-add}
 use Rattle.heap_model.specs.Block.{BlockRecord, with_cell}

@@ -1,4 +1,4 @@
--- What work is left in marking, and that each step takes as much of it as it costs.
+-- The work that is left in marking; each step takes as much of it as the step costs.
 use Rattle.std.proofs.Common.{◌≡◌, ℕ, zero, suc, ◌+◌, ◌<◌, ◌≤◌, ◌≢◌, inl, inr, true, false, List, ◌∷◌, ◌++◌, arith, ap, subst, sym, ◌∙◌, ◌==◌, ◌||◌}
 use Rattle.std.proofs.lemmas.Bool.{cases_eq, cases_Bool}
 use Rattle.heap_model.specs.Core.{Heap}

@@ -26,13 +26,13 @@ width_of o part = width_in (length o.refs) (length o.words) part
 abbrev pub name_of : ℕ → Name
 name_of identity = record { identity = identity; part = 0 }
 
--- what a reference cell of a part names: in a spine a part, in a piece one of the object's references
+-- the part that a reference cell of a part names: in a spine a part, in a piece one of the object's references
 abbrev pub target_by : PartContents → ℕ → List ℕ → ℕ → Name
 target_by r identity refs i = if nat_lt i r.count
     then (if r.spine then record { identity = identity; part = r.first + i }
     else name_of (slice_index refs (r.first + i))) else null
 
--- what a reference cell of an object's part names
+-- the part that a reference cell of an object's part names
 unfoldable pub target_of : ℕ → Object → ℕ → ℕ → Name
 target_of identity o part i = target_by (run_of (length o.refs + length o.words) part) identity o.refs i
 

@@ -5,8 +5,8 @@ use Rattle.heap_model.specs.Collector.{contains, Once}
 use Rattle.heap_model.specs.State.{HeapState, seen}
 use Rattle.heap_model.specs.Store.{is_allocated}
 
--- There are pages. None of the grey parts is null; each is allocated, and marked; none stands twice; and there are no
--- more than a quarter of the arena's words, since a block has four at least.
+-- There are pages. No grey part is null, and none stands twice. Each is allocated and marked. There are no more than a
+-- quarter of the arena's words, because a block has at least four.
 pub record AreGrey (h : HeapState) : Type 0 where
   pub pages : 0 < length h.store.pages
   pub some : contains h.grey 0 ≡ false

@@ -1,4 +1,4 @@
--- What is asked of a phase.
+-- Whether a cycle is running, by the phase.
 use Rattle.std.specs.Prelude.{Bool, true, false}
 use Rattle.heap_model.specs.declared.phase.Phase.{Phase}
 use Rattle.heap_model.specs.declared.phase.Phase.TheVariants as phases

@@ -1,4 +1,4 @@
--- What the next action costs, and a turn of the collector.
+-- The cost of the next action, and the actions of a quantum.
 use Rattle.std.specs.Prelude.{◌≡◌, ◌≢◌, ℕ, ◌+◌, ◌<◌, ◌≤◌, ◌⊎◌, Some, position}
 use Rattle.size_classes.specs.Sizes.{size_of}
 use Rattle.heap_model.specs.declared.phase.Phase.TheVariants as phases
@@ -21,8 +21,8 @@ pub record MovesNext (h : HeapState) (p : Page) : Type 0 where
   pub is_next : IsNext p block next
   pub place : position (is_usable p.class) h.store.pages ≡ Some to
 
--- What the next action of a heap costs: a move costs the words of its block, and each other action one
--- unit. In idle there is none.
+-- The cost of the next action of a heap: a move costs the words of its block, and each other action one unit. In idle
+-- there is none.
 pub data NextCosts (h : HeapState) : ℕ → Type 0 where
   Of_move : (p : Page) → MovesNext h p → NextCosts h (size_of p.class)
   Of_other : h.phase ≢ phases.Idle → ((p : Page) → MovesNext h p → ⊥) → NextCosts h 1

@@ -16,7 +16,7 @@ units_in [] = 0
 units_in (Quantum_done budget units phase ∷ es) = units_in es + units
 units_in (e ∷ es) = units_in es
 
--- a heap with the empty history
+-- a course that begins: a heap with the empty history
 abbrev pub opened : HeapState → Course
 opened h = record { heap = h; history = []; place = 0 }
 

@@ -37,7 +37,7 @@ pub record Refers (s : Store) (block cell : ℕ) : Type 0 where
   pub some : slice_index (record_of s block).cells cell ≢ 0
   pub there : is_allocated s (slice_index (record_of s block).cells cell - 1) ≡ true
 
--- the block of the spine that refers to a part, from that of part 0 of an object with this many cells: itself,
+-- the block of the spine that refers to a part, from the block of part 0 of an object with this many cells: that block,
 -- or the middle spine to which it refers
 abbrev pub spine_at : Store → ℕ → ℕ → ℕ → ℕ
 spine_at s cells block part = if spine_of cells part == 0 then block

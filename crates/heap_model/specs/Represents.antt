@@ -1,4 +1,4 @@
--- What holds of a heap before and after each event.
+-- The invariant of a heap before and after each event.
 use Rattle.std.specs.Prelude.{◌<◌, Bool, true, false, length}
 use Rattle.graph_heap.specs.Graph.{Graph}
 use Rattle.heap_model.specs.declared.phase.Phase.{Phase}
@@ -10,9 +10,9 @@ use Rattle.heap_model.specs.Spent.{IsWithin}
 use Rattle.heap_model.specs.Placed.{IsPlaced}
 use Rattle.heap_model.specs.Marks.{AreClosed}
 
--- The heap represents the graph heap at present and that when the last cycle began: there are pages,
--- and each is one; the invariant holds; the units spent are at most what a cycle takes up to this place of
--- the phase; the place fits the pages; and the pages that a sweep has closed carry no mark.
+-- The heap represents the graph heap at present, and the one when the last cycle began. There are pages, and each is
+-- well formed; the invariant holds; the units spent are at most those of a cycle up to this place of the phase; the
+-- place fits the pages; and the pages that a sweep has closed carry no mark.
 pub record Represents (h : HeapState) (present snapshot : Graph) : Type 0 where
   pub pages : ArePages h.store.pages
   pub some : 0 < length h.store.pages

@@ -1,4 +1,4 @@
--- What stays of a heap while it is used.
+-- The settings of a heap, which stay while it is used.
 use Rattle.std.specs.Prelude.{ℕ, length}
 use Rattle.graph_heap.specs.declared.command.Limits.{Limits}
 use Rattle.size_classes.specs.declared.config.Config.{Config}
@@ -12,7 +12,7 @@ pub record HeapSettings : Type 0 where
   pub defrag_below : ℕ
   pub defrag_pages : ℕ
 
--- those of a heap, and those that a configuration asks for
+-- the settings of a heap
 abbrev pub settings_of : HeapState → HeapSettings
 settings_of h = record {
   limits = h.limits;

@@ -1,4 +1,4 @@
-//! What the actions of the collector cost, in units. A move costs the words of its block.
+//! The costs of the collector's actions, in units. A move costs the words of its block.
 
 /// A scan: of a root cell, of the header of a part, or of a reference cell.
 pub const SCAN: u32 = 1;

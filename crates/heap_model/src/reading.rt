@@ -1,5 +1,5 @@
-//! The laws of reading: what a heap that agrees with a graph heap shows. Each function does nothing:
-//! its contract is the law.
+//! The laws of reading: the view of a heap that agrees with a graph heap. Each function does nothing: its contract is
+//! the law.
 ghost use Rattle.std.specs.Prelude.{◌≡◌, ◌≢◌, ◌↔◌, ℕ, ◌+◌, ◌<◌, length, slice_index};
 ghost use Rattle.graph_heap.specs.Graph.{Graph, object_of};
 ghost use Rattle.graph_heap.specs.Reach.{Reaches};
@@ -16,7 +16,7 @@ ghost use Rattle.heap_model.specs.declared.phase.Moving.{Moving};
 ghost use Rattle.heap_model.specs.Action.{Action};
 ghost use Rattle.heap_model.specs.Represents.{Represents};
 
-/// What a root holds reads as the graph heap's root.
+/// Each root reads as the graph heap's root.
 pub fn root_reads()
     ensures { (h : HeapState) (g : Graph) (j : ℕ) → Agrees h g → j < length h.roots
         → Reads (seen h) (slice_index h.roots j) (name_of (slice_index g.roots j)) }
@@ -86,8 +86,8 @@ pub fn word_shown()
         ≡ slice_index (object_of g.objects id).words k }
 {}
 
-/// From the block of part 0 the block of each part is found, in two steps at most, and each step is by a
-/// cell that refers to an allocated block.
+/// The block of each part is found from the block of part 0, in at most two steps. Each step goes by a cell that refers
+/// to an allocated block.
 pub fn part_reached()
     ensures main { (h : HeapState) (g : Graph) (id part address : ℕ) → Agrees h g → Reaches g id
         → part < count_of (object_of g.objects id) → IsMainCopy h.store address (name_of id)

@@ -18,7 +18,7 @@ ghost use Rattle.heap_model.specs.QuantumSpending.{NextCosts, QuantumSpends};
 ghost use Rattle.heap_model.specs.Bound.{Quantum, AreQuanta, OneEnds, most_quanta};
 
 /// A new heap represents the opening graph heap. A heap goes on to represent graph heaps through each action, each
-/// chain of actions and each beginning of a cycle, and it never spends more than a cycle may.
+/// chain of actions and each beginning of a cycle. It never spends more than a cycle may.
 pub fn heaps_represent()
     ensures opening { (h : HeapState) → IsOpening h → 0 < length h.store.pages
         → Represents h (opening h.limits) (opening h.limits) }
@@ -32,8 +32,8 @@ pub fn heaps_represent()
         → h.units ≤ cycle_limit h }
 {}
 
-/// The change out of sweeping leads to a heap whose allocated blocks are exactly the parts of what is kept,
-/// and none of whose pages is evacuating or a target.
+/// The change out of sweeping leads to a heap whose allocated blocks are exactly the parts of the kept objects. None of
+/// its pages is evacuating or a target.
 pub fn sweeps_end()
     ensures { (h after : HeapState) (cost : ℕ) (present snapshot : Graph) → Represents h present snapshot
         → Action h cost after → is_sweeping h.phase ≡ true → is_sweeping after.phase ≡ false
@@ -46,7 +46,7 @@ pub fn cycles_end()
         → OneEnds (most_quanta h k) quanta }
 {}
 
-/// What an action costs is fixed by the state before it, and is at most 256 units.
+/// The cost of an action is fixed by the state before it, and is at most 256 units.
 pub fn costs_are_told()
     ensures action { (h after : HeapState) (cost : ℕ) → Action h cost after → NextCosts h cost }
     ensures one { (h : HeapState) (a b : ℕ) → NextCosts h a → NextCosts h b → a ≡ b }
@@ -64,8 +64,8 @@ pub fn turns_end()
         → QuantumSpends h budget after spent → (after.phase ≡ phases.Idle) ⊎ (budget < spent + 256) }
 {}
 
-/// The collector changes nothing that a caller can see: whatever graph heap the heap agrees with, it
-/// agrees with it after each chain of actions and each beginning of a cycle.
+/// The collector changes nothing that a caller can see: a heap that agrees with a graph heap agrees with it after each
+/// chain of actions and each beginning of a cycle.
 pub fn collecting_shows_nothing()
     ensures chain { (h after : HeapState) (spent : ℕ) (present snapshot g : Graph) → Represents h present snapshot
         → Chain h spent after → Agrees h g → Agrees after g }
@@ -73,14 +73,14 @@ pub fn collecting_shows_nothing()
         → Agrees h g → Agrees (begun h) g }
 {}
 
-/// In roots and marking the grey parts are allocated and marked, none is grey twice, and they are no more than
-/// a quarter of the arena's words: a block takes four words at least.
+/// In roots and marking the grey parts are allocated and marked, and none is grey twice. They are no more than a
+/// quarter of the arena's words, because a block takes at least four.
 pub fn grey_parts_are_few()
     ensures { (h : HeapState) (present snapshot : Graph) → Represents h present snapshot → records h.phase ≡ true
         → AreGrey h }
 {}
 
-/// What a cycle may spend stays through each chain of actions.
+/// The limit of a cycle stays the same through each chain of actions.
 pub fn limits_stay()
     ensures { (h after : HeapState) (spent : ℕ) → Chain h spent after → cycle_limit after ≡ cycle_limit h }
 {}

@@ -73,8 +73,8 @@ other_from : (A B : Type 0) (n m : ℕ) → n ≢ m → (b : Bool) → (n == m) 
 other_from A B n m off true is b = absurd (off (grind (arith, nat_tests)))
 other_from A B n m off false is b = b
 
--- A front that knows the whole log and one that knows a part are both known. Where the number found is the length of
--- the whole, the entry was added to it, and all is known.
+-- A front that knows the whole log and one that knows a part are both known. If the number found is the length of the
+-- whole, the entry was added to it, and all is known.
 pub commits_whole : (whole part known after : List Entry) (e : Entry) (found at : ℕ) → at ≡ length whole → IsPrefix whole known → IsPrefix part known
     → MatchBool (found == at) ((after ≡ known ++ e ∷ []) × (length known ≡ at)) (found ≡ length after) → found ≡ at → Commits whole part e found after after
 commits_whole whole part known after e found at long w p added here =
@@ -83,7 +83,7 @@ commits_whole whole part known after e found at long w p added here =
     let same : whole ≡ known = prefix_whole whole known w (omega arith) in
     told_from _ _ found (length whole) (here ∙ long) _ refl (t.0 ∙ ap (λ (h : List Entry). h ++ e ∷ []) (sym same), refl, subst (IsPrefix part) (sym same) p)
 
--- Where another number was found the log is longer.
+-- If another number was found, the log is longer.
 pub commits_longer : (whole part known after : List Entry) (e : Entry) (found at : ℕ) → at ≡ length whole → IsPrefix whole known → IsPrefix known after
     → MatchBool (found == at) ((after ≡ known ++ e ∷ []) × (length known ≡ at)) (found ≡ length after) → found ≢ at → Commits whole part e found whole after
 commits_longer whole part known after e found at long w grows added off =

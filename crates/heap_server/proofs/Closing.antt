@@ -1,4 +1,4 @@
--- What the place word says of the seats once all have come back.
+-- The place word and the seats once all have come back.
 use Rattle.std.proofs.Common.{◌≡◌, ◌≢◌, ℕ, zero, suc, ◌+◌, ◌≤◌, ◌⊎◌, inl, inr, List, [], ◌∷◌, Bool, true, false, length, slice_index_or, refl, arith}
 use Rattle.std.specs.Prelude.{nat_eq, if◌then◌else◌, IsPermutation, All}
 use Rattle.std.specs.List.{sum_by}
@@ -107,7 +107,7 @@ known_grows ss xs ys p each i d lt = let one = each i d lt in record { begins = 
 pub all_seen : (ss : List SeatView) (log : List Entry) → All (IsKnown log) ss → All (λ s. IsPrefix s.seen log) ss
 all_seen ss log each i d lt = (each i d lt).begins
 
--- of two beginnings of one list, one begins the other
+-- one of two beginnings of a list begins the other
 one_begins : (xs ys zs : List Entry) → IsPrefix xs zs → IsPrefix ys zs → (length xs ≤ length ys) ⊎ (length ys ≤ length xs) → IsPrefix xs ys ⊎ IsPrefix ys xs
 one_begins xs ys zs p q (inl le) = inl (prefix_shorter xs ys zs p q le)
 one_begins xs ys zs p q (inr le) = inr (prefix_shorter ys xs zs q p le)

@@ -1,4 +1,4 @@
--- What the collector's worker does with a budget.
+-- The collector's worker with one budget.
 use Rattle.std.proofs.Common.{◌≡◌, ◌≢◌, ℕ, ◌+◌, ◌≤◌, ap, ◌∙◌, arith, Result, Ok, Err, OnOk, OnErr}
 use Rattle.machine.specs.declared.collector.Busy.{Busy}
 use Rattle.machine.specs.declared.collector.Spent.{Spent}
@@ -24,7 +24,7 @@ begins_or_on (Err busy) old new ok err =
     let e = ap (λ (p : PacerView). p.ended) err.1 in
     record { on = λ same. err.0 (omega arith); begun = omega arith; quanta = ap (λ (p : PacerView). p.quanta) err.1; spent = ap (λ (p : PacerView). p.spent) err.1 }
 
--- of a budget at least one unit is spent, and no more than all, in one quantum
+-- one quantum spends at least one unit of a budget, and at most all
 pub spends_budget : (p on q : PacerView) (budget : ℕ) (s : Spent) → IsOn p on → IsPaced on budget s q → (q.begun ≤ p.begun + 1) × (p.spent + 1 ≤ q.spent) × (q.spent ≤ p.spent + budget) × (q.quanta ≡ p.quanta + 1)
 spends_budget p on q budget s o paced =
     let runs = paced.runs o.on in

@@ -1,4 +1,4 @@
--- Lists with some left out, and what a seat was told of its script.
+-- Lists with some left out, and the part of its script that a seat has seen done.
 use Rattle.std.proofs.Common.{◌≡◌, ℕ, ◌≤◌, inl, inr, List, [], ◌∷◌, ◌++◌, length, refl, sym, ap, ◌∙◌, subst, arith}
 use Rattle.std.proofs.lemmas.List.{map-append}
 use mathlib.Core.List.{IsPrefix}

@@ -82,7 +82,7 @@ lengths_of (v ∷ scripts) =
     let rest = lengths_of scripts in
     cc (one, rest)
 
--- of no script more calls were made than it has commands
+-- no script has more calls than commands
 pub played_within : (seats : List SeatView) (scripts : List (List Command)) → AllZip HasPlayed seats scripts → AllZip (λ n most. n ≤ most) (map calls seats) (map length scripts)
 played_within [] [] h = tt
 played_within [] (c ∷ scripts) h = absurd h

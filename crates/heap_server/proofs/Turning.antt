@@ -1,4 +1,4 @@
--- What a quantum does to the cycle that is running.
+-- The effect of a quantum on the cycle that is running.
 use Rattle.std.proofs.Common.{◌≡◌, ◌≢◌, ℕ, ◌+◌, ◌-◌, ◌<◌, ◌≤◌, ◌⊎◌, inl, inr, refl, ap, sym, ◌∙◌, subst, arith}
 use Rattle.graph_heap.specs.Graph.{Graph}
 use Rattle.heap_model.specs.declared.phase.Phase.{Phase}

@@ -1,4 +1,4 @@
--- The place word: what it is, and what a step on it tells.
+-- The place word, and the steps on it.
 use Rattle.std.specs.Prelude.{ℕ, ◌≡◌, ◌<◌, ◌==◌, true, List, [], ◌∷◌, ◌++◌, length, MatchBool}
 use mathlib.Core.List.{IsPrefix}
 use Rattle.logbook.specs.Pages.{Cell, Step, View, Book, Named}
@@ -25,12 +25,12 @@ abbrev pub Appends : Step Entry → View Entry ℕ → ℕ → View Entry ℕ �
 Appends s v found w =
     MatchBool (found == s.old) ((w.0 ≡ v.0 ++ s.ask ∷ []) × (length v.0 ≡ s.old)) (found ≡ length w.0)
 
--- the entry that a command of mutator m gets where it is done at this heap with its history
+-- the entry of a command of mutator m, if it is done at this heap with its history
 abbrev pub next_entry : Course → ℕ → Command → Entry
 next_entry r m c = record { mutator = m; command = c; reply = reply_of (room_for r.heap c) (present_of r) m c }
 
--- What was committed to a log, where one front knew the whole log and another a part: the entry is added, and both
--- know the log; or the log is longer, its length is what was found, and the other front knows it.
+-- A commit to a log, if one front knew the whole log and another a part. Either the entry is added, and both know the
+-- log; or the log is longer, its length is the one that was found, and the other front knows it.
 abbrev pub Commits : List Entry → List Entry → Entry → ℕ → List Entry → List Entry → Type 0
 Commits whole part e found whole_after part_after =
     MatchBool (found == length whole)

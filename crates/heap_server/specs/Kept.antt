@@ -1,4 +1,4 @@
--- What the lock keeps.
+-- The invariant under the lock.
 use Rattle.std.specs.Prelude.{ℕ, ◌≡◌, ◌+◌, ◌<◌, length}
 use Rattle.heap_model.specs.declared.phase.Phase.{Phase}
 use Rattle.heap_model.specs.declared.phase.Phase.TheVariants as phases
@@ -9,8 +9,8 @@ use Rattle.machine.specs.Headline.{Holds}
 use Rattle.machine.specs.Space.{FoundSpace}
 use Rattle.heap_server.specs.Views.{LockedView}
 
--- A heap has these settings, what is promised of every heap with its history holds of it, and space sufficed for the
--- events that led to it.
+-- A heap has these settings and all promises of a heap with its history; and space sufficed for the events that led to
+-- it.
 pub record IsSound (settings : HeapSettings) (r : Course) : Type 0 where
   pub settings_are : settings_of r.heap ≡ settings
   pub holds : Holds r
@@ -21,9 +21,9 @@ abbrev pub cycles_on : Phase → ℕ
 cycles_on phases.Idle = 0
 cycles_on _ = 1
 
--- What the lock keeps: there is a mutator, the heap is sound, each entry of the history was counted as a call, a chain
--- of events with the cycles begun, the quanta done and the units spent leads to the heap, and each cycle that was begun
--- has ended or is running.
+-- The invariant under the lock: there is a mutator; the heap is sound; each entry of the history was counted as a call;
+-- a chain of events, with the cycles begun, the quanta done and the units spent, leads to the heap; and each cycle that
+-- was begun has ended or is running.
 pub record IsKept (settings : HeapSettings) (v : LockedView) : Type 0 where
   pub some : 0 < settings.limits.mutators
   pub sound : IsSound settings v.course

@@ -1,4 +1,4 @@
--- What names a server.
+-- The names of a server.
 use Rattle.std.specs.Prelude.{ℕ}
 use Rattle.logbook.specs.Pages.{Book}
 use Rattle.heap_model.specs.Settings.{HeapSettings}

@@ -1,4 +1,4 @@
--- What an opening names.
+-- The names of an opening.
 use Rattle.heap_model.specs.Settings.{settings_by}
 use Rattle.heap_server.specs.Names.{Names}
 use Rattle.heap_server.specs.declared.naming.Opening.{Opening}

@@ -1,4 +1,4 @@
--- What the workers of a play did.
+-- The commands and budgets that the workers of a play have done.
 use Rattle.std.specs.Prelude.{ℕ, ◌≡◌, ◌↔◌, ◌<◌, ◌≤◌, ◌⊎◌, true, false, List, [], ◌∷◌, length, map, take, drop, All, sum, slice_index, slice_index_or}
 use Rattle.std.specs.List.{AllZip}
 use Rattle.graph_heap.specs.declared.command.Command.{Command}
@@ -12,8 +12,8 @@ use Rattle.heap_server.specs.Seats.{mutators_of}
 use Rattle.heap_server.specs.Kept.{IsSound}
 use Rattle.heap_server.specs.declared.play.Outcome.{Outcome}
 
--- Of each mutator the history has this many commands of its script, the first ones in their order, and of a mutator
--- without a script none.
+-- The history has exactly the first `done` commands of each mutator's script, in their order, and none of a mutator
+-- without a script.
 abbrev pub HasFronts : List Entry → List (List Command) → List ℕ → Type 0
 HasFronts h scripts done = (m : ℕ) → commands_of (mine h m) ≡ take (slice_index done m) (slice_index_or scripts m [])
 
@@ -23,28 +23,28 @@ IsPart [] ys = Unit {0}
 IsPart (x ∷ xs) [] = ⊥
 IsPart (x ∷ xs) (y ∷ ys) = ((x ≡ y) × IsPart xs ys) ⊎ IsPart (x ∷ xs) ys
 
--- the calls made from a seat are no more than the commands of its script, and it was told of as many of these, the
--- first ones
+-- the seat has made no more calls than its script has commands; and among the entries that it has seen are those of as
+-- many first commands of the script
 pub record HasPlayed (s : SeatView) (script : List Command) : Type 0 where
   pub within : s.calls ≤ length script
   pub told : IsPart (take s.calls script) (commands_of (mine s.seen s.mutator))
 
--- The calls made from the seat of a mutator that had made none are no more than the commands of its script, and it was
--- told of as many of these, the first ones.
+-- The seat of a mutator, which had made no call, has made no more calls than its script has commands. Among the entries
+-- that it has seen are those of as many first commands of the script.
 pub record IsPlayed (script : List Command) (old new : SeatView) : Type 0 where
   pub mutator : new.mutator ≡ old.mutator
   pub within : new.calls ≤ length script
   pub told : IsPart (take new.calls script) (commands_of (mine new.seen new.mutator))
 
--- The seats of this many mutators, in rising order, after these scripts: each of the first seats has played its
--- script, or the first commands of it, and from the others no call was made.
+-- The seats of this many mutators, in rising order, after these scripts. Each of the first seats has played its script,
+-- or the first commands of it. No call was made from the others.
 pub record HavePlayed (mutators : ℕ) (scripts : List (List Command)) (seats : List SeatView) : Type 0 where
   pub all : mutators_of seats ≡ upto mutators
   pub played : AllZip HasPlayed (take (length scripts) seats) scripts
   pub rest : All (λ s. s.calls ≡ 0) (drop (length scripts) seats)
 
--- Budgets were used, all up to the first that no quantum may have, each for one quantum: at least one unit of each was
--- spent, and no more than all. For each budget at most one cycle was begun.
+-- Budgets were used, all up to the first that is no budget of a quantum. Each was used for one quantum, which spent at
+-- least one unit and at most the whole budget. At most one cycle was begun for each budget.
 pub record IsCollected (budgets : List ℕ) (used : ℕ) (p : PacerView) : Type 0 where
   pub within : used ≤ length budgets
   pub allowed : All IsBudget (take used budgets)
@@ -54,11 +54,10 @@ pub record IsCollected (budgets : List ℕ) (used : ℕ) (p : PacerView) : Type 
   pub least : used ≤ p.spent
   pub most : p.spent ≤ sum (take used budgets)
 
--- The outcome of scripts and budgets on a new heap of these settings: it is sound; each entry of its history is
--- counted once, as one that a script has done; of no script more is done than it has; where the place word isn't
--- torn, what was done is the fronts of the scripts; and the cycles, quanta and units that led to the heap are those of
--- the budgets used. All is done where nothing is left and the word isn't torn, and then the history is a merge of the
--- scripts.
+-- The outcome of scripts and budgets on a new heap of these settings. It is sound. Each entry of its history is counted
+-- once, for one script, and no script counts more than it has. If the place word isn't torn, the history has the first
+-- commands of each script. The cycles, quanta and units that led to the heap are those of the budgets used. All is done
+-- if nothing is left and the word isn't torn; then the history is a merge of the scripts.
 pub record IsOutcome (settings : HeapSettings) (scripts : List (List Command)) (budgets : List ℕ)
     (o : Outcome) : Type 0 where
   pub sound : IsSound settings o.recorded.course

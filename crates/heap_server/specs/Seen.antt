@@ -1,4 +1,4 @@
--- What callers have seen of the running history.
+-- The parts of the running history that callers have seen.
 use Rattle.std.specs.Prelude.{ℕ, ◌≡◌, ◌<◌, ◌≤◌, ◌⊎◌, List, [], ◌∷◌, ◌++◌, length}
 use Rattle.std.specs.List.{All}
 use mathlib.Core.List.{IsPrefix}
@@ -8,7 +8,7 @@ use Rattle.heap_server.specs.declared.fault.ServerFault.{ServerFault}
 use Rattle.heap_server.specs.declared.fault.ServerFault.TheVariants as faults
 use Rattle.heap_server.specs.Views.{SeatView}
 
--- What was seen goes on to the place of this entry, and ends with it.
+-- A seat has seen more of the history, up to this entry and its place.
 abbrev pub Extends : List Entry → List Entry → ℕ → Entry → Type 0
 Extends seen new place e = (before : List Entry) × IsPrefix seen before × (new ≡ before ++ e ∷ [])
     × (place ≡ length before)
@@ -18,41 +18,42 @@ abbrev pub fault_number : ServerFault → ℕ
 fault_number faults.NoMemory = 9
 fault_number (faults.Torn found) = 10
 
--- What a fault says of what the seat has seen: nothing new, for lack of memory; or all of a log of the length that
--- was found.
+-- The effect of a fault on the part that a seat has seen: nothing new, for lack of memory; or a whole log of the length
+-- that was found.
 abbrev pub FaultShows : ServerFault → List Entry → List Entry → Type 0
 FaultShows faults.NoMemory seen new = new ≡ seen
 FaultShows (faults.Torn found) seen new = found ≡ length new
 
--- What a fault says of what the seat has seen, and of the locked history: where another number than its length was
--- found, the log begins with the history, and goes on.
+-- The effect of a fault on the part that a seat has seen, with the locked history. If another number than the history's
+-- length was found, the seat has seen a log that begins with the history, and is longer.
 abbrev pub FaultTells : ServerFault → List Entry → List Entry → List Entry → Type 0
 FaultTells faults.NoMemory history seen new = new ≡ seen
 FaultTells (faults.Torn found) history seen new = (found ≡ length new) × IsPrefix history new
     × (length history < length new)
 
--- of a history and what was seen one begins the other
+-- the history begins with the part that was seen, or that part begins with the history
 abbrev pub OneBegins : List Entry → List Entry → Type 0
 OneBegins h seen = IsPrefix seen h ⊎ IsPrefix h seen
 
--- what a seat has seen begins the history, and of its mutator the history has just the calls that the seat was told of
+-- the history begins with the part that a seat has seen, and the history has as many entries of its mutator as the seat
+-- made calls
 pub record WasTold (h : List Entry) (s : SeatView) : Type 0 where
   pub begins : IsPrefix s.seen h
   pub calls : s.calls ≡ length (mine h s.mutator)
 
--- what a seat has seen begins a log, and has at least its calls
+-- a log begins with the part that a seat has seen, which has at least as many entries of its mutator as it made calls
 pub record IsKnown (log : List Entry) (s : SeatView) : Type 0 where
   pub begins : IsPrefix s.seen log
   pub calls : s.calls ≤ length (mine s.seen s.mutator)
 
--- what each seat has seen begins a log, and has at least the seat's calls
+-- each seat is known in this way
 abbrev pub EachKnown : List Entry → List SeatView → Type 0
 EachKnown log [] = Unit {0}
 EachKnown log (s ∷ ss) = IsKnown log s × EachKnown log ss
 
--- What one load of the place word finds when a server is closed, with its history and its seats: the length of a log, which
--- begins with the history and with all that each seat has seen. Of the history and what a seat has seen one begins the
--- other. If the number is the history's length, each seat was told of all its calls.
+-- One load of the place word when a server is closed, with its history and its seats. The number is the length of a
+-- log, which begins with the history and with the part that each seat has seen. The history begins with each such part,
+-- or the part with the history. If the number is the history's length, each seat has seen all its calls.
 pub record Closes (history : List Entry) (seats : List SeatView) (found : ℕ) : Type 0 where
   pub log : List Entry
   pub length_is : found ≡ length log

@@ -1,4 +1,4 @@
--- What a seat, the pacer and the locked state show.
+-- The views of a seat, the pacer and the locked state.
 use Rattle.std.specs.Prelude.{ℕ, List}
 use Rattle.graph_heap.specs.declared.command.Entry.{Entry}
 use Rattle.heap_model.specs.Event.{Course}
@@ -17,8 +17,8 @@ pub record PacerView : Type 0 where
   pub quanta : ℕ
   pub spent : ℕ
 
--- The locked heap with its history, for how many more entries memory is kept ready, and the totals of the five
--- books: calls made, cycles begun, cycles ended, quanta done, units spent.
+-- The locked heap with its history; for how many more entries memory is ready; and the totals of the five books: calls
+-- made, cycles begun, cycles ended, quanta done, units spent.
 pub record LockedView : Type 0 where
   pub course : Course
   pub room : ℕ
@@ -40,6 +40,6 @@ locked_of l = record {
   spent = l.units.total;
 }
 
--- what the pacer shows where its numbers are the totals of the books
+-- the view of the pacer if its numbers are the totals of the books
 abbrev pub pacer_of : LockedView → PacerView
 pacer_of v = record { begun = v.begun; ended = v.ended; quanta = v.quanta; spent = v.spent }

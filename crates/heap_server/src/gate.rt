@@ -1,7 +1,7 @@
 //! The gate of a play.
 
-/// Where each worker of a play comes by, before each of its commands or budgets and after the last. A gate may
-/// hold it there.
+/// A gate that each worker of a play passes, before each of its commands or budgets and after the last. A gate may hold
+/// it there.
 pub trait Gate {
     /// The worker of this number comes by and has done this many of its commands or budgets. The worker of
     /// script m has number m, and the collector's the number of scripts.

@@ -1,4 +1,4 @@
-//! What lies under the lock, and the calls that are done while it is held.
+//! The state under the lock, and the calls that are done while it is held.
 ghost use Rattle.std.specs.Prelude.{◌≡◌, ◌≢◌, ◌↔◌, ◌+◌, ◌<◌, ◌≤◌, length, IfErr, IfOk, IsOk, OnErr, OnOk};
 ghost use mathlib.Core.List.{IsPrefix};
 ghost use Rattle.graph_heap.specs.Graph.{opening};
@@ -22,8 +22,8 @@ use machine::{BudgetOutOfRange, Busy, Receipt, Recorded, Spent};
 use std::marker::Model;
 use std::sync::ledger::{Book, Share};
 
-/// A mutator's place at a server. Contracts see the mutator's number, how many calls the seat has made, and what it
-/// has seen of the running history: no fewer entries of its mutator than it has made calls.
+/// A mutator's place at a server. Contracts see the mutator's number, how many calls the seat has made, and the part of
+/// the running history that it has seen: this has no fewer entries of its mutator than it has made calls.
 #[derive(Drop)]
 pub struct Seat<N: Naming> {
     pub(crate) mutator: u32,
@@ -87,10 +87,10 @@ impl<N: Naming> Model for Pacer<N> {
     ghost invariant = { λ p. (p.begun.parts ≡ 1) × (p.ended.parts ≡ 1) × (p.quanta.parts ≡ 1) × (p.units.parts ≡ 1) };
 }
 
-/// What lies under the lock: a heap with its history, for how many more entries memory is kept ready, and the
-/// books of calls made, cycles begun, cycles ended, quanta done and units spent. The history is always legal and a
-/// beginning of the log that the place word counts, the heap agrees with the graph heap to which it leads, and the
-/// books count the events that led there.
+/// The state under the lock: a heap with its history, for how many more entries memory is ready, and the books of calls
+/// made, cycles begun, cycles ended, quanta done and units spent. The history is always legal, and the log that the
+/// place word counts begins with it. The heap agrees with the graph heap to which the history leads. The books count
+/// the events that led there.
 #[derive(Drop)]
 pub struct Locked<N: Naming> {
     pub(crate) recorded: Recorded,

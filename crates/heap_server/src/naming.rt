@@ -1,4 +1,4 @@
-//! The ledgers of a server: what names them, and how they are opened.
+//! The ledgers of a server: their names, and how they are opened.
 ghost use Rattle.std.specs.Prelude.{◌≡◌};
 
 use crate::place::Opened;
@@ -86,7 +86,7 @@ impl<N: Naming> Ledger for Units<N> {
     ghost parts = { 1 };
 }
 
-/// What a server is made of: the configuration of its heap, and ledgers and a place word that have no name yet.
+/// The parts of a new server: the configuration of its heap, and ledgers and a place word that have no name yet.
 #[derive(Drop)]
 pub struct Opening {
     pub config: Config,

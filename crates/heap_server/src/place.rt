@@ -149,7 +149,7 @@ impl<N: Naming> Model for Front<N> {
 }
 
 impl<N: Naming> Front<N> {
-    /// The same once more.
+    /// Returns a copy of the front.
     pub fn again(&self) -> Front<N>
         ensures { result ≡ self.now }
     {

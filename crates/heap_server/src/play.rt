@@ -39,17 +39,17 @@ pub struct Outcome {
     pub all: bool,
 }
 
-/// Plays scripts at a new heap, each in a thread of its own, and a collector beside them, which for each
-/// budget begins a cycle, unless one is running, and spends the budget on it. Script m is mutator m's. Each
-/// worker comes by the gate before each of its commands or budgets and after the last. All threads have ended
-/// when the outcome is there. Where a thread can't be started its commands are done in turn.
+/// Plays scripts at a new heap, each in a thread of its own. Beside them a collector begins a cycle for each budget,
+/// unless one is running, and spends the budget on it. Script m is mutator m's. Each worker passes the gate before each
+/// of its commands or budgets and after the last. All threads have ended when this returns. If a thread can't be
+/// started, its commands are done in turn.
 ///
-/// Room for all commands is made before the threads start, so that no call takes memory while it holds the lock; only
-/// the system may have to find a page of that room when a call first writes to it. Where there is no memory for all
-/// of them, the history grows as it needs.
+/// Room for all commands is made before the threads start, so no call takes memory while it holds the lock. Only the
+/// system may have to find a page of that room when a call first writes to it. If there is no memory for all of them,
+/// the history grows when it needs to.
 ///
-/// A script whose command is refused memory, or finds the place word torn, ends before that command, and a budget
-/// that isn't 256 to 1000000 units ends the collector. NoMemory is answered only where nothing was started.
+/// A script ends before a command that is refused memory or finds the place word torn. A budget outside 256 to 1000000
+/// units ends the collector. It returns NoMemory only if nothing was started.
 pub fn play_threads<G: Gate + Sync, R: Threads + Wait + Sync>(
     rt: &R,
     alloc: Global,

@@ -81,9 +81,9 @@ impl<N: Naming> Server<N> {
         Ok((Server { place, locked }, seats, pacer))
     }
 
-    /// Does a command of the seat's mutator. The receipt has its entry in the history, and the place of
-    /// that entry, from 0. The seat has then seen the history up to it. Where memory is refused, or the place word
-    /// has another number than the length of the history, the command isn't done.
+    /// Does a command of the seat's mutator. The receipt has its entry in the history, and the place of that entry,
+    /// from 0. The seat has then seen the history up to it. If memory is refused, or the place word has another number
+    /// than the length of the history, the command isn't done.
     pub fn call(
         &self,
         seat: &mut Seat<N>,

@@ -1,4 +1,4 @@
--- What is counted of blocks, by the cells of their objects' shapes.
+-- The counts of blocks, by the cells of their objects' shapes.
 use Rattle.std.proofs.Common.{◌≡◌, ℕ, ◌+◌, ◌*◌, ◌≤◌, ◌==◌, Bool, true, false, if◌then◌else◌, length, Some, None, ap, ◌∙◌, sym, subst, refl, arith}
 use Rattle.std.proofs.lemmas.Bool.{ne_eqb}
 use Rattle.std.specs.Prelude.{unwrap_or, Result, Ok, Err, OnOk}

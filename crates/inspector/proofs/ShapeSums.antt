@@ -1,4 +1,4 @@
--- What is held of objects, summed block by block and page by page.
+-- The figures of held objects, summed block by block and page by page.
 use Rattle.std.proofs.Common.{◌≡◌, ℕ, ◌+◌, ◌≤◌, ◌==◌, Bool, true, false, not, ◌&&◌, if◌then◌else◌, length, Option, Some, None, IfSome, ap, ◌∙◌, sym, subst, refl, arith, add-one}
 use Rattle.std.specs.Prelude.{unwrap_or}
 use Rattle.size_classes.specs.Sizes.{blocks_in}
@@ -89,7 +89,7 @@ module _ (these : Shape → Bool) (s : Store) where
         ∙ sym (summed_next (held_on these s) k) ∙ sym (both_none (summed (held_on these s) (k + 1)))
         ∙ ap (both (summed (held_on these s) (k + 1))) (sym (summed_none (held_at these s (k + 1))))
 
-  -- of all pages
+  -- the figures of all pages
   pub before_end : (k : ℕ) → k ≡ length s.pages → held_before these s k 0 ≡ held_of these s
   before_end k last =
       ap (both (summed (held_on these s) k)) (summed_none (held_at these s k)) ∙ both_none (summed (held_on these s) k)

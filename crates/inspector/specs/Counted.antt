@@ -1,4 +1,4 @@
--- What is counted of a heap's blocks so far, by the shapes of their objects.
+-- The counts over a heap's blocks so far, by the shapes of their objects.
 use Rattle.std.specs.Prelude.{◌≡◌, ℕ, ◌+◌, ◌*◌, ◌≤◌, Bool}
 use Rattle.std.specs.BTreeMap.{IsOrdered, get}
 use Rattle.graph_heap.specs.declared.command.Shape.{Shape}
@@ -8,13 +8,13 @@ use Rattle.inspector.specs.declared.shapes.held.Cells.{Cells}
 use Rattle.inspector.specs.declared.shapes.held.Held.{Held}
 use Rattle.inspector.specs.Shapes.{any_shape, both, cells_order, has_cells, held_at, held_on, row_by, summed}
 
--- figures that at most so many blocks have
+-- figures that this many blocks or fewer have
 pub record IsOfBlocks (h : Held) (most : ℕ) : Type 0 where
   pub objects : h.objects ≤ h.parts
   pub parts : h.parts ≤ most
   pub words : h.words ≤ 256 * h.parts
 
--- of the blocks of the first pages, and of the first blocks of the next one
+-- the figures of the blocks of the first k pages, and of the first blocks of page k
 abbrev pub held_before : (Shape → Bool) → Store → ℕ → ℕ → Held
 held_before these s k index = both (summed (held_on these s) k) (summed (held_at these s k) index)
 

@@ -36,11 +36,11 @@ abbrev pub end_of : Step → List Step → Course
 end_of s [] = s.after
 end_of s (t ∷ later) = if ends_cycle s then s.after else end_of t later
 
--- What a sweep did that ended at this moment, in a cycle that began at the first: of the objects that the heap held
--- when the sweep before it had ended (swept), and those made since, it freed all that the heap doesn't hold now. When a
--- sweep ends, each block is that of a main copy; since the one before, blocks were taken for parts of new objects, and
--- for those that the cycle before moved by its end (ended). Moves change none of the other figures, so they are those
--- of the heap after the quantum in which the sweep ended.
+-- The figures of a sweep that ended at this moment, in a cycle that began at the first. It freed all objects that the
+-- heap held when the sweep before it ended (`swept`) or that were made since, and that the heap doesn't hold now. When
+-- a sweep ends, each block is a main copy's. Since the sweep before, blocks were taken for parts of new objects, and
+-- for parts that the cycle before moved by its end (`ended`). Moves change no other figure, so the figures are those of
+-- the heap after the quantum in which the sweep ended.
 pub record IsSweep (swept ended : Option Course) (first now : Course) (s : Sweep) : Type 0 where
   pub kept : s.kept ≡ (copies_in now.heap.store).objects
   pub made : s.made ≡ count_by makes (entered_since (Some first) now)
@@ -60,9 +60,8 @@ SweptBy earlier first later (Some s) =
     × (count_by ends_sweep front ≡ 0) × (ends_sweep last ≡ true)
     × IsSweep (after_last ends_sweep None earlier) (after_last ends_cycle None earlier) first.before last.after s
 
--- The figures of a cycle that the first step begins, where the later ones begin none: its line, its quanta, its units,
--- the most units of a quantum, its sweep, and the blocks that were moved once that had ended: the heap has an old copy
--- of each.
+-- The figures of a cycle that the first step begins, if the later ones begin none: its line, its quanta, its units, the
+-- most units of a quantum, its sweep, and, once that has ended, the moved blocks: the heap has an old copy of each.
 pub record IsCycle (earlier : List Step) (first : Step) (later : List Step) (c : Cycle) : Type 0 where
   pub line : c.line ≡ first.line
   pub quanta : c.quanta ≡ counted (count_by works later)

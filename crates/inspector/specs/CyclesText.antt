@@ -22,7 +22,7 @@ figure Columns None = in_column (codes "-")
 figure Commas (Some n) = decimal n
 figure Commas None = []
 
--- what stands between two figures
+-- the separator of two figures
 abbrev pub separator : Layout → List ℕ
 separator Columns = codes " "
 separator Commas = codes ","

@@ -10,11 +10,11 @@ use Rattle.nodes.specs.Wasted.{wasted_on}
 use Rattle.trace.specs.Lines.{text_of}
 use Rattle.inspector.specs.declared.filling.Filling.{Filling}
 
--- of no page
+-- the figures of no page
 abbrev pub nothing : Filling
 nothing = record { pages = 0; allocated = 0; free = 0; inside = 0; behind = 0; spare = 0 }
 
--- of a page of a class with this many allocated blocks, and this many words wasted inside them
+-- the figures of a page of a class, with this many allocated blocks, and this many words wasted inside them
 abbrev pub page_filling : ℕ → ℕ → ℕ → Filling
 page_filling class allocated inside = record {
   pages = 1;
@@ -25,17 +25,17 @@ page_filling class allocated inside = record {
   spare = (blocks_in class - allocated) * size_of class;
 }
 
--- of a page, if it has the class
+-- the figures of a page, if it has the class
 abbrev pub filling_by : ℕ → Option Page → ℕ → Filling
 filling_by class None inside = nothing
 filling_by class (Some p) inside = if p.class == class then page_filling class (allocated_on (Some p)) inside
     else nothing
 
--- of page k, if it has the class
+-- the figures of page k, if it has the class
 abbrev pub filling_on : Store → ℕ → ℕ → Filling
 filling_on s class k = filling_by class (page_at s.pages k) (wasted_on s k)
 
--- of these pages and those
+-- the sums of two rows of figures
 abbrev pub both : Filling → Filling → Filling
 both a b = record {
   pages = a.pages + b.pages;
@@ -46,16 +46,16 @@ both a b = record {
   spare = a.spare + b.spare;
 }
 
--- the sum of those of the numbers below one
+-- the sum over the numbers below n
 unfoldable pub summed : (ℕ → Filling) → ℕ → Filling
 summed each zero = nothing
 summed each (suc n) = both (summed each n) (each n)
 
--- of all pages of a class
+-- the figures of all pages of a class
 abbrev pub filling_of : Store → ℕ → Filling
 filling_of s class = summed (filling_on s class) (length s.pages)
 
--- of all pages in use
+-- the figures of all pages in use
 abbrev pub filling_in : Store → Filling
 filling_in s = summed (filling_of s) CLASSES
 
@@ -92,8 +92,8 @@ classes_lines s (suc class) = classes_lines s class ++ class_lines class (fillin
 abbrev pub sum_line : Filling → List ℕ
 sum_line f = codes "all" ++ figures f
 
--- the words of all pages in use, and how many of them are lost to blocks that are allocated and pages that are cut into
--- blocks, and how many to blocks that are free
+-- the words of all pages in use; how many of them are wasted inside allocated blocks and behind the last block of a
+-- page; and how many are those of free blocks
 abbrev pub fragmentation_line : Filling → List ℕ
 fragmentation_line f =
     codes "words " ++ decimal (PAGE_WORDS * f.pages) ++ codes " internal fragmentation "

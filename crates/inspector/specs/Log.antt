@@ -1,4 +1,4 @@
--- What a log holds of the steps of a run so far.
+-- The figures that a log has of the steps of a run so far.
 use Rattle.std.specs.Prelude.{◌≡◌, ◌≢◌, ℕ, true, List, [], ◌∷◌, ◌++◌, length, Option, Some, None, count_by}
 use Rattle.heap_model.specs.Event.{Course}
 use Rattle.heap_model.specs.Pages.{free_pages}
@@ -21,18 +21,18 @@ abbrev pub place_at : Option Course → ℕ
 place_at None = 0
 place_at (Some r) = length r.history
 
--- what is known of these moments: when a sweep ended, and a cycle
+-- the figures at these moments: when a sweep ended, and when a cycle ended
 pub record IsBaseAt (swept ended : Option Course) (b : Base) : Type 0 where
   pub objects : b.objects ≡ (copies_at swept).objects
   pub parts : b.parts ≡ (copies_at swept).parts
   pub old : b.old ≡ (copies_at ended).old
   pub place : b.place ≡ place_at swept
 
--- what is known of the last sweep and the last cycle that steps ended
+-- the figures of the last sweep and the last cycle that steps ended
 abbrev pub IsBase : List Step → Base → Type 0
 IsBase steps b = IsBaseAt (after_last ends_sweep None steps) (after_last ends_cycle None steps) b
 
--- what a step was to the cycle that it found
+-- the effect of a step on the cycle that it found
 pub record IsQuantumEffect (s : Step) (t : QuantumEffect) : Type 0 where
   pub works : t.works ≡ works s
   pub sweep : t.ends_sweep ≡ ends_sweep s
@@ -44,7 +44,7 @@ pub record AreCounted (s : Step) (copies : Copies) : Type 0 where
   pub sweep : ends_sweep s ≡ true → copies ≡ copies_in s.after.heap.store
   pub cycle : ends_cycle s ≡ true → copies ≡ copies_in s.after.heap.store
 
--- what is reported of a cycle's end
+-- the figures of a cycle's end
 abbrev pub end_at : Course → End
 end_at r = record { units = r.heap.units; moved = (copies_in r.heap.store).old }
 
@@ -53,7 +53,7 @@ abbrev pub IsEnd : Step → List Step → Option End → Type 0
 IsEnd first later None = count_by ends_cycle later ≡ 0
 IsEnd first later (Some e) = (count_by ends_cycle later ≢ 0) × (e ≡ end_at (end_of first later))
 
--- what was known when the first step began a cycle
+-- the figures when the first step began a cycle
 pub record IsStart (earlier : List Step) (first : Step) (start : Start) : Type 0 where
   pub line : start.line ≡ first.line
   pub base : IsBase earlier start.base
@@ -85,7 +85,7 @@ abbrev pub IsOpenIn : List Step → Course → List Cycle → Option Open → Ty
 IsOpenIn steps now closed None = (closed ≡ []) × (count_by begins steps ≡ 0)
 IsOpenIn steps now closed (Some o) = HasOpen steps now closed o
 
--- What a log holds of steps that lead to a moment: the cycles that are closed, and the one that isn't.
+-- A log of the steps that lead to a moment: the cycles that are closed, and the one that isn't.
 pub record IsLog (steps : List Step) (now : Course) (log : Log) : Type 0 where
   pub base : IsBase steps log.base
   pub cycles : IsOpenIn steps now log.closed.items log.last

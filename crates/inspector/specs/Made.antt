@@ -9,7 +9,7 @@ use Rattle.graph_heap.specs.Shape.{fits}
 use Rattle.size_classes.specs.Parts.{cells_of, parts_in}
 use Rattle.heap_model.specs.Event.{Course}
 
--- a reply that tells of a new object
+-- whether a reply says that an object was made
 abbrev pub tells_new : Reply → Bool
 tells_new (Made_one id) = true
 tells_new reply = false
@@ -18,7 +18,7 @@ tells_new reply = false
 abbrev pub makes : Entry → Bool
 makes e = tells_new e.reply
 
--- the blocks that the object of a command takes, one for each part, where its reply tells of a new one
+-- the blocks that the object of a command takes, one for each part, if its reply says that it was made
 abbrev pub blocks_by : Command → Reply → ℕ
 blocks_by (New dst shape) (Made_one id) = if fits shape then parts_in (cells_of shape) else 0
 blocks_by command reply = 0
@@ -27,7 +27,7 @@ blocks_by command reply = 0
 abbrev pub blocks_made : Entry → ℕ
 blocks_made e = blocks_by e.command e.reply
 
--- what was entered since an earlier moment, or since the start
+-- the entries since an earlier moment, or since the start
 abbrev pub entered_since : Option Course → Course → List Entry
 entered_since None r = r.history
 entered_since (Some earlier) r = drop (length earlier.history) r.history

@@ -1,4 +1,4 @@
--- What is reported of the pages that a program needs: lines of text.
+-- The report of the pages that a program needs: lines of text.
 use Rattle.std.specs.Prelude.{◌≡◌, ℕ, ◌+◌, ◌*◌, ◌≤◌, ◌==◌, nat_le, nat_lt, Bool, true, false, if◌then◌else◌, List, [], ◌++◌, Option, Some, None, codes, decimal}
 use Rattle.size_classes.specs.declared.class.TheConstants.{CLASSES}
 use Rattle.size_classes.specs.declared.config.Config.{Config}
@@ -48,14 +48,14 @@ abbrev pub form_lines : ℕ → ℕ → ℕ → Needed → List ℕ
 form_lines still moved budgeted n =
     still_line still ++ (moved_line moved ++ (gathered_line n.gathered ++ page_demand_line budgeted n))
 
--- the keys to set for this many pages, where moving follows a sweep that leaves fewer free ones than a number, and empties at
--- most so many: the last key is there only if it may follow
+-- the keys to set for this many pages, if moving follows a sweep that leaves fewer than `below` free, and empties at
+-- most `emptied`; the last key is there only if moving may follow
 abbrev pub keys_line : ℕ → ℕ → ℕ → List ℕ
 keys_line pages below emptied = codes "pages = " ++ (decimal pages ++ (codes ", defrag_below = " ++ (decimal below
     ++ (if below == 0 then codes "\n" else codes ", defrag_pages = " ++ (decimal emptied ++ codes "\n")))))
 
--- the keys to set for the fewest pages: those with which nothing is moved, if that suffices, else those with which moving
--- follows each sweep; or that they are more than a file may ask for
+-- the keys to set for the fewest pages: those without moving, if that suffices, else those with moving after each
+-- sweep. Or that these are more than a file may ask for
 abbrev pub fewest_keys : ℕ → ℕ → List ℕ
 fewest_keys still pages = if nat_lt MOST_PAGES pages then codes "more than a file may ask for\n"
     else keys_line pages (if nat_le still pages then 0 else pages + 1) pages
@@ -70,7 +70,7 @@ room_line (Some c) = codes "for this trace " ++ (decimal c.pages ++ (codes ": "
     ++ keys_line c.pages c.defrag_below c.defrag_pages))
 room_line None = codes "for this trace: no number of pages up to 4096 is known to suffice\n"
 
--- for which runs the pages suffice, where they are as many as are needed; else a run may be refused an object or not
+-- the runs for which the pages suffice, if they are as many as are needed; else a run may be refused an object or not
 abbrev pub verdict : Scope → Bool → List ℕ
 verdict By_demand true = codes ": suffice for this run, and for each that needs no more\n"
 verdict By_pace true = codes ": suffice for this run, and for each at this pace\n"
@@ -89,16 +89,16 @@ needed_report c n =
     ++ (fewest_line (still_pages n) (fewest_pages n)
     ++ pages_line By_demand (needed_pages c n) c.pages))
 
--- where no table has room for the blocks
+-- the line that is printed if no table has room for the blocks
 abbrev pub too_many : List ℕ
 too_many = codes "more blocks than can be counted: no number of pages is known to suffice\n"
 
--- the report of what was needed, where it can be stated
+-- the report of a run's needs, if they can be stated
 abbrev pub needed_told : Config → Option Needed → List ℕ
 needed_told c None = too_many
 needed_told c (Some n) = needed_report c n
 
--- the line of a class, if any of its blocks are live, or asked for while a cycle runs up to the next quantum, or
+-- the line of a class, if any of its blocks are live, or requested while a cycle runs up to the next quantum, or
 -- between two cycles
 abbrev pub pace_line : Pace → ℕ → List ℕ
 pace_line p class = if (p.live class + p.busy class) + p.idle class == 0 then []
@@ -107,12 +107,12 @@ pace_line p class = if (p.live class + p.busy class) + p.idle class == 0 then []
     ++ (codes " busy " ++ (decimal (p.busy class)
     ++ (codes " idle " ++ (decimal (p.idle class) ++ codes "\n")))))))
 
--- with how many quanta of a cycle pages are reckoned, each of the schedule's units
+-- the quanta of a cycle from which the pages are calculated, each of the schedule's units
 abbrev pub quanta_line : ℕ → ℕ → List ℕ
 quanta_line quanta units = codes "quanta " ++ (decimal quanta ++ (codes " units " ++ (decimal units ++ codes "\n")))
 
--- from this many pages on a pace fits in each number that a file may ask for, and from no fewer on; or it
--- doesn't fit in the most
+-- the least number of pages from which on a pace fits in each number that a file may ask for; or it doesn't fit in the
+-- most
 abbrev pub IsFrom : Config → Pace → Option ℕ → Type 0
 IsFrom c p None = FitsIn c p MOST_PAGES → ⊥
 IsFrom c p (Some from) =
@@ -135,7 +135,7 @@ pace_report c p least from =
     class_lines (pace_line p) CLASSES ++ quanta_line (quanta_needed c p c.pages) (c.collector_ticks * c.rate)
     ++ pages_line By_pace (pages_needed c p c.pages) c.pages ++ least_lines least from
 
--- what is reported of a measured pace, or that its blocks were too many to count
+-- the report of a measured pace, or that its blocks were too many to count
 abbrev pub IsPaceReport : Config → Option PaceTable → List ℕ → Type 0
 IsPaceReport c None text = text ≡ too_many
 IsPaceReport c (Some p) text =

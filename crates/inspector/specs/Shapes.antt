@@ -1,4 +1,4 @@
--- What a heap holds of the objects of each shape: lines of text.
+-- The objects of each shape that a heap holds: lines of text.
 use Rattle.std.specs.Prelude.{◌≡◌, ℕ, zero, suc, ◌+◌, Bool, true, not, ◌&&◌, ◌==◌, if◌then◌else◌, List, ◌++◌, length, Option, Some, None, codes, decimal}
 use Rattle.std.specs.List.{flat_map}
 use Rattle.std.specs.List.Sorted.{IsStrictlySortedBy}
@@ -28,28 +28,28 @@ cells_order c d = ordering_then (nat_cmp c.refs d.refs) (nat_cmp c.words d.words
 abbrev pub has_cells : Cells → Shape → Bool
 has_cells c shape = (ref_cells shape == c.refs) && (word_cells shape == c.words)
 
--- any shape
+-- every shape
 abbrev pub any_shape : Shape → Bool
 any_shape shape = true
 
--- of no part
+-- the figures of no part
 abbrev pub nothing : Held
 nothing = record { objects = 0; parts = 0; words = 0 }
 
--- of these parts and those
+-- the sums of two rows of figures
 abbrev pub both : Held → Held → Held
 both a b = record { objects = a.objects + b.objects; parts = a.parts + b.parts; words = a.words + b.words }
 
--- of a part in a block of this many words: an object counts with its part 0
+-- the figures of a part in a block of this many words: an object counts with its part 0
 abbrev pub held_by : ℕ → BlockView → Held
 held_by size v = record { objects = if v.part == 0 then 1 else 0; parts = 1; words = size }
 
--- of a block, if it is allocated, holds a main copy, and its object's shape is one of these
+-- the figures of a block, if it is allocated and holds a main copy, and its object's shape is one of these
 abbrev pub held_in : (Shape → Bool) → ℕ → Option BlockView → Held
 held_in these size None = nothing
 held_in these size (Some v) = if not v.is_old && these v.shape then held_by size v else nothing
 
--- of the block at a place of page k
+-- the figures of the block at a place of page k
 abbrev pub held_at : (Shape → Bool) → Store → ℕ → ℕ → Held
 held_at these s k index = held_in these (size_in (page_at s.pages k)) (block_view s k index)
 
@@ -58,24 +58,24 @@ abbrev pub places_on : Option Page → ℕ
 places_on None = 0
 places_on (Some p) = blocks_in p.class
 
--- the sum of those of the numbers below one
+-- the sum over the numbers below n
 unfoldable pub summed : (ℕ → Held) → ℕ → Held
 summed each zero = nothing
 summed each (suc n) = both (summed each n) (each n)
 
--- of all blocks of page k
+-- the figures of all blocks of page k
 abbrev pub held_on : (Shape → Bool) → Store → ℕ → Held
 held_on these s k = summed (held_at these s k) (places_on (page_at s.pages k))
 
--- of all objects of these shapes that a heap holds
+-- the figures of all objects of these shapes that a heap holds
 abbrev pub held_of : (Shape → Bool) → Store → Held
 held_of these s = summed (held_on these s) (length s.pages)
 
--- a shape has a row where a part of such an object is held
+-- a shape has a row if a part of one of its objects is held
 abbrev pub row_by : Held → Option Held
 row_by held = if held.parts == 0 then None else Some held
 
--- The rows of a heap: what it holds of each shape, by the shape's cells, in rising order.
+-- The rows of a heap: the figures of each shape, by the shape's cells, in rising order.
 pub record AreRows (s : Store) (rows : List (Cells × Held)) : Type 0 where
   pub order : IsStrictlySortedBy cells_order (keys_of rows)
   pub each : (c : Cells) → lookup (λ d. is_eq (cells_order c d)) rows ≡ row_by (held_of (has_cells c) s)

@@ -1,4 +1,4 @@
--- What a step of a run was to the cycle that it found.
+-- The effect of a step of a run on the cycle that it found.
 use Rattle.std.specs.Prelude.{Bool, true, false, ◌&&◌, not}
 use Rattle.heap_model.specs.Event.{Event, Cycle_begun, Quantum_done}
 use Rattle.heap_model.specs.Phases.{awaits_sweep_end}

@@ -1,4 +1,4 @@
--- What it is to take the cycles of a run.
+-- The outcome of taking the cycles of a run.
 use Rattle.std.specs.Prelude.{Result}
 use Rattle.size_classes.specs.declared.config.Config.{Config}
 use Rattle.trace.specs.declared.fault.PlayFault.{PlayFault}

@@ -11,8 +11,8 @@ use machine::Heap;
 use size_classes::{CLASSES, Class, PAGE_WORDS};
 use trace::{Sink, WriteFailed, end_line, put, put_named};
 
-/// Puts the figures of pages at a place, after which there must be room for them, and answers the place after them.
-/// What stands before the place stays.
+/// Puts the figures of pages at a place, after which there must be room for them, and returns the place after them.
+/// Bytes before the place stay.
 fn put_figures(out: &mut [u8], at: usize, filling: Filling) -> usize
     requires { at + 135 ≤ length out.old }
     ensures text { take result out.new ≡ take at out.old ++ figures filling }
@@ -35,7 +35,7 @@ fn put_class(out: &mut [u8; 256], class: Class, filling: Filling) -> usize
     put_figures(out, end, filling)
 }
 
-/// Writes the line of a class; nothing where it has no page.
+/// Writes the line of a class; nothing if it has no page.
 fn write_class<K: Sink>(class: Class, filling: Filling, sink: &mut K) -> Result<(), WriteFailed>
     ensures ok { OnOk result (K.taken sink.new ≡ K.taken sink.old ++ text_of (class_lines class filling)) }
     ensures err { OnErr result (GrowsByPart (K.taken sink.old) (K.taken sink.new)
@@ -97,12 +97,12 @@ fn write_fragmentation<K: Sink>(all: Filling, sink: &mut K) -> Result<(), WriteF
     end_line(sink, &mut out, end)
 }
 
-/// Writes how full the size classes are to a sink, in lines that end with LF: of each class that has a page its size in
-/// words, its pages, its held and its free blocks, and how many words are wasted inside allocated blocks, behind the
-/// last cell of a part, and behind the last block of a page; then the sums of these; last the words of all pages in
-/// use, and how many of them internal fragmentation takes, which is what is wasted so, and external fragmentation,
-/// which are the words of free blocks. It takes no memory. After a fault, which comes only where the sink failed, the
-/// sink has taken a beginning of the report.
+/// Writes to a sink how full the size classes are, in lines that end with LF. Each class that has a page gets a line:
+/// its size in words, its pages, its held and its free blocks, and the words that are wasted inside allocated blocks,
+/// behind the last cell of a part, and behind the last block of a page. Then come the sums of these. The last line has
+/// the words of all pages in use, with those of internal fragmentation (the wasted ones) and of external fragmentation
+/// (words of free blocks). It takes no memory. It fails only if the sink does; then the sink has taken a beginning of
+/// the report.
 pub fn report_sizes<K: Sink>(heap: &Heap, sink: &mut K) -> Result<(), WriteFault>
     ensures ok { OnOk result (K.taken sink.new ≡ K.taken sink.old ++ sizes_told heap.now) }
     ensures err { OnErr result (GrowsByPart (K.taken sink.old) (K.taken sink.new) (sizes_told heap.now)) }

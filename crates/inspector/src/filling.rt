@@ -22,7 +22,7 @@ pub(crate) struct Filling {
     pub spare: u64,
 }
 
-/// That of no page.
+/// Returns the figures of no page.
 pub(crate) fn nothing() -> Filling
     ensures { result ≡ nothing }
 {

@@ -1,4 +1,4 @@
-//! The reports: what a heap and its collector are like, in lines of text.
+//! The reports of a heap and its collector, in lines of text.
 #![tactic(auto)]
 
 mod by_size;

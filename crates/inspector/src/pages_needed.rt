@@ -1,4 +1,4 @@
-//! What a user is told of the pages that a program needs.
+//! The report of the pages that a program needs.
 mod from;
 mod lines;
 mod needed_text;

@@ -22,11 +22,10 @@ fn write_page_lines<K: Sink>(heap: &Heap, sink: &mut K) -> Result<(), WriteFaile
     Ok(())
 }
 
-/// Writes what the heap and its collector are like to a sink, in lines that end with LF: the phase, the
-/// units of work since the last cycle began, the pages and how many are free, each page in use with the
-/// size of its blocks in words and how many are allocated, the root cells and how many aren't null, and how
-/// many objects, parts and old copies there are. It takes no memory. After a fault, which comes only
-/// where the sink failed, the sink has taken a beginning of the report.
+/// Writes a report of the heap and its collector to a sink, in lines that end with LF: the phase; the units of work
+/// since the last cycle began; the pages and how many are free; each page in use with the size of its blocks in words
+/// and how many are allocated; the root cells and how many aren't null; and how many objects, parts and old copies
+/// there are. It takes no memory. It fails only if the sink does; then the sink has taken a beginning of the report.
 pub fn report<K: Sink>(heap: &Heap, sink: &mut K) -> Result<(), WriteFault>
     ensures ok { OnOk result (K.taken sink.new ≡ K.taken sink.old ++ report_of heap.now) }
     ensures err { OnErr result (GrowsByPart (K.taken sink.old) (K.taken sink.new) (report_of heap.now)) }

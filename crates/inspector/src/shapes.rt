@@ -1,4 +1,4 @@
-//! The report by shape: what a heap holds of the objects of each shape.
+//! The report by shape: the objects of each shape that a heap holds.
 mod counting;
 mod held;
 mod text;

@@ -1,4 +1,4 @@
--- What the invariant says of the part in scan.
+-- The invariant of the part in scan.
 use Rattle.std.proofs.Common.{◌≡◌, ◌≢◌, ℕ, ◌+◌, ◌-◌, ◌<◌, ◌≤◌, ◌^◌, Bool, true, false, ◌==◌, if◌then◌else◌, length, get_or, ap, ◌∙◌, sym, subst, refl, arith}
 use Rattle.heap_model.specs.declared.phase.Phase.TheVariants as phases
 use Rattle.heap_model.specs.Store.{is_allocated, record_of}

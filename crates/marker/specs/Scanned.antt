@@ -11,7 +11,7 @@ use Rattle.nodes.specs.HeapFields.{state_of}
 use Rattle.marker.specs.declared.scan.Scanned.{Scanned}
 use Rattle.marker.specs.declared.scan.Scanned.TheVariants as answers
 
--- where no cell is left, a grey part is next, if there is one
+-- if no cell is left, the answer is the header of a grey part, or nothing if no part is grey
 abbrev pub header_of : List ℕ → Scanned
 header_of [] = answers.Nothing
 header_of (x ∷ grey) = answers.Header
@@ -25,11 +25,11 @@ scanned_at h (phases.Sweeping page block) = answers.Nothing
 scanned_at h (phases.Moving place) = answers.Nothing
 scanned_at h phases.Idle = answers.Nothing
 
--- the answer where the collector is
+-- the answer at the place of the collector
 abbrev pub scanned_next : HeapState → Scanned
 scanned_next h = scanned_at h h.phase
 
--- One action was done where the answer names one, and else nothing. Before the header of a grey part is scanned, the part
+-- One action was done if the answer names one, and else nothing. Before the header of a grey part is scanned, the part
 -- is taken out of the list.
 abbrev pub ScansOne : HeapFields → Scanned → HeapFields → Type 0
 ScansOne old answers.Root new = Action (state_of old) SCAN (state_of new)

@@ -16,7 +16,7 @@ use heap_model::phase::Phase;
 use nodes::{HeapFields, Nodes};
 use satb_barrier::{pop_grey, shade};
 
-/// What a marking action scanned.
+/// The thing that a marking action scanned.
 #[derive(Clone, Copy, Debug, PartialEq, Eq)]
 pub enum Scanned {
     /// A root cell.
@@ -44,9 +44,10 @@ struct Step {
     units: u32,
 }
 
-/// Does one marking action. In roots the next root cell is scanned. In marking the next reference cell of the part in
-/// scan is; where none is left, a grey part is taken and its header scanned. What a cell names is corrected to the main
-/// copy, and that is shaded. Where nothing is left to be scanned, nothing is done. The buffers are empty.
+/// Does one marking action. In roots it scans the next root cell. In marking it scans the next reference cell of the
+/// part in scan; if none is left, it takes a grey part and scans its header. A scanned cell is corrected to the main
+/// copy of its referent, and that copy is shaded. If nothing is left to scan, nothing is done. The buffers must be
+/// empty.
 #[inline(always)]
 pub fn scan_one(heap: &mut HeapFields) -> Scanned
     requires heap { AreHeapFields heap.old }
@@ -125,8 +126,7 @@ fn scan_root(heap: &mut HeapFields, next: usize)
     heap.charge(SCAN, Phase::Roots { next: next + 1 });
 }
 
-/// Scans root cells in order, from one on, as many as are left or as there is room for; where none is left, marking
-/// begins.
+/// Scans root cells in order, from one on, as far as there is room. If none is left, marking begins.
 #[inline(never)]
 pub fn scan_roots(heap: &mut HeapFields, next: usize, room: u32)
     requires heap { AreHeapFields heap.old }
@@ -148,8 +148,8 @@ pub fn scan_roots(heap: &mut HeapFields, next: usize, room: u32)
     }
 }
 
-/// Goes on with marking, as far as there is room for: scans the reference cells of the part in scan, then takes a
-/// grey part and scans its header, and so on; where no part is grey, sweeping begins. The buffers are empty.
+/// Goes on with marking as far as there is room: scans the reference cells of the part in scan, then takes a grey part
+/// and scans its header, and so on. If no part is grey, sweeping begins. The buffers must be empty.
 pub fn scan_parts(heap: &mut HeapFields, part: u64, cell: u32, room: u32)
     requires heap { AreHeapFields heap.old }
     requires buffers { in_buffers heap.old.grey.buffers ≡ [] }
@@ -173,7 +173,7 @@ pub fn scan_parts(heap: &mut HeapFields, part: u64, cell: u32, room: u32)
     heap.charge(units, Phase::Marking { part, cell });
 }
 
-/// A part in scan, at a cell.
+/// Returns a scan of a part, at a cell.
 #[inline(always)]
 fn scan_at(heap: &HeapFields, part: u64, cell: usize) -> Scan
     requires { part ≢ 0 → is_allocated heap.now.nodes (part - 1) ≡ true }
@@ -190,8 +190,8 @@ fn scan_at(heap: &HeapFields, part: u64, cell: usize) -> Scan
     Scan { part, cell, width }
 }
 
-/// Scans reference cells of the part in scan, as many as are left or as there is room for. Where none is left, it takes
-/// a grey part and scans its header; None where no part is grey, and then nothing changes. The buffers are empty.
+/// Scans the reference cells that are left of the part in scan, as far as there is room. If none is left, it takes a
+/// grey part and scans its header. If no part is grey, it returns None and nothing changes. The buffers must be empty.
 #[inline(always)]
 fn scan_next(heap: &mut HeapFields, scan: Scan, room: u32) -> Option<Step>
     requires heap { IsScanning heap.old scan.part scan.cell }

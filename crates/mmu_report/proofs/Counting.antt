@@ -57,7 +57,7 @@ one_more : (b : Bool) (m n n' w v : ℕ) → m + n ≡ w + v → n' ≡ n + cond
 one_more true m n n' w v e f = omega (arith, e, f)
 one_more false m n n' w v e f = omega (arith, e, f)
 
--- of the ticks of a window, each lies in an interval or in none
+-- each tick of a window lies in an interval or in none
 pub mutator_ticks-covered : (is : List Interval) (t w : ℕ) → IsRising is → mutator_ticks is t w + covered is (t + w) ≡ w + covered is t
 unfolding mutator_ticks
 mutator_ticks-covered is t zero h = ap (λ x. 0 + covered is x) (add-zero t)
@@ -69,7 +69,7 @@ mutator_ticks-covered is t (suc w) h =
 pub mutator_ticks-within : (is : List Interval) (t w : ℕ) → IsRising is → mutator_ticks is t w ≤ w
 mutator_ticks-within is t w h = omega (arith, mutator_ticks-covered is t w h, covered-mono is t (t + w) (omega arith))
 
--- of the window that starts at 0
+-- the mutators' ticks of the window that starts at 0
 pub mutator_ticks-first : (is : List Interval) (w ended : ℕ) → IsRising is → ended ≡ covered is w → w - ended ≡ mutator_ticks is 0 w
 mutator_ticks-first is w ended h e =
     let at : 0 + w ≡ w = omega arith in

@@ -7,9 +7,9 @@ use Rattle.mmu_report.specs.Covered.{covered}
 use Rattle.mmu_report.specs.Utilisation.{IsLeast, mutator_ticks}
 use Rattle.mmu_report.proofs.Counting.{covered-mono, covered-none, mutator_ticks-covered}
 
--- Of all intervals some are passed, up to the end of the last of them, and have this many ticks; the rest
--- is ahead. Of the windows that start before that end, and not behind the last one, none has fewer
--- mutator's ticks than the least of those that were tried.
+-- Some intervals are passed, up to the end of the last of them, and have this many ticks; the rest is ahead. Take the
+-- windows that start before that end, and not behind the last one: none has fewer mutators' ticks than the least of
+-- those that were tried.
 pub record IsSettled (all : List Interval) (last window reached passed least : ℕ) (rest : List Interval) : Type 0 where
   pub rising : IsRisingFrom reached rest
   pub counts : (x : ℕ) → reached ≤ x → passed + covered rest x ≡ covered all x

@@ -18,7 +18,7 @@ pub record IsLeast (intervals : List Interval) (span window least : ℕ) : Type 
   pub attained : (start : ℕ) × (start + window ≤ span) × (least ≡ mutator_ticks intervals start window)
   pub below : (start : ℕ) → start + window ≤ span → least ≤ mutator_ticks intervals start window
 
--- what the mutators have at least of a window, where quanta of c ticks have q ticks between them: q of
--- each whole period, and of the rest what a quantum leaves
+-- the least that the mutators have of a window, if quanta of c ticks have q ticks between them: q of each whole period,
+-- and of the rest those that a quantum leaves
 abbrev pub bound_of : ℕ → ℕ → ℕ → ℕ
 bound_of c q window = q * (window / (q + c)) + (window - (q + c) * (window / (q + c)) - c)

@@ -1,5 +1,5 @@
-//! Minimum mutator utilisation, which is Cheng and Blelloch's: of all windows of a number of ticks, how few
-//! ticks the mutators had in one; and what a schedule with spaced quanta promises of it.
+//! Minimum mutator utilisation (Cheng and Blelloch, 2001): the fewest ticks that the mutators had in any window of a
+//! number of ticks; and the bound that a schedule with spaced quanta promises.
 #![tactic(auto)]
 
 mod front;

@@ -1,11 +1,10 @@
-//! What a schedule promises of the mutators' ticks, and their share of a window.
+//! The least ticks that a schedule promises the mutators, and their share of a window.
 ghost use Rattle.std.specs.Prelude.{◌≡◌, ◌+◌, ◌*◌, ◌/◌, ◌<◌, ◌≤◌};
 ghost use Rattle.mmu_report.specs.Utilisation.{bound_of};
 
-/// How many of the ticks of a window the mutators have at least, where each quantum of the collector
-/// takes `collector_ticks` and the mutators have `mutator_ticks` before the next. All numbers are ticks.
-/// A window has a number of whole periods, and the mutators their ticks of each; of the rest a quantum may
-/// take the first ticks.
+/// Returns the least number of ticks of a window that the mutators have, if each quantum of the collector takes
+/// `collector_ticks` and the mutators have `mutator_ticks` before the next. A window has a number of whole periods, and
+/// the mutators have their ticks of each. A quantum may take the first ticks of the rest.
 pub fn bound(collector_ticks: u32, mutator_ticks: u32, window: u64) -> u64
     requires { 0 < collector_ticks + mutator_ticks }
     ensures bound { result ≡ bound_of collector_ticks mutator_ticks window }

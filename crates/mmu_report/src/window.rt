@@ -6,13 +6,13 @@ ghost use Rattle.mmu_report.specs.Utilisation.{IsLeast};
 use crate::front::Front;
 use quanta::Interval;
 
-/// The least, over all windows of `window` ticks within the first `span`, of the ticks of the window
-/// that lie in no interval; None where there is no such window, or it has no tick.
+/// Returns the least, over all windows of `window` ticks within the first `span`, of the ticks of the window that lie
+/// in no interval. None if there is no such window, or it has no tick.
 ///
-/// This is minimum mutator utilisation, which is Cheng and Blelloch's. Only windows that start at 0,
-/// start with an interval, or end at the span are tried: any other has no fewer such ticks than one of
-/// these. The windows' starts go up over the intervals, and so do their ends, each once: the time is
-/// linear in the number of intervals, whatever the window and the span. It takes no memory.
+/// This is minimum mutator utilisation (Cheng and Blelloch, 2001). It tries only windows that start at 0, start with an
+/// interval, or end at the span: any other has no fewer such ticks than one of these. The windows' starts go up over
+/// the intervals, and so do their ends, each once. So the time is linear in the number of intervals, whatever the
+/// window and the span. It takes no memory.
 pub fn least_mutator(intervals: &[Interval], span: u64, window: u64) -> Option<u64>
     requires { IsRising intervals.now }
     ensures none { IsNone result ↔ ((window ≡ 0) ⊎ (span < window)) }

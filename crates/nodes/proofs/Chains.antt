@@ -59,7 +59,7 @@ heap_after_chain a b w units chain count linked = record {
 pub runs_once : (a b : HeapFields) (room cost : ℕ) → AreHeapFields a → Action (state_of a) cost (state_of b) → cost ≤ room → Acts a room b
 runs_once a b room cost w action within = (cost, one_action (state_of a) (state_of b) cost action, (action_cost (state_of a) (state_of b) cost w.heap.represents.pages action).0, within)
 
--- steps of one unit each, that change nothing but the phase
+-- steps of one unit each, which change only the phase
 pub steps_on : (h : HeapState) (at : ℕ → Phase) (n : ℕ) → h.phase ≡ at 0 → ((k u : ℕ) → k < n → Action (record h { phase = at k; units = u }) 1 (record h { phase = at (k + 1); units = u + 1 }))
     → Chain h n (goes_to h n (at n))
 steps_on h at zero e step =

@@ -136,7 +136,7 @@ pub last_of : (xs : List ℕ) (x : ℕ) → slice_get xs (length xs - 1) ≡ Som
 last_of [] x e = absurd (let t : None ≡ Some x = e in cc)
 last_of (y ∷ ys) x e = last_at (y ∷ ys) (length ys) x refl (subst (λ n. slice_get (y ∷ ys) n ≡ Some x) (let m : suc (length ys) - 1 ≡ length ys = omega arith in m) e)
 
--- of a mutator the last record, whose link is written
+-- the last record of a mutator, whose link is written
 module _ (s : Store) (g : GreySet) (m : ℕ) (within : m < length g.buffers) (rest : List ℕ) (x link : ℕ) (is : buffer_of g m ≡ rest ++ x ∷ []) (none : contains (grey_in s g) 0 ≡ false) (once : Once (grey_in s g)) where
   abbrev new : Store
   new = record s { words = set s.words (x - 1 + 3) link }

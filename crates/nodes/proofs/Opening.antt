@@ -21,7 +21,7 @@ no_object_fits : (id : ℕ) → fits (object_of [] id).shape ≡ true
 unfolding object_of
 no_object_fits id = grind arith
 
--- What a cycle may spend is small, with at most 1048576 pages, to be emptied too, and 16640 roots.
+-- The limit of a cycle is small, with at most 1048576 pages, of which all may be emptied, and 16640 roots.
 small_limit : (h : HeapState) → length h.store.pages ≤ 1048576 → length h.roots ≤ 16640 → h.defrag_pages ≤ 1048576 → cycle_limit h < 2 ^ 41
 small_limit h p r d = let z : (h.defrag_pages + CLASSES) * length h.store.pages ≤ (1048576 + CLASSES) * length h.store.pages = mul-le-mul_right (length h.store.pages) (omega (arith, d)) in omega (arith, z)
 

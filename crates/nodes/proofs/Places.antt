@@ -18,7 +18,7 @@ flag_within flags i e = let p = get_or_past flags i false in grind arith
 pub count_in : (size blocks index : ℕ) → blocks ≡ 2048 / size → 4 ≤ size → index < blocks → (index + 1) * size ≤ 2048
 count_in size blocks index e low h = grind arith
 
--- of the page in which an allocated block lies
+-- the page in which an allocated block lies
 pub record AllocatedIn (o : Option Page) (offset : ℕ) : Type 0 where
   pub page : Page
   pub is : o ≡ Some page

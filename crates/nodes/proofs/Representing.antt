@@ -1,4 +1,4 @@
--- What holds of the fields between two actions.
+-- The invariant of the fields between two actions.
 use Rattle.std.proofs.Common.{◌≡◌, ◌≢◌, ℕ, ◌+◌, ◌-◌, ◌<◌, ◌^◌, ◌==◌, if◌then◌else◌, Bool, true, false, [], length, get_or, refl, ap, ◌∙◌, sym, subst, arith}
 use Rattle.heap_model.specs.Action.{Relinks}
 use Rattle.heap_model.specs.Store.{Store, is_allocated, record_of}

@@ -1,4 +1,4 @@
--- What can be seen of one block.
+-- The view of one block.
 use Rattle.std.proofs.Common.{◌≡◌, ℕ, Bool, true, false, not, ◌==◌, if◌then◌else◌, Option, Some, None, get_or, ap, ◌∙◌, sym, refl}
 use Rattle.std.specs.Prelude.{IsSomeAnd, slice_get}
 use Rattle.std.proofs.lemmas.Option.{slice_get-get_or}

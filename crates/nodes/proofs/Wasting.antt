@@ -71,7 +71,7 @@ module _ (s : Store) (k : ℕ) where
   more_wasted i was now w (Some p) before sum here =
       sum ∙ ap (λ n. n + w) before ∙ ap (λ n. total (wasted_in s k p) i + n) here ∙ sym (total_next (wasted_in s k p) i)
 
-  -- of all blocks of its class
+  -- the wasted words of all blocks of its class
   pub all_wasted : (i w : ℕ) (o : Option Page) (v : PageView) → Some v ≡ view_of o → i ≡ blocks_in v.class → IfSome o (λ p. w ≡ total (wasted_in s k p) i) → w ≡ wasted_of s k o
   all_wasted i w None v told e sum = absurd (cc)
   all_wasted i w (Some p) v told e sum = sum ∙ ap (total (wasted_in s k p)) (e ∙ ap blocks_in (sym (told_class (Some p) v told)))

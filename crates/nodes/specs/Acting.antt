@@ -1,4 +1,4 @@
--- What the next steps of the collector do.
+-- The next steps of the collector.
 use Rattle.std.specs.Prelude.{◌≡◌, ◌⊎◌, ℕ, ◌<◌, ◌≤◌, Bool, true, false}
 use Rattle.heap_model.specs.declared.phase.Phase.TheVariants as phases
 use Rattle.heap_model.specs.Action.{Action, Chain, Relinks}
@@ -16,7 +16,7 @@ ActsOnce old cost new =
 abbrev pub Acts : HeapFields → ℕ → HeapFields → Type 0
 Acts old room new = (cost : ℕ) × Chain (state_of old) cost (state_of new) × (0 < cost) × (cost ≤ room)
 
--- Actions are done that fit in the room; or nothing changes, where no cycle runs or the next action costs more than
+-- Actions are done that fit in the room. Or nothing changes, because no cycle runs or the next action costs more than
 -- the room.
 abbrev pub ActsIn : HeapFields → ℕ → HeapFields → Bool → Type 0
 ActsIn old room new true = Acts old room new

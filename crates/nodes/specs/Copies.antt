@@ -9,11 +9,11 @@ use Rattle.nodes.specs.declared.nodes.counting.Copies.{Copies}
 abbrev pub HasBlock : Store → ℕ → Type 0
 HasBlock s id = (b : ℕ) × (is_allocated s b ≡ true) × ((record_of s b).identity ≡ id)
 
--- no block of a page is such
+-- no block of a page has a part of the object
 abbrev pub HasNoBlockOn : Store → ℕ → ℕ → Type 0
 HasNoBlockOn s id page = (b : ℕ) → b / PAGE_WORDS ≡ page → is_allocated s b ≡ true → (record_of s b).identity ≢ id
 
--- the block at a place of a page isn't such
+-- the block at a place of a page has no part of the object, if it is allocated
 abbrev pub HasNoBlockAt : Store → ℕ → ℕ → ℕ → Type 0
 HasNoBlockAt s id page index =
     IsSomeAnd (page_at s.pages page) (λ p. slice_get p.allocated index ≡ Some true)

@@ -1,4 +1,4 @@
--- What a move needs.
+-- The conditions of a move.
 use Rattle.std.specs.Prelude.{◌≡◌, ℕ, true, List, slice_get, Option, Some}
 use Rattle.heap_model.specs.Pages.{Page, page_at}
 use Rattle.pages.specs.Places.{CanBeTarget}

@@ -1,4 +1,4 @@
--- Where a block stands.
+-- The place of a block.
 use Rattle.std.specs.Prelude.{◌≡◌, ℕ, ◌+◌, ◌*◌, ◌/◌, ◌<◌, ◌≤◌, length}
 use Rattle.size_classes.specs.declared.class.TheConstants.{PAGE_WORDS}
 use Rattle.heap_model.specs.Store.{Store, size_at}

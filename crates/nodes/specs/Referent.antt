@@ -1,4 +1,4 @@
--- What a reference names.
+-- The referent of a reference.
 use Rattle.std.specs.Prelude.{◌≡◌, ◌≢◌, ℕ, ◌+◌, ◌-◌, ◌==◌, if◌then◌else◌, true}
 use Rattle.heap_model.specs.Store.{Store, is_allocated, record_of}
 use Rattle.nodes.specs.declared.nodes.Referent.{Referent}

@@ -1,4 +1,4 @@
--- What the sweeper does with a run of blocks.
+-- The sweep of a run of blocks.
 use Rattle.std.specs.Prelude.{◌≡◌, ℕ, ◌+◌, Bool, length, slice_set}
 use Rattle.heap_model.specs.declared.phase.Phase.TheVariants as phases
 use Rattle.heap_model.specs.Action.{Chain, KeepsBlocks, closed, goes_to}
@@ -7,8 +7,8 @@ use Rattle.heap_model.specs.State.{HeapState}
 use Rattle.heap_model.specs.Store.{Store}
 use Rattle.nodes.specs.Pages.{blocks_on}
 
--- Whatever heap has the one store, with the sweeper at a block of a page and this colour meaning marked: this many
--- actions of the collector lead to the heap with the other store, at the block as many further on.
+-- Take any heap with the one store, in which the sweeper is at a block of a page and this colour means marked. Then
+-- `count` actions of the collector lead to the heap with the other store, with the sweeper `count` blocks further on.
 abbrev pub Sweeps : Store → Store → Bool → ℕ → ℕ → ℕ → Type 0
 Sweeps old new colour page block count =
     (h : HeapState) → h.store ≡ old → h.mark_parity ≡ colour → h.phase ≡ phases.Sweeping page block

@@ -28,8 +28,8 @@ pub mod counting;
 mod holding;
 pub mod seeing;
 
-/// What a reference names: an object, by its identity and the reference of its main copy, which is
-/// the copy's address plus one. For null both are 0.
+/// The object that a reference names, by its identity and the reference of its main copy, which is the copy's address
+/// plus one. For null both are 0.
 #[derive(Clone, Copy, Debug, PartialEq, Eq)]
 pub struct Referent {
     pub identity: u64,
@@ -46,11 +46,10 @@ fn address(page: usize, index: usize, size: usize) -> usize
     2048 * page + index * size
 }
 
-/// The blocks of a heap. Contracts see the pages and the words; a method that writes says what the
-/// record of its one block becomes, and that every other allocated block keeps its own. The table and the
-/// arena go together throughout: there is memory for each page, each page in use has its words, the list of each page
-/// runs through just its free blocks, and in an allocated block word 0 is an address and word 1 a header with no other
-/// bit set.
+/// The blocks of a heap. Contracts see the pages and the words. A method that writes says how the record of its one
+/// block changes, and that every other allocated block keeps its own. Table and arena always go together: there is
+/// memory for each page; each page in use has its words; the list of each page runs through exactly its free blocks;
+/// and in an allocated block word 0 is an address, and word 1 a header with no other bit set.
 #[derive(Drop)]
 pub struct Nodes {
     table: PageTable,
@@ -265,9 +264,9 @@ impl Nodes {
         self.table.leave(page);
     }
 
-    /// Moves an allocated block to a free one of a page of the same class that isn't evacuating, and answers which:
-    /// it is copied, both forward to the copy, and the page is a target. Every other block is allocated or not,
-    /// and says, as before.
+    /// Moves an allocated block to a free one of a page of the same class that isn't evacuating, and returns which. The
+    /// block is copied, both forward to the copy, and the page is a target. Every other block keeps its record, and
+    /// stays allocated or free.
     pub fn move_block(&mut self, page: usize, index: usize, to: usize) -> usize
         requires { CanMove self.old.pages page index to }
         ensures free { IsSomeAnd (page_at self.old.pages to) (λ q. IsOpen q result) }
@@ -307,7 +306,7 @@ impl Nodes {
 
     /// Makes a part in a block of a class: the header, and this many null or zero cells. The block is
     /// a free one of the first page of the class that isn't evacuating and has one, else of the first
-    /// free page. None where there is no such page, and then nothing changes.
+    /// free page. None if there is no such page, and then nothing changes.
     #[inline(always)]
     pub fn make(
         &mut self,

@@ -1,4 +1,4 @@
--- What the records say of a page is what the page says.
+-- The records of a page say the same as the page.
 use Rattle.std.proofs.Common.{◌≡◌, ℕ, ◌*◌, ◌<◌, ◌≤◌, Bool, true, false, cond, eqb, List, length, set, Option, Some, None, ap, ◌∙◌, sym, refl, subst, arith, inl, inr}
 use Rattle.std.specs.Prelude.{count_by, IfSome, IsSomeAnd, IsTrue, is_some, slice_get}
 use Rattle.std.proofs.lemmas.Bool.{cases_eq, ne_eqb}

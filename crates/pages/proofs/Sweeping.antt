@@ -29,7 +29,7 @@ page_below rows page row there = elim (cases_lt page (length rows)) [ inl l ↦ 
 pub row_same : (rows : List (Option PageRow)) (page : ℕ) (row : PageRow) → row_at rows page ≡ Some row → set rows page (Some row) ≡ rows
 row_same rows page row there = ap (set rows page) (sym there) ∙ set-get_or rows page None
 
--- the record of a page whose block was given back, but for the block that is first
+-- the record of a page whose block was given back, except for the block that is first
 pub row_loose : (page index : ℕ) (old row : PageRow) → row ≡ row_given page index old → row ≡ record old { first = row.first; allocated = old.allocated - 1 }
 row_loose page index old row is = is ∙ sym (ap (λ (r : PageRow). record old { first = r.first; allocated = old.allocated - 1 }) is)
 

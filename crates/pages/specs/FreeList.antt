@@ -4,7 +4,7 @@ use Rattle.std.specs.List.{range_with_len}
 use Rattle.size_classes.specs.declared.class.TheConstants.{PAGE_WORDS}
 use Rattle.size_classes.specs.Sizes.{size_of, blocks_in}
 
--- what word 0 of a free block of a page in use holds, which is no address
+-- word 0 of a free block of a page in use; it is no address
 unfoldable pub free_mark : ℕ
 free_mark = 18446744073709551615
 
@@ -13,9 +13,9 @@ unfoldable pub flags_at : List ℕ → ℕ → ℕ → ℕ → List Bool
 flags_at words at size blocks =
     map (λ i. not (slice_index words (at + i * size) == free_mark)) (range_with_len 0 blocks)
 
--- The list from a link on runs through just the blocks with the flag false, each once: it ends where
--- there is none, and else the link is the address plus one of such a block, and the list from the
--- link in that block on runs through the others.
+-- The list from a link on runs through exactly the blocks with the flag false, each once. If no such block is left, the
+-- link is 0. Else it is the address plus one of one of them, and the list from the link in that block on runs through
+-- the others.
 abbrev pub RunsFree : List ℕ → ℕ → ℕ → ℕ → List Bool → ℕ → Type 0
 RunsFree words at size zero flags link = (link ≡ 0) × (count_by not flags ≡ 0)
 RunsFree words at size (suc n) flags link =

@@ -1,4 +1,4 @@
--- What the table itself keeps: a record for each page, bits and numbers.
+-- The fields of the table: a record for each page, bits and numbers.
 use Rattle.std.specs.Prelude.{◌≡◌, ℕ, ◌+◌, ◌-◌, ◌<◌, ◌≤◌, Bool, true, false, ◌&&◌, not, ◌==◌, nat_lt, if◌then◌else◌, List, map, length, slice_index, slice_index_or, Option, Some, None, IsSomeAnd, count_by, sum_by}
 use Rattle.size_classes.specs.declared.class.TheConstants.{CLASSES}
 use Rattle.size_classes.specs.declared.config.TheConstants.{MOST_HEAP_PAGES}
@@ -8,7 +8,7 @@ use Rattle.pages.specs.declared.bits.BitRow.{BitRow}
 use Rattle.pages.specs.declared.page.PageRow.{PageRow}
 use Rattle.pages.specs.BitRow.{has_bit, room_of}
 
--- the record of page k, none where there is no such page
+-- the record of page k, none if there is no such page
 abbrev pub row_at : List (Option PageRow) → ℕ → Option PageRow
 row_at rows k = slice_index_or rows k None
 
@@ -17,7 +17,7 @@ abbrev pub OfClass : ℕ → Option PageRow → Type 0
 OfClass class None = Unit {0}
 OfClass class (Some r) = r.class ≡ class
 
--- of the class, not evacuating, with a free block
+-- the page is of the class and not evacuating, and has a free block
 abbrev pub row_usable : ℕ → Option PageRow → Bool
 row_usable class None = false
 row_usable class (Some r) = (r.class == class) && (not r.evacuating && nat_lt r.allocated (blocks_in r.class))
@@ -32,7 +32,7 @@ abbrev pub row_free_on : ℕ → Option PageRow → ℕ
 row_free_on class None = 0
 row_free_on class (Some r) = if (r.class == class) && not r.evacuating then blocks_in r.class - r.allocated else 0
 
--- of the class, and neither evacuating nor a target
+-- the page is of the class, and neither evacuating nor a target
 abbrev pub row_choosable : ℕ → Option PageRow → Bool
 row_choosable class None = false
 row_choosable class (Some r) = (r.class == class) && (not r.evacuating && not r.is_target)

@@ -11,7 +11,7 @@ CanBeTarget o = IsSomeAnd o (λ p. (p.evacuating ≡ false) × ((i : ℕ) × IsO
 abbrev pub NoneAllocated : ℕ → Option Page → Type 0
 NoneAllocated from o = IfSome o (λ p. (k : ℕ) → from ≤ k → slice_get p.allocated k ≢ Some true)
 
--- the first allocated block from a place on, and None exactly where there is none
+-- the first allocated block from a place on, and None exactly if there is none
 abbrev pub FindsAllocated : Option Page → ℕ → Option ℕ → Type 0
 FindsAllocated o from None = NoneAllocated from o
 FindsAllocated o from (Some i) = IsSomeAnd o (λ p. IsNext p from i)

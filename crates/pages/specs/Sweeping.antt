@@ -1,4 +1,4 @@
--- What the sweeper does with blocks of a page in use, where it knows the colour of marked ones.
+-- The sweeper's looks at the blocks of a page in use, given the colour of marked ones.
 use Rattle.std.specs.Prelude.{◌≡◌, ℕ, ◌+◌, ◌<◌, Bool, true, false, List, length, Option, Some, slice_get, slice_index, slice_set}
 use Rattle.heap_model.specs.Header.{header_in}
 use Rattle.heap_model.specs.Action.{closed}
@@ -12,8 +12,8 @@ use Rattle.pages.specs.Together.{joined, pages_in, KeepsAllocated, Together}
 abbrev pub has_colour : List ℕ → Bool → ℕ → Bool
 has_colour words colour address = same_colour colour (header_in (slice_index words (address + 1))).colour
 
--- A look at a block of a page: it stays, where it isn't allocated or has the colour; else it is given back, and the
--- words of the blocks that are allocated then stay.
+-- A look at a block of a page. If the block isn't allocated or has the colour, it stays. Else it is given back, and the
+-- words of the blocks that are then allocated stay.
 pub data LooksAt (colour : Bool) (page index : ℕ) (s : Store) : Store → Type 0 where
   It_stays : (p : Page) → page_at s.pages page ≡ Some p → index < length p.allocated
       → (slice_get p.allocated index ≡ Some true → has_colour s.words colour (address_of p.class page index) ≡ true)

@@ -8,6 +8,6 @@ use Rattle.pages.specs.Index.{IsIndex}
 abbrev pub rows_in : Inside → List (Option PageRow)
 rows_in t = t.rows.items
 
--- what a table keeps: its rows of bits and its counts are those of its records
+-- the invariant of a table: its rows of bits and its counts are those of its records
 abbrev pub IsKept : Inside → Type 0
 IsKept t = IsIndex t.rows.items t.usable.items t.free t.free_blocks.items t.free_pages

@@ -26,8 +26,8 @@ pages_in rows words = map (λ p. page_by words (PAGE_WORDS * p.0) p.1) (enumerat
 abbrev pub joined : List (Option PageRow) → List ℕ → Store
 joined rows words = record { pages = pages_in rows words; words = words }
 
--- The table and the arena go together: each page in use has its 2048 words, no page behind the last has any, and each
--- page in use has a list that runs through just its free blocks, each once.
+-- The table and the arena go together: each page in use has its 2048 words; no page behind the last has any; and the
+-- list of each page in use runs through exactly its free blocks, each once.
 pub record Together (rows : List (Option PageRow)) (words : List ℕ) : Type 0 where
   pub present : (k : ℕ) → IfSome (row_at rows k) (λ _. PAGE_WORDS * k + PAGE_WORDS ≤ length words)
   pub within : length words ≤ PAGE_WORDS * length rows
@@ -42,6 +42,6 @@ pub record KeepsAllocated (pages : List (Option Page)) (old new : List ℕ) : Ty
       → slice_index new (PAGE_WORDS * k + i * size_of p.class + j)
       ≡ slice_index old (PAGE_WORDS * k + i * size_of p.class + j)
 
--- what the records alone tell holds of the pages, whatever words go together with them
+-- a statement that follows from the records alone: it holds of the pages, whatever words go together with the records
 abbrev pub Tells : List (Option PageRow) → (List (Option Page) → Type 0) → Type 0
 Tells rows says = (words : List ℕ) → Together rows words → says (pages_in rows words)

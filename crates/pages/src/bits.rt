@@ -55,7 +55,7 @@ impl BitRow {
         self.lowest = lowest_once_put(words, groups, tops, self.lowest, k, on);
     }
 
-    /// Gives a bit another value. Where it has that one, nothing is written.
+    /// Gives a bit another value. Writes nothing if it has that value.
     #[inline(always)]
     pub fn change(&mut self, k: usize, was: bool, is: bool)
         requires within { k < room_of self.old }

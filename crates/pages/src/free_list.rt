@@ -144,7 +144,7 @@ fn is_taken_in(words: &[u64], page: usize, class: Class, index: usize) -> bool
     mark_of(words, page, class, index) != u64::MAX
 }
 
-/// The same in the arena.
+/// Whether a block of a page of the arena is allocated.
 pub fn is_taken(arena: &Arena, page: usize, class: Class, index: usize) -> bool
     requires page { page < 1048576 }
     requires within { 2048 * page + 2048 ≤ length arena.now.words }
@@ -172,8 +172,8 @@ fn stays(words: &[u64], page: usize, class: Class, index: usize, colour: bool) -
     true
 }
 
-/// Looks at a block of a page: where it is allocated and hasn't the colour, it goes on the page's list. Whatever
-/// records of other pages the page's record and the words go together with, they still do.
+/// Looks at a block of a page: if it is allocated and hasn't the colour, it goes on the page's list. Records of other
+/// pages that went together with the page's record and the words still do.
 #[inline(always)]
 fn look(words: &mut [u64], page: usize, row: &mut PageRow, index: usize, colour: bool)
     requires page { page < 1048576 }
@@ -246,7 +246,7 @@ pub fn sweep(
     *row = sweep_in(arena.words_mut(), page, *row, from, count, colour);
 }
 
-/// How many blocks are looked at as one where none of them may be allocated.
+/// How many blocks are looked at as one, if none of them is allocated.
 const GROUP: usize = 8;
 
 /// Whether some block of a group is allocated, by one test of the words of all.

@@ -98,7 +98,7 @@ fn first_word(words: &[u64]) -> Option<usize>
     None
 }
 
-/// The lowest bit of the groups that is set, where none is up to bit k.
+/// Returns the lowest bit of the groups that is set, if none is up to bit k.
 #[inline(always)]
 fn lowest_group_bit(groups: &[u64], tops: &[u64], k: usize) -> Option<usize>
     requires within { k < WORD_BITS * length groups.now }
@@ -117,7 +117,7 @@ fn lowest_group_bit(groups: &[u64], tops: &[u64], k: usize) -> Option<usize>
     Some(WORD_BITS * at + lowest(groups[at]))
 }
 
-/// The lowest bit of the words that is set, where none is up to bit k.
+/// Returns the lowest bit of the words that is set, if none is up to bit k.
 #[inline(always)]
 fn lowest_bit(words: &[u64], groups: &[u64], tops: &[u64], k: usize) -> Option<usize>
     requires within { k < WORD_BITS * length words.now }

@@ -25,9 +25,9 @@ pub struct Block {
     pub index: usize,
 }
 
-/// The pages of a heap: a record for each that is in use; for each class a bit for each page that isn't
-/// evacuating and has a free block, and how many such blocks there are; a bit for each free page, and how
-/// many there are. Contracts see the list of the records. With the words of the arena they are the pages.
+/// The pages of a heap: a record for each page in use; for each class a bit for each page that isn't evacuating and has
+/// a free block, and the number of free blocks on these; a bit for each free page, and their number. Contracts see the
+/// list of the records. With the words of the arena they are the pages.
 #[derive(Drop)]
 pub struct PageTable {
     rows: Vec<Option<PageRow>>,
@@ -95,7 +95,7 @@ impl PageTable {
         self.usable[class.number()].first()
     }
 
-    /// The first free page.
+    /// Returns the first free page.
     #[inline(always)]
     fn first_free(&self) -> Option<usize>
         ensures place { result ≡ position row_free self.now }
@@ -104,7 +104,7 @@ impl PageTable {
         self.free.first()
     }
 
-    /// The record of a page.
+    /// Returns the record of a page.
     #[inline(always)]
     fn row(&self, page: usize) -> Option<PageRow>
         requires { page < length self.now }
@@ -134,7 +134,7 @@ impl PageTable {
         self.rows[page] = row;
     }
 
-    /// Gives a page in use another record of its class. A bit is written only where the page gets its
+    /// Gives a page in use another record of its class. A bit is written only if the page gets its
     /// first free block or loses its last.
     #[inline(always)]
     fn update(&mut self, page: usize, class: Class, row: Option<PageRow>)
@@ -154,7 +154,7 @@ impl PageTable {
         self.rows[page] = row;
     }
 
-    /// Gives a free page a class, and puts all its blocks on its list. Where the page was never used, it gets its words.
+    /// Gives a free page a class, and puts all its blocks on its list. A page that was never used gets its words.
     #[inline(never)]
     fn use_page(&mut self, arena: &mut Arena, page: usize, class: Class)
         requires page { page < length self.old }
@@ -175,7 +175,7 @@ impl PageTable {
         self.put(page, class, Some(row));
     }
 
-    /// Takes the first free block of a page that isn't evacuating, and answers which. A bit is written only where
+    /// Takes the first free block of a page that isn't evacuating, and answers which. A bit is written only if
     /// the page has no other free block.
     #[inline(always)]
     fn take_on(&mut self, arena: &mut Arena, page: usize, class: Class) -> usize
@@ -202,9 +202,9 @@ impl PageTable {
         index
     }
 
-    /// Takes a block of a class: a free one of the first page of the class that isn't evacuating and has one, else
-    /// of the first free page, which gets the class. None where there is no such page, and then nothing changes.
-    /// The words of allocated blocks stay.
+    /// Takes a block of a class: a free one of the first page of the class that isn't evacuating and has one; else one
+    /// of the first free page, which gets the class. If there is no such page, it returns None and nothing changes. The
+    /// words of allocated blocks stay.
     #[inline(always)]
     pub fn take(&mut self, arena: &mut Arena, class: Class) -> Option<Block>
         requires together { Together self.old arena.old.words }
@@ -331,8 +331,8 @@ impl PageTable {
         index
     }
 
-    /// Marks a page in use as evacuating: it gets no block from then on. Whatever words the table goes
-    /// together with, it still does.
+    /// Marks a page in use as evacuating: it gets no block from then on. Words that went together with the table still
+    /// do.
     pub fn leave(&mut self, page: usize)
         requires page { page < length self.old }
         requires is_target { IsSomeAnd (row_at self.old page) (λ r. r.is_target ≡ false) }
@@ -348,8 +348,8 @@ impl PageTable {
         self.update(page, row.class, Some(row));
     }
 
-    /// Closes a page, as the sweeper does when it has looked at all its blocks: it is no longer evacuating or a target,
-    /// and if no block is allocated it becomes free. Whatever words the table goes together with, it still does.
+    /// Closes a page, as the sweeper does when it has looked at all its blocks: it is no longer evacuating or a target.
+    /// If none of its blocks is allocated, it becomes free. Words that went together with the table still do.
     pub fn close_page(&mut self, page: usize)
         requires { page < length self.old }
         ensures together { (words : List ℕ) → Together self.old words → Together self.new words }

@@ -1,9 +1,8 @@
-//! What can be seen of a page.
+//! The view of a page.
 use size_classes::Class;
 
-/// A page in use: its class, how many of its blocks are allocated, whether it is evacuating, which means that its
-/// blocks are moved away and it gets no new one, and whether it is a target, which means that a block was
-/// moved to it since the last sweep.
+/// A page in use: its class, how many of its blocks are allocated, and its marks. An evacuating page gets no new block,
+/// and its blocks are moved away. A target is a page to which a block was moved since the last sweep.
 #[derive(Clone, Copy, Debug, PartialEq, Eq)]
 pub struct PageView {
     pub class: Class,

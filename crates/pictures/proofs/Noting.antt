@@ -1,4 +1,4 @@
--- What an observer of a run notes.
+-- The notes of an observer of a run.
 use Rattle.std.proofs.Common.{◌≡◌, ℕ, ◌-◌, length, true, false, List, [], ◌∷◌, ◌++◌, map, ap, ◌∙◌, sym, refl, append-nil, ◌&&◌}
 use Rattle.std.specs.Prelude.{Result, Ok, Err, OnErr}
 use Rattle.std.specs.List.{filter}

@@ -15,7 +15,7 @@ pub record IsText {A : Type 0} (text : List A → List ℕ) : Type 0 where
   pub both : (a b : List A) → text (a ++ b) ≡ text a ++ text b
   pub empty : text [] ≡ []
 
--- Of all parts some are written, and the rest is to come.
+-- Some parts are written, and the rest is to come.
 pub record SoFar {A : Type 0} (text : List A → List ℕ) (old new : List ℕ) (all rest : List A) : Type 0 where
   pub done : List A
   pub written : new ≡ old ++ text done

@@ -10,7 +10,7 @@ use Rattle.pictures.specs.declared.allocated.Allocated.{Allocated}
 abbrev pub nothing : Allocated
 nothing = record { blocks = 0; words = 0 }
 
--- these and those
+-- the sums of two rows of figures
 abbrev pub both : Allocated → Allocated → Allocated
 both a b = record { blocks = a.blocks + b.blocks; words = a.words + b.words }
 
@@ -19,7 +19,7 @@ abbrev pub allocated_by : Option PageView → Allocated
 allocated_by None = nothing
 allocated_by (Some v) = record { blocks = v.allocated; words = v.allocated * size_of v.class }
 
--- those of page k
+-- the figures of page k
 abbrev pub allocated_on : List (Option Page) → ℕ → Allocated
 allocated_on pages k = allocated_by (view_of (page_at pages k))
 

@@ -16,8 +16,8 @@ use Rattle.pictures.specs.Lines.{present}
 abbrev pub Turn : Type 0
 Turn = Interval × QuantumStart
 
--- The quanta of each cycle, in their order, where these are those of the first one so far: a quantum that opens a cycle is
--- the first of the next.
+-- The quanta of each cycle, in order, if `these` are those of the first one so far. A quantum that opens a cycle is the
+-- first of the next.
 abbrev pub cycles_on : List Turn → List Turn → List (List Turn)
 cycles_on these [] = these ∷ []
 cycles_on these (q ∷ later) =

@@ -57,7 +57,7 @@ lengths_text lines commands made ticks most = codes "\"run\":{\"lines\":" ++ (de
     ++ (codes ",\"commands\":" ++ (decimal commands ++ (codes ",\"made\":" ++ (decimal made
     ++ (codes ",\"ticks\":" ++ (decimal ticks ++ (codes ",\"cycle_limit\":" ++ (decimal most ++ codes "},\n")))))))))
 
--- how long a run was that led to a player, of so many lines
+-- the length of a run that led to a player, from this many lines
 abbrev pub counts_text : Config → PlayerState → ℕ → List ℕ
 counts_text c p lines = lengths_text lines (length p.course.history) (count_by makes p.course.history)
     (span_of p.timetable) (cycle_limit_of c)
@@ -87,7 +87,7 @@ cycles_table = table_text
 abbrev pub shares_table : List Share → List ℕ
 shares_table = table_text (codes "\"windows\":[[\"ticks\",\"least\",\"promised\"]") share_row
 
--- The data of a run that led to a player, of so many lines.
+-- The data of a run that led to a player, from this many lines.
 pub record IsRunData (config : Config) (run : Run) (p : PlayerState) (lines : ℕ) (text : List ℕ) : Type 0 where
   pub stride : ℕ
   pub samples : List Sample
@@ -111,7 +111,7 @@ TellsData config given run text =
 abbrev pub DataTold : Config → Given → Result (String Global) PlayFault → Type 0
 DataTold = Surveyed TellsData
 
--- what was noted of a run
+-- the log of a run
 abbrev pub HasRun : Run → RunLog → Type 0
 HasRun run log = IsAlong (moment 0 run.first.heap ∷ run.moments) log.sampler × HasLogged run log.cycles
     × HasQuanta run.steps log.quanta
@@ -122,7 +122,7 @@ SamplesText sampler text = (stride : ℕ) × (samples : List Sample)
     × ((moments : List Moment) → IsAlong moments sampler → AreSampled moments stride samples)
     × (string_bytes text ≡ samples_table stride samples)
 
--- the table of the cycles of a log, where the run ends at this heap
+-- the table of the cycles of a log, if the run ends at this heap
 abbrev pub CyclesText : Log → HeapState → String Global → Type 0
 CyclesText log h text = (cycles : List Cycle)
     × ((run : Run) → HasLogged run log → run.now.heap ≡ h → AreCycles run.steps cycles)

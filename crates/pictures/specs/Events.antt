@@ -79,8 +79,8 @@ event_line (Span_of span start ticks) = span_line span start ticks
 event_line (Rest start ticks) = ticks_text (codes "mutators") Mutators start ticks
 event_line Close = codes "]}"
 
--- The events of a quantum, by the end of the one before it: the mutators' ticks between these ends, and the collector's;
--- and the share that the mutators had of both, from that end on.
+-- The events of a quantum, by the end of the one before it: the mutators' ticks between, and the collector's; and the
+-- share that the mutators had of both, from that end on.
 abbrev pub quantum_events : ℕ → Interval → List TraceEvent
 quantum_events from q =
     Between from (q.start - from)
@@ -88,12 +88,12 @@ quantum_events from q =
     ∷ Quantum q.start (q.end - q.start)
     ∷ []
 
--- those of quanta, one after the other
+-- the events of quanta, one after the other
 abbrev pub quanta_events : ℕ → List Interval → List TraceEvent
 quanta_events from [] = []
 quanta_events from (q ∷ later) = quantum_events from q ++ quanta_events q.end later
 
--- what stands before them
+-- the lines before the events of quanta
 abbrev pub events_head : List TraceEvent
 events_head = Open ∷ Process ∷ Row_name Collector ∷ Row_name Mutators ∷ Row_name Cycles ∷ Row_name Phases ∷ []
 

@@ -1,4 +1,4 @@
--- What is drawn of a graph heap: the objects nearest to its roots, and the references between them.
+-- The document of a graph heap: the objects nearest to its roots, and the references between them.
 use Rattle.std.specs.Prelude.{ℕ, ◌-◌, ◌*◌, ◌/◌, ◌%◌, ◌==◌, nat_eq, nat_lt, if◌then◌else◌, List, [], ◌∷◌, ◌++◌, length, map, take, flat_map, Option, None, Some}
 use Rattle.std.specs.Set.{is_member}
 use Rattle.graph_heap.specs.declared.command.Limits.{Limits}
@@ -29,11 +29,11 @@ abbrev pub holder_drawn : Limits → Holder → ℕ → List Statement
 holder_drawn l (holds.Root place) id = Box (root_at l place) ∷ Holds (root_at l place) id ∷ []
 holder_drawn l (holds.Cell from cell) id = Cell from cell id ∷ []
 
--- of cells with these holders, one by its place, where it holds a shown object
+-- the drawing of a cell at a place, among cells with these holders, if it holds a shown object
 abbrev pub cell_drawn : Limits → List ℕ → (ℕ → Holder) → ℕ → ℕ → List Statement
 cell_drawn l shown holder place id = if is_member nat_eq shown id then holder_drawn l (holder place) id else []
 
--- the cells of an object, or else the roots, where they hold shown objects
+-- the cells of an object, or else the roots, if they hold shown objects
 abbrev pub cells_drawn : Limits → List ℕ → Option ℕ → List ℕ → List Statement
 cells_drawn l shown object cells = each_from (cell_drawn l shown (holders object)) 0 cells
 
@@ -54,7 +54,7 @@ left_out n = if n == 0 then [] else LeftOut n ∷ []
 abbrev pub opening : List Statement
 opening = Open ∷ LeftToRight ∷ []
 
--- what is drawn of a graph heap, with at most this many of the objects that were found
+-- the document of a graph heap, with at most this many of the objects that were found
 abbrev pub graph_drawn : Graph → ℕ → List Found → List Statement
 graph_drawn g most found =
     let shown = shown_of most found in

@@ -8,8 +8,8 @@ use Rattle.graph_heap.specs.declared.reachability.found.Found.{Found}
 use Rattle.graph_heap.specs.Distance.{FindsAll}
 use Rattle.pictures.specs.GraphDrawing.{graph_picture}
 
--- Of the objects that can be reached, the nearest to the roots are drawn, at most this many; or a part of this is
--- written and then a write failed; or memory was refused, and nothing is written. There is no other fault.
+-- The objects nearest to the roots are drawn, at most this many of those that can be reached. Or a part of the document
+-- is written and then a write failed. Or memory was refused, and nothing is written. There is no other fault.
 abbrev pub GraphDrawn : Graph → ℕ → Taken → Result (Unit {0}) PlayFault → Type 0
 GraphDrawn g most taken (Ok drawn) =
     (found : List Found) × FindsAll g found × (taken.after ≡ taken.before ++ graph_picture g most found)

@@ -2,7 +2,7 @@
 use Rattle.std.specs.Prelude.{ℕ, List, ◌++◌, Option, Some, None, codes, decimal}
 use Rattle.std.specs.List.{flat_map}
 
--- a number, where it is known
+-- a number, if it is known
 abbrev pub cell_text : Option ℕ → List ℕ
 cell_text None = codes "null"
 cell_text (Some n) = decimal n

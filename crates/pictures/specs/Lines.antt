@@ -2,7 +2,7 @@
 use Rattle.std.specs.Prelude.{ℕ, ◌+◌, List, [], ◌∷◌, ◌++◌, map, Option, None, Some}
 use Rattle.trace.specs.Lines.{text_of}
 
--- what is drawn of each item of a list by its place, from one on
+-- the drawing of each item of a list by its place, from one on
 abbrev pub each_from : {A B : Type 0} → (ℕ → A → List B) → ℕ → List A → List B
 each_from drawn place [] = []
 each_from drawn place (x ∷ later) = drawn place x ++ each_from drawn (place + 1) later

@@ -13,7 +13,7 @@ abbrev pub budget_of : Event → ℕ
 budget_of (Quantum_done budget units phase) = budget
 budget_of event = 0
 
--- a quantum: after how many commands it was, what it spent of its budget, and the phase that it found
+-- a quantum: after how many commands it was, the units that it spent of its budget, and the phase that it found
 abbrev pub quantum_of : Step → Quantum
 quantum_of s = record {
   commands = length s.after.history;

@@ -20,7 +20,7 @@ is_refused number e = refuses number e.reply
 abbrev pub refused_in : List Entry → ℕ → Refused
 refused_in history number = record { number = number; count = count_by (is_refused number) history }
 
--- of each of the reasons, in the order of their numbers
+-- the refusals for each reason, in the order of their numbers
 abbrev pub refusals_of : List Entry → List Refused
 refusals_of history = map (refused_in history) (1 ∷ 2 ∷ 3 ∷ 4 ∷ 5 ∷ 6 ∷ 7 ∷ 8 ∷ 14 ∷ 15 ∷ [])
 

@@ -1,4 +1,4 @@
--- What a sampler holds along a run.
+-- The fields of a sampler along a run.
 use Rattle.std.specs.Prelude.{◌≡◌, ℕ, ◌+◌, ◌*◌, ◌/◌, ◌^◌, ◌<◌, ◌≤◌, List, ◌++◌, length, get_or}
 use Rattle.pictures.specs.declared.sample.Sample.{Sample}
 use Rattle.pictures.specs.declared.sample.TheConstants.{MOST_SAMPLES}

@@ -18,7 +18,7 @@ use Rattle.pictures.specs.declared.sample.TheConstants.{MOST_SAMPLES}
 use Rattle.pictures.specs.Allocated.{allocated_in}
 use Rattle.pictures.specs.CycleSpans.{is_name}
 
--- of the phases of a cycle the one that this is, if it is one
+-- the phase of a cycle that this is, if it is one
 abbrev pub phases_of : Phase → Phases
 phases_of phase = record {
   roots = is_name names.Roots (name_of phase);
@@ -48,7 +48,7 @@ phases_number p = one_if p.roots + 2 * one_if p.marking + 4 * one_if p.sweeping 
 abbrev pub pages_used : HeapState → ℕ
 pages_used h = length h.store.pages - free_pages h.store.pages
 
--- what a heap is like after a line: the phase of its cycle, its pages in use, and its allocated blocks
+-- the sample of a heap after a line: the phase of its cycle, its pages in use, and its allocated blocks
 abbrev pub sample_of : HeapState → ℕ → Sample
 sample_of h line = record {
   line = line;
@@ -81,8 +81,7 @@ abbrev pub IsSampleOf : List Moment → Sample → Type 0
 IsSampleOf [] s = ⊥
 IsSampleOf (m ∷ later) s = s ≡ fold (λ so_far next. joined so_far (sampled next)) (sampled m) later
 
--- The first sample is of as many of the first moments as the stride says, the next of as many behind these, and so on;
--- the last may be of fewer.
+-- Each sample is of `stride` moments, one after the other, from the first moment on; the last may be of fewer.
 abbrev pub AreSamples : List Moment → ℕ → List Sample → Type 0
 AreSamples moments stride [] = moments ≡ []
 AreSamples moments stride (s ∷ later) =

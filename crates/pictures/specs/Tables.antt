@@ -39,8 +39,8 @@ share_row s = row_text s.window (Some s.measured ∷ Some s.promised ∷ [])
 abbrev pub refused_row : Refused → List ℕ
 refused_row r = row_text r.number (Some r.count ∷ [])
 
--- a page: the words of its blocks, how many of them are allocated, and its marks, 1 where it is evacuating and 2 where it
--- is a target, added up; a free page has zeros
+-- a page: the words of its blocks, how many of them are allocated, and its marks, added up: 1 if it is evacuating, 2 if
+-- it is a target. A free page has zeros
 abbrev pub page_row_by : Option PageView → List ℕ
 page_row_by None = row_text 0 (Some 0 ∷ Some 0 ∷ [])
 page_row_by (Some v) =

@@ -16,8 +16,8 @@ round_numbers power (suc more) = power ∷ 2 * power ∷ 5 * power ∷ round_num
 abbrev pub span_of : Timetable → ℕ
 span_of t = max t.clock (last_end t.intervals)
 
--- A window's shares in thousandths, rounded down: what the mutators had of it at least, and what the schedule
--- promises them.
+-- A window's shares in thousandths, rounded down: the least that the mutators had of it, and the least that the
+-- schedule promises.
 pub record IsShare (config : Config) (t : Timetable) (window : ℕ) (share : Share) : Type 0 where
   pub window_is : share.window ≡ window
   pub measured_is : (least : ℕ) × IsLeast t.intervals (span_of t) window least

@@ -11,7 +11,7 @@ pub struct Allocated {
     pub words: u64,
 }
 
-/// Those of a page.
+/// Returns the allocated blocks of a page, and their words.
 fn allocated_on(heap: &Heap, number: usize) -> Allocated
     ensures allocated { result ≡ allocated_on heap.now.store.pages number }
     ensures within { (result.blocks ≤ 131072) × (result.words ≤ 131072) }

@@ -10,8 +10,8 @@ use crate::writing::write_present;
 use quanta::Interval;
 use trace::{PhaseName, QuantumStart, Sink, WriteFailed};
 
-/// From the beginning of the first quantum of a cycle to the end of the last so far: of all of them, and of those that
-/// found the collector in each of its phases.
+/// The ticks from the beginning of the first quantum of a cycle to the end of the last so far: of all its quanta, and
+/// of those that found the collector in each of its phases.
 #[derive(Clone, Copy, Debug, PartialEq, Eq)]
 pub struct CycleSpans {
     pub whole: Option<Interval>,
@@ -21,7 +21,7 @@ pub struct CycleSpans {
     pub moving: Option<Interval>,
 }
 
-/// From the beginning of the first quantum so far to the end of one more.
+/// Returns the ticks from the beginning of the first quantum so far to the end of one more.
 fn longer(so_far: Option<Interval>, quantum: &Interval, start: &QuantumStart) -> Interval
     ensures { (these : List Turn) → so_far ≡ stretch these
         → Some result ≡ stretch (these ++ (quantum.now, start.now) ∷ []) }
@@ -79,7 +79,7 @@ fn span_event(span: Span, ticks: Option<Interval>) -> Option<TraceEvent>
 }
 
 impl CycleSpans {
-    /// Before the first quantum.
+    /// Returns the spans before the first quantum.
     fn new() -> CycleSpans
         ensures { result ≡ spans_of [] }
     {
@@ -92,7 +92,7 @@ impl CycleSpans {
         }
     }
 
-    /// After one more quantum.
+    /// Returns the spans after one more quantum.
     fn with(self, quantum: &Interval, start: &QuantumStart) -> CycleSpans
         ensures { (these : List Turn) → self ≡ spans_of these
             → result ≡ spans_of (these ++ (quantum.now, start.now) ∷ []) }
@@ -106,7 +106,7 @@ impl CycleSpans {
         }
     }
 
-    /// Their events, where they are there.
+    /// Their events, if they are there.
     fn events(self) -> [Option<TraceEvent>; 5]
         ensures { result ≡ span_events self }
     {

@@ -143,7 +143,7 @@ fn cycles_text(alloc: Global, log: Log, heap: &Heap) -> Result<String, NoMemory>
     Ok(table(alloc, head, cycles.items.as_slice())?)
 }
 
-/// The table of quanta.
+/// Returns the table of quanta.
 fn quanta_text(alloc: Global, log: &QuantumLog) -> Result<String, AllocError>
     ensures { IfOk result (λ text. string_bytes text ≡ quanta_table log.now.items.items) }
 {
@@ -160,7 +160,7 @@ fn shares_text(alloc: Global, config: &Config, schedule: &Schedule) -> Result<St
     table(alloc, head, shares.as_slice())
 }
 
-/// The data of a run that led to a player, of so many lines, and of which this was noted.
+/// Returns the data of a run that led to a player, from this many lines, with its log.
 fn run_text(
     alloc: Global,
     config: &Config,
@@ -193,12 +193,12 @@ fn run_text(
     .concat(alloc)?)
 }
 
-/// Plays the lines of a trace on a new heap of a configuration, one after the other, writes nothing of them, and answers
+/// Plays the lines of a trace on a new heap of a configuration, one after the other. It writes no reply, and returns
 /// the data of the run: members of an object in JSON, each on lines of its own and with a comma behind it. They are the
-/// settings; how long the run was; how many commands were refused for each reason; samples of the heap, each of as many
-/// moments as the stride says; the quanta that found a cycle running; the cycles, with the figures of their report; the
-/// least shares of the mutators in windows of round lengths, beside the promised ones; and the pages and the shapes at the
-/// end. A fault is that with which playing the trace ends; or memory was refused.
+/// settings; the length of the run; how many commands were refused for each reason; samples of the heap, each of as
+/// many moments as the stride says; the quanta that found a cycle running; the cycles, with the figures of their
+/// report; the least shares of the mutators in windows of round lengths, beside the promised ones; and the pages and
+/// the shapes at the end. A fault is the one with which playing the trace ends; or memory was refused.
 pub fn run_data<S: Source>(
     alloc: Global,
     config: &Config,

@@ -36,7 +36,7 @@ pub enum Span {
 pub enum TraceEvent {
     /// The beginning of the document.
     Open,
-    /// The name of the whole.
+    /// The name of the process.
     Process,
     /// The name of a row.
     Row(Row),
@@ -236,7 +236,7 @@ fn last_end(intervals: &[Interval]) -> u64
     }
 }
 
-/// What stands before the events of quanta.
+/// Returns the lines before the events of quanta.
 fn head() -> [TraceEvent; 6]
     ensures { result ≡ events_head }
 {
@@ -250,7 +250,7 @@ fn head() -> [TraceEvent; 6]
     ]
 }
 
-/// What stands behind the events of quanta.
+/// Returns the lines behind the events of quanta.
 fn tail(schedule: &Schedule) -> [TraceEvent; 2]
     ensures { result ≡ events_tail schedule.now }
 {
@@ -259,14 +259,14 @@ fn tail(schedule: &Schedule) -> [TraceEvent; 2]
     [TraceEvent::Rest(end, rest), TraceEvent::Close]
 }
 
-/// Writes the quanta of a player that took ticks to a sink, as a JSON document in the Trace Event Format, which viewers of
-/// traces read, in lines that end with LF: a row of the collector with an event for each quantum, a row of the mutators
-/// with one for the ticks before each quantum and one for those behind the last, and a counter: from the end of a quantum
-/// to that of the next the share that the mutators had, in thousandths, rounded down. A row of cycles has one for each
-/// cycle, from the beginning of its first quantum to the end of its last, and a row of phases one for each phase of it in
-/// which a quantum found the collector, from the beginning of the first of these to the end of the last. A tick stands for
-/// a microsecond. A quantum that a line of a trace asks for takes no tick, and isn't there. It takes no memory. After an
-/// error, which comes only where the sink failed, the sink has taken a beginning of the document.
+/// Writes the quanta of a player that took ticks to a sink, as a JSON document in the Trace Event Format, for viewers
+/// of traces, in lines that end with LF. The row of the collector has an event for each quantum. The row of the
+/// mutators has one for the ticks before each quantum, and one for those behind the last. A counter has the mutators'
+/// share from the end of a quantum to that of the next, in thousandths, rounded down. The row of cycles has one for
+/// each cycle, from the beginning of its first quantum to the end of its last. The row of phases has one for each phase
+/// of a cycle, in the same way, by the quanta that found the collector in it. A tick stands for a microsecond. A
+/// quantum that a line of a trace asks for takes no tick, and isn't drawn. It takes no memory. It fails only if the
+/// sink does; then the sink has taken a beginning of the document.
 pub fn draw_events<K: Sink>(player: &Player, sink: &mut K) -> Result<(), WriteFailed>
     ensures ok { OnOk result (K.taken sink.new ≡ K.taken sink.old ++ events_picture player.now) }
     ensures err { OnErr result (GrowsByPart (K.taken sink.old) (K.taken sink.new) (events_picture player.now)) }

@@ -4,7 +4,7 @@ ghost use Rattle.pictures.specs.Json.{cell_text, row_text, table_text};
 
 use std::alloc::{AllocError, Global};
 
-/// What is a row of a table.
+/// A row of a table.
 pub trait JsonRow {
     /// Its text.
     ghost told: { Self → List ℕ };

@@ -1,4 +1,5 @@
-//! A run as data: what a page in a browser shows of it, as JSON; its events; the objects that can be reached, as a graph.
+//! A run as data: the data of a page in a browser, as JSON; the run's events; the objects that can be reached, as a
+//! graph.
 #![tactic(auto)]
 
 mod allocated;

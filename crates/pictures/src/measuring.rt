@@ -8,7 +8,7 @@ use quanta::Schedule;
 use size_classes::Config;
 use std::alloc::{AllocError, Global};
 
-/// The shares of a window, or None where it is longer than the time that has passed, or has no tick.
+/// The shares of a window, or None if it is longer than the time that has passed, or has no tick.
 fn share_of(config: &Config, schedule: &Schedule, window: u64) -> Option<Share>
     ensures none { IsNone result ↔ ((window ≡ 0) ⊎ (span_of schedule.now < window)) }
     ensures share { IfSome result (IsShare config.now schedule.now window) }

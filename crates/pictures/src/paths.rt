@@ -1,4 +1,4 @@
-//! What is reported of why an object is alive.
+//! The report of why an object is alive.
 ghost use Rattle.std.specs.Prelude.{◌≡◌, ◌<◌, IfOk, string_bytes};
 ghost use Rattle.std.specs.List.{flat_map};
 ghost use Rattle.graph_heap.specs.Graph.{root_cells};
@@ -21,7 +21,7 @@ fn root_line(alloc: Global, limits: &Limits, place: usize) -> Result<String, All
     format!(in alloc; "static {number}\n")
 }
 
-/// The line of a reference cell.
+/// Returns the line of a reference cell.
 fn step_line(alloc: Global, step: &Step) -> Result<String, AllocError>
     ensures { IfOk result (λ line. string_bytes line ≡ step_line step.now) }
 {
@@ -50,7 +50,7 @@ fn route_lines(alloc: Global, limits: &Limits, route: &Route) -> Result<String, 
     Ok(text)
 }
 
-/// What is reported of an object, some of whose blocks are still allocated or not.
+/// Returns the report of an object. `allocated` says whether some of its blocks are still allocated.
 fn standing_text(
     alloc: Global,
     limits: &Limits,
@@ -68,9 +68,9 @@ fn standing_text(
     }
 }
 
-/// Why an object of a graph heap is alive: a shortest path to it, a line for the root and one for each reference cell;
-/// or that none leads to it, and whether some of its blocks are still allocated, as the caller says; or that it was
-/// never made.
+/// Returns the report of why an object of a graph heap is alive: a shortest path to it, with a line for the root and
+/// one for each reference cell. Or it says that no path leads to it, and whether some of its blocks are still
+/// allocated, as the caller says; or that it was never made.
 pub fn path_text(
     alloc: Global,
     graph: &Reference,

@@ -43,7 +43,7 @@ fn quantum_between(before: &Mark, budget: u32, recorded: &Recorded) -> Quantum
 }
 
 impl QuantumLog {
-    /// Before the first quantum.
+    /// Makes the log before the first quantum.
     pub(crate) fn new(alloc: Global) -> QuantumLog
         ensures { HasQuanta [] result }
     {

@@ -1,4 +1,4 @@
-//! What is noted of a run while it is played.
+//! The log of a run while it is played.
 ghost use Rattle.trace.specs.Observing.{run_from};
 ghost use Rattle.pictures.specs.Data.{HasRun};
 

@@ -1,4 +1,4 @@
-//! What a heap is like at moments of a run.
+//! Samples of a heap at moments of a run.
 ghost use Rattle.std.specs.Prelude.{◌≡◌, ℕ};
 ghost use Rattle.pictures.specs.Samples as samples;
 ghost use Rattle.pictures.specs.Samples.{sample_of, pages_used};
@@ -20,7 +20,7 @@ pub struct Phases {
 }
 
 impl Phases {
-    /// A phase alone; none is of a cycle where no cycle is running.
+    /// A phase alone; it is none of a cycle's if no cycle is running.
     pub(crate) fn of(phase: Phase) -> Phases
         ensures { result ≡ samples.phases_of phase }
     {
@@ -55,7 +55,7 @@ impl Phases {
     }
 }
 
-/// What a heap is like at moments of a run, one after the other, of which there is one at least.
+/// A sample of a heap at one or more moments of a run, one after the other.
 #[derive(Clone, Copy, Debug, PartialEq, Eq)]
 pub struct Sample {
     /// How many lines of the run's trace were done at the first moment.
@@ -80,7 +80,7 @@ fn pages_used(heap: &Heap) -> u64
 }
 
 impl Sample {
-    /// What a heap is like now, after this many lines. It takes time that is linear in the pages.
+    /// Returns the sample of a heap now, after this many lines. It takes time that is linear in the pages.
     pub fn from_heap(heap: &Heap, line: u64) -> Sample
         ensures { result ≡ sample_of heap.now line }
     {

@@ -24,7 +24,7 @@ pub(crate) struct Sampler {
     since: u64,
 }
 
-/// Makes one sample of each two. Where their number is odd, the last is left out.
+/// Joins each two samples into one. If their number is odd, the last is left out.
 fn join_pairs(items: &mut Vec<Sample>)
     ensures { ArePairs items.old.items items.new.items }
 {
@@ -36,7 +36,7 @@ fn join_pairs(items: &mut Vec<Sample>)
 }
 
 impl Samples {
-    /// Makes one sample of each two, and so doubles the stride. Where their number is odd, the last is left out.
+    /// Joins each two samples into one, and so doubles the stride. If their number is odd, the last is left out.
     fn thin(&mut self)
         requires { self.old.stride * 2 < 2 ^ 64 }
         ensures stride { self.new.stride ≡ self.old.stride * 2 }
@@ -48,7 +48,7 @@ impl Samples {
 }
 
 impl Sampler {
-    /// A sample of a heap before the first line.
+    /// Makes a sampler with the sample of a heap before the first line.
     pub(crate) fn new(alloc: Global, heap: &Heap) -> Sampler
         ensures { IsAlong (moment 0 heap.now ∷ []) result }
     {

@@ -50,9 +50,9 @@ pub const WINDOWS: [u64; 39] = [
 pub struct Share {
     /// How many ticks the window has.
     pub window: u64,
-    /// What they had at least of any window of that many ticks.
+    /// The least share that they had of any window of that many ticks.
     pub measured: u64,
-    /// What the schedule promises them.
+    /// The share that the schedule promises them.
     pub promised: u64,
     ghost measured_part: { measured ≤ 1000 },
     ghost promised_part: { promised ≤ 1000 },

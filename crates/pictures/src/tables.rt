@@ -81,8 +81,8 @@ impl JsonRow for Refused {
     }
 }
 
-/// The row of a page: the words of its blocks, how many of them are allocated, and its marks, 1 where it is evacuating and 2
-/// where it is a target, added up. A free page has zeros.
+/// Returns the row of a page: the words of its blocks, how many of them are allocated, and its marks, added up: 1 if it
+/// is evacuating, 2 if it is a target. A free page has zeros.
 fn page_row(alloc: Global, heap: &Heap, number: usize) -> Result<String, AllocError>
     ensures { IfOk result (λ text. string_bytes text ≡ page_row heap.now.store.pages number) }
 {
@@ -111,7 +111,7 @@ pub(crate) fn pages_table(alloc: Global, heap: &Heap) -> Result<String, AllocErr
     Ok(text)
 }
 
-/// The row of a shape.
+/// Returns the row of a shape.
 fn shape_row(alloc: Global, cells: &Cells, held: &Held) -> Result<String, AllocError>
     ensures { IfOk result (λ text. string_bytes text ≡ shape_row (cells.now, held.now)) }
 {

@@ -5,7 +5,7 @@ ghost use Rattle.pictures.specs.Lines.{lines_text, present};
 
 use trace::{Sink, WriteFailed, end_line};
 
-/// What is a line of a document.
+/// A line of a document.
 pub(crate) trait DocumentLine: Copy {
     /// The line, without its LF.
     ghost line: { Self → List ℕ };

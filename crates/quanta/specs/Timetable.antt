@@ -8,9 +8,8 @@ use Rattle.quanta.specs.declared.schedule.TheConstants.{CLOCK_LIMIT}
 use Rattle.quanta.specs.declared.interval.Interval.{Interval}
 use Rattle.quanta.specs.Intervals.{IsSpaced}
 
--- The ticks of a quantum, the ticks that the mutators have at least between two quanta, the time, when
--- a quantum is due while a cycle runs, the intervals of the quanta so far, and how many more have
--- their memory.
+-- A timetable: the ticks of a quantum; the least ticks of the mutators between two quanta; the time; when a quantum is
+-- due while a cycle runs; the intervals of the quanta so far; and for how many more there is memory.
 pub record Timetable : Type 0 where
   pub collector_ticks : ℕ
   pub mutator_ticks : ℕ
@@ -33,7 +32,7 @@ start_after q (Some i) = i.end + q
 abbrev pub first_due : Timetable → ℕ
 first_due t = max t.clock (start_after t.mutator_ticks (last_or None t.intervals))
 
--- when a quantum is due, where that is below a time
+-- when a quantum is due, if that is below a time
 abbrev pub due_below : ℕ → Option ℕ → Option ℕ
 due_below until None = None
 due_below until (Some due) = if nat_lt due until then Some due else None
@@ -56,9 +55,8 @@ pub record IsPlacedAt (due : ℕ) (old new : Timetable) : Type 0 where
   }
   pub reserved : old.reserved ≤ new.reserved + 1
 
--- What holds of every timetable: the intervals are spaced, the quantum that is due comes after them,
--- and all numbers are within their limits: ticks in the ranges of their keys, which no number of
--- mutators changes.
+-- The invariant of a timetable: the intervals are spaced; the quantum that is due comes after them; and all numbers are
+-- within their limits. Ticks are in the ranges of their keys, which don't depend on the number of mutators.
 pub record IsTimetable (t : Timetable) : Type 0 where
   pub spaced : IsSpaced t.collector_ticks t.mutator_ticks t.intervals
   pub clock : t.clock ≤ CLOCK_LIMIT

@@ -14,10 +14,9 @@ use std::marker::Model;
 /// The greatest time that the clock shows, in ticks.
 pub const CLOCK_LIMIT: u64 = 1099511627776;
 
-/// The schedule of quanta: the clock, when a quantum is due while a cycle runs, and the intervals of
-/// the quanta that were placed. Contracts see these as one timetable, whose intervals are always
-/// spaced: in rising order, each as long as a quantum, and each at least the mutators' ticks after the
-/// end of the one before.
+/// The schedule of quanta: the clock, when a quantum is due while a cycle runs, and the intervals of the quanta that
+/// were placed. Contracts see these as one timetable, whose intervals are always spaced: in rising order, each as long
+/// as a quantum, and each at least the mutators' ticks after the end of the one before.
 #[derive(Debug, Drop)]
 pub struct Schedule {
     collector_ticks: u64,
@@ -53,9 +52,8 @@ impl Schedule {
         }
     }
 
-    /// Begins a cycle: its first quantum is due at the clock or, if there was an earlier interval, the
-    /// mutators' ticks after that one's end, if that is later. Where a cycle is running, another begins in
-    /// its place.
+    /// Begins a cycle. Its first quantum is due at the clock; or the mutators' ticks after the end of the last
+    /// interval, if there is one and that is later. If a cycle is running, the new one takes its place.
     pub fn start_cycle(&mut self)
         ensures { self.new ≡ record self.old { due = Some (first_due self.old) } }
     {
@@ -73,7 +71,7 @@ impl Schedule {
         self.due = None;
     }
 
-    /// The time at which a quantum is due, in ticks, or None where no cycle is running or that time isn't
+    /// The time at which a quantum is due, in ticks, or None if no cycle is running or that time isn't
     /// below `until`.
     pub fn next_quantum(&self, until: u64) -> Option<u64>
         ensures due { result ≡ due_below until self.now.due }
@@ -111,7 +109,7 @@ impl Schedule {
         self.due = Some(end + self.mutator_ticks);
     }
 
-    /// Adds ticks to the clock. Where that would pass its limit nothing changes.
+    /// Adds ticks to the clock. If that would pass its limit, it returns ClockSpent and nothing changes.
     pub fn advance(&mut self, ticks: u64) -> Result<(), ClockSpent>
         ensures spent { IsErr result ↔ (CLOCK_LIMIT < self.old.clock + ticks) }
         ensures ok { OnOk result (self.new ≡ record self.old { clock = self.old.clock + ticks }) }

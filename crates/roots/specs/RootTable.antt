@@ -3,16 +3,15 @@ use Rattle.std.specs.Prelude.{◌≡◌, ℕ, ◌<◌, ◌≤◌, ◌^◌, List,
 use Rattle.graph_heap.specs.declared.command.Limits.{Limits}
 use Rattle.graph_heap.specs.Graph.{root_cells}
 
--- Slot s of mutator m stands at m * slots + s, and the statics stand after the slots. A cell holds
--- a reference: the address of a block plus one, or 0 for null. Mutator m is live where the row `live`
--- says so.
+-- Slot s of mutator m stands at m * slots + s, and the statics stand after the slots. A cell holds a reference: the
+-- address of a block plus one, or 0 for null. Mutator m is live if the row `live` says so.
 pub record RootTable : Type 0 where
   pub limits : Limits
   pub cells : List ℕ
   pub live : List Bool
 
--- what a row of roots keeps: it has its length, the limit of identities is one that a word can hold, and each mutator
--- is live or not
+-- the invariant of a row of roots: it has its length; the limit of identities fits in a word; and each mutator is live
+-- or not
 pub record IsRootTable (r : RootTable) : Type 0 where
   pub whole : length r.cells ≡ root_cells r.limits
   pub few : root_cells r.limits ≤ 16640

@@ -31,7 +31,7 @@ impl Model for Roots {
 }
 
 impl Roots {
-    /// Null roots, where the first `live` mutators are live. Refused only for lack of memory.
+    /// Makes null roots, with the first `live` mutators live. Refused only for lack of memory.
     pub fn new(alloc: Global, config: &Config) -> Result<Roots, NoMemory>
         ensures limits { IfOk result (λ r. r.limits ≡ limits_of config.now) }
         ensures cells { IfOk result (λ r. r.cells ≡ replicate (root_cells r.limits) 0) }
@@ -47,7 +47,7 @@ impl Roots {
         })
     }
 
-    /// What bounds the commands.
+    /// Returns the limits of the commands.
     pub fn limits(&self) -> Limits
         ensures limits { result ≡ self.now.limits }
         ensures identities { result.identities < 2 ^ 63 }
@@ -55,8 +55,8 @@ impl Roots {
         self.limits
     }
 
-    /// Whether a mutator may ask: for Join (`joins`) it has to be one that isn't live, and for all else
-    /// one that is. Refused: BadSlot where there is no such mutator, NotLive, AlreadyLive, in this order.
+    /// Tests whether a mutator may give a command: Join (`joins`) is for a mutator that isn't live, all others are for
+    /// one that is. Refusals: BadSlot if there is no such mutator, then NotLive, AlreadyLive.
     #[inline(always)]
     pub fn admit(&self, mutator: u32, joins: bool) -> Result<(), Refusal>
         ensures admitted { result ≡ admitted_to self.now.limits self.now.live mutator joins }
@@ -73,7 +73,7 @@ impl Roots {
         set_live(self.live.as_mut_slice(), mutator, live);
     }
 
-    /// Where a slot of a mutator stands.
+    /// Returns the place of a slot of a mutator in the row, or BadSlot.
     #[inline(always)]
     pub fn slot(&self, mutator: u32, slot: u32) -> Result<usize, Refusal>
         ensures place { result ≡ slot_at self.now.limits mutator slot }
@@ -86,7 +86,7 @@ impl Roots {
         }
     }
 
-    /// Where a static stands.
+    /// Returns the place of a static in the row, or BadStatic.
     #[inline(always)]
     pub fn static_cell(&self, k: u32) -> Result<usize, Refusal>
         ensures place { result ≡ static_at self.now.limits k }
@@ -100,7 +100,7 @@ impl Roots {
         }
     }
 
-    /// What a cell holds.
+    /// Returns the reference in a cell.
     #[inline(always)]
     pub fn get(&self, cell: usize) -> u64
         requires { cell < length self.now.cells }

@@ -17,7 +17,7 @@ use Rattle.nodes.proofs.Linking.{linked_listed}
 use Rattle.nodes.proofs.Sorting.{inserted_between, contains-inserted}
 use Rattle.satb_barrier.proofs.Listing.{are_grey_by}
 
--- what is asked of a heap for a record
+-- the conditions on a heap for a record
 abbrev pub IsReady : Store → GreySet → Type 0
 IsReady s g = (contains (grey_in s g) 0 ≡ false) × Once (grey_in s g) × ((x : ℕ) → contains (grey_in s g) x ≡ true → is_allocated s (x - 1) ≡ true) × AreLinked s g
 

@@ -45,9 +45,9 @@ pub fn shade(heap: &mut HeapFields, reference: u64)
     push_grey(heap, reference);
 }
 
-/// What a command of a mutator overwrites, in a phase that records: its main copy is shaded (Yuasa,
-/// 1990), and goes into the mutator's buffer, whose 64 records went into the list if it was full. In
-/// other phases nothing is done.
+/// Records a reference that a command of a mutator overwrites, in a phase that records: its main copy is shaded (Yuasa,
+/// 1990) and goes into the mutator's buffer. If the buffer was full, its 64 records went into the list first. In other
+/// phases nothing is done.
 #[inline(always)]
 pub fn record(heap: &mut HeapFields, mutator: u32, reference: u64)
     requires heap { AreHeapFields heap.old }

@@ -1,12 +1,12 @@
--- What an object needs of a class, as four numbers.
+-- The need of an object in a class, as four numbers.
 use Rattle.std.proofs.Common.{◌≡◌, ◌<◌, ◌≤◌, ◌+◌, ◌-◌, ◌*◌, ℕ, suc, zero, Bool, true, false, min, arith, ap, sym, ◌∙◌, refl, nat_lt, if◌then◌else◌}
 use Rattle.size_classes.specs.Parts.{pieces_of, spines_of, parts_in, part_words, count_by}
 use Rattle.size_classes.specs.Need.{blocks_needed, is_class, counts_at}
 use Rattle.size_classes.specs.Sizes.{class_for}
 use Rattle.size_classes.proofs.Cutting.{Pieces, Spines, pieces_are, spines_are}
 
--- Without going through the parts: all pieces but the last and all middle spines but the last have 256
--- words; the last piece, part 0 and the last middle spine are looked at one by one.
+-- The need without going through the parts: all pieces and middle spines have 256 words, except the last of each kind.
+-- The last piece, part 0 and the last middle spine are looked at one by one.
 abbrev blocks_in_all : ℕ → ℕ → ℕ
 blocks_in_all n class =
     (pieces_of n - 1 + (spines_of n - 2)) * counts_at 256 class + counts_at (part_words n (spines_of n + pieces_of n - 1)) class

@@ -20,7 +20,7 @@ one_spine = (refl, refl, refl, refl)
 largest_of_one_spine : parts_in 63504 ≡ 253
 largest_of_one_spine = refl
 
--- of two spines under a root spine, and of 63
+-- two spines under a root spine, and 63
 two_spines : (parts_in 63505 ≡ 256) × (part_words 63505 0 ≡ 6) × (part_words 63505 1 ≡ 256) × (part_words 63505 2 ≡ 5) × (part_words 63505 254 ≡ 256) × (part_words 63505 255 ≡ 5)
 two_spines = (refl, refl, refl, refl, refl, refl)
 

@@ -1,15 +1,15 @@
--- What a cycle of the collector costs at most, by the numbers of root cells and pages, of pages that it may empty, and of the
--- units of a quantum.
+-- The most units and quanta that a cycle takes, by the numbers of root cells and pages, of pages that it may empty, and
+-- of the units of a quantum.
 use Rattle.std.specs.Prelude.{ℕ, ◌+◌, ◌-◌, ◌*◌, ◌/◌}
 use Rattle.size_classes.specs.declared.class.TheConstants.{CLASSES, MOST_BLOCKS, PAGE_WORDS}
 
--- the units of a whole cycle: each root cell, three times the words of the pages, and a look at every page for each class and
--- each page that may be emptied
+-- the most units of a whole cycle: one for each root cell; three for each word of the pages; for each page one for each
+-- class, one for each page that may be emptied; and four
 abbrev pub cycle_units : ℕ → ℕ → ℕ → ℕ
 cycle_units roots pages emptied = roots + 3 * (PAGE_WORDS * pages) + (emptied + CLASSES) * pages + 4
 
--- the units of roots, marking and sweeping, where marking spends so many: one for each root cell; for each page as many as one
--- of the smallest class has blocks, and one; as many blocks once more, and four where phases change
+-- the most units of roots, marking and sweeping, if marking spends `marking`: one for each root cell; for each page as
+-- many as one of the smallest class has blocks, and one; as many blocks once more, and four where phases change
 abbrev pub sweep_units : ℕ → ℕ → ℕ → ℕ
 sweep_units roots pages marking = roots + marking + (MOST_BLOCKS + 1) * pages + (MOST_BLOCKS + 4)
 
@@ -21,15 +21,18 @@ swept_units roots pages = sweep_units roots pages (PAGE_WORDS * pages)
 abbrev pub moving_units : ℕ → ℕ → ℕ
 moving_units pages emptied = (emptied + CLASSES) * pages + PAGE_WORDS * pages + 1
 
--- The quanta of budgets of at least k that spend so many units. A quantum may leave a part of its budget, 255 units at most.
+-- The most quanta of a phase that spends this many units, with budgets of at least k. A quantum may leave a part of its
+-- budget, at most 255 units.
 abbrev pub quanta_for : ℕ → ℕ → ℕ
 quanta_for units k = units / (k - 255) + 1
 
--- the quanta of budgets of at least k of a cycle that moves: only one that ends in moving may leave a part of its budget
+-- the most quanta of a cycle that moves, with budgets of at least k: only quanta of moving may leave a part of their
+-- budget
 abbrev pub moved_quanta : ℕ → ℕ → ℕ → ℕ → ℕ
 moved_quanta roots pages emptied k =
     (swept_units roots pages + moving_units pages emptied + 255 * quanta_for (moving_units pages emptied) k) / k + 1
 
--- the quanta of budgets of at least k of a cycle that doesn't move: each action costs one unit, so that a quantum spends all
+-- the most quanta of a cycle that doesn't move, with budgets of at least k: each action costs one unit, so a quantum
+-- spends all
 abbrev pub unmoved_quanta : ℕ → ℕ → ℕ → ℕ
 unmoved_quanta roots pages k = swept_units roots pages / k + 1

@@ -25,14 +25,13 @@ abbrev pub most_pages : Ranges → ℕ
 most_pages File = MOST_PAGES
 most_pages Library = MOST_HEAP_PAGES
 
--- what may be said of a key: the range, and the value where a file doesn't name the key (None where
--- it has to)
+-- the row of a key: its range, and its default if a file doesn't name it (None if it must)
 pub record KeyRange : Type 0 where
   pub least : ℕ
   pub greatest : ℤ
   pub default : Option ℤ
 
--- the row of a key, where there is this number of mutators
+-- the row of a key, if there is this number of mutators
 abbrev pub row_of : Ranges → ℤ → Key → KeyRange
 row_of ranges mutators Pages = record { least = 1; greatest = pos (most_pages ranges); default = None }
 row_of ranges mutators Mutators = record { least = 1; greatest = pos 64; default = None }

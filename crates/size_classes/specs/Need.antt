@@ -19,6 +19,6 @@ blocks_needed cells (suc parts) class =
 abbrev pub needed : Shape → ℕ → ℕ
 needed shape class = blocks_needed (cells_of shape) (parts_in (cells_of shape)) class
 
--- 1 where a block of this many words is of a class, else 0
+-- 1 if a block of this many words is of a class, else 0
 abbrev pub counts_at : ℕ → ℕ → ℕ
 counts_at words class = if is_class class (class_for words) then 1 else 0

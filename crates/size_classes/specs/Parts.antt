@@ -1,7 +1,7 @@
--- The parts of an object. Each part holds a run: a piece holds cells of the object, 252 at most, and a
--- spine refers to parts of it. The spines stand first. An object of at most 252 cells is one piece; up to
--- 252 * 252 cells part 0 is the only spine and refers to all pieces; above, part 0 is the root spine and
--- refers to middle spines, and each of these to 252 pieces, the last to the rest.
+-- The parts of an object. Each part holds a run: a piece holds at most 252 cells of the object, a spine refers to
+-- parts. The spines stand first. An object of at most 252 cells is one piece. Up to 252 * 252 cells, part 0 is the only
+-- spine and refers to all pieces. Above, part 0 is the root spine and refers to middle spines; each middle spine refers
+-- to 252 pieces, the last to the rest.
 use Rattle.std.specs.Prelude.{ℕ, ◌+◌, ◌-◌, ◌*◌, ◌/◌, ◌%◌, Bool, min, max, nat_lt, nat_le, ◌==◌, if◌then◌else◌}
 use Rattle.graph_heap.specs.declared.command.Shape.{Shape}
 use Rattle.size_classes.specs.declared.parts.TheConstants.{PART_CELLS}
@@ -15,7 +15,7 @@ cells_of shape = ref_cells shape + word_cells shape
 abbrev pub pieces_of : ℕ → ℕ
 pieces_of n = max 1 ((n + (PART_CELLS - 1)) / PART_CELLS)
 
--- how many spines: the one place where the form is decided
+-- how many spines an object has: only here the form is decided
 abbrev pub spines_of : ℕ → ℕ
 spines_of n = if nat_le n PART_CELLS then 0 else if nat_le n (PART_CELLS * PART_CELLS) then 1
     else (pieces_of n + (PART_CELLS - 1)) / PART_CELLS + 1
@@ -24,7 +24,7 @@ spines_of n = if nat_le n PART_CELLS then 0 else if nat_le n (PART_CELLS * PART_
 abbrev pub parts_in : ℕ → ℕ
 parts_in n = spines_of n + pieces_of n
 
--- what a part holds: `count` parts from part `first` on, or as many cells from cell `first` on
+-- the run of a part: `count` parts from part `first` on, or as many cells from cell `first` on
 pub record PartContents : Type 0 where
   pub spine : Bool
   pub first : ℕ
@@ -45,7 +45,7 @@ count_by n k s part = if nat_lt part s
     then (if part == 0 then heads_by k s else min PART_CELLS (k - PART_CELLS * (part - 1)))
     else min PART_CELLS (n - PART_CELLS * (part - s))
 
--- what a part of an object with n cells holds
+-- the run of a part of an object with n cells
 abbrev pub run_of : ℕ → ℕ → PartContents
 run_of n part = record {
   spine = nat_lt part (spines_of n);
@@ -81,6 +81,6 @@ spine_cell_by k s part = if nat_le part (heads_by k s) then part - 1 else (part 
 abbrev pub spine_of : ℕ → ℕ → ℕ
 spine_of n part = spine_by (pieces_of n) (spines_of n) part
 
--- in which cell of that spine
+-- the cell of that spine that refers to the part
 abbrev pub spine_cell_of : ℕ → ℕ → ℕ
 spine_cell_of n part = spine_cell_by (pieces_of n) (spines_of n) part

@@ -23,12 +23,12 @@ pub enum Key {
     Live,
 }
 
-/// What may be said of a key.
+/// The range of a key, and its default.
 #[derive(Clone, Copy)]
 pub struct KeyRange {
     pub least: i64,
     pub greatest: i64,
-    /// Its value in a file that doesn't name it, or None where a file has to.
+    /// Its value in a file that doesn't name it, or None if a file has to.
     pub default: Option<i64>,
 }
 
@@ -79,7 +79,7 @@ impl Key {
         }
     }
 
-    /// What may be said of it, where there are this many mutators.
+    /// Returns the range and the default of the key, with this many mutators.
     pub fn row(self, ranges: Ranges, mutators: i64) -> KeyRange
         ensures least { result.least ≡ pos (row_of ranges mutators self).least }
         ensures greatest { result.greatest ≡ (row_of ranges mutators self).greatest }
@@ -103,7 +103,7 @@ impl Key {
         }
     }
 
-    /// Whether a value is in its range, where there are this many mutators.
+    /// Whether a value is in its range, if there are this many mutators.
     #[tactic(auto, unfolding(crate::specs::Keys::is_between))]
     pub fn allows(self, ranges: Ranges, mutators: i64, value: i64) -> bool
         ensures { result ≡ is_allowed ranges mutators self value }

@@ -24,7 +24,7 @@ impl Model for Need {
 }
 
 impl Need {
-    /// No block.
+    /// Returns the need of no block.
     fn none() -> Need
         ensures { result ≡ replicate CLASSES 0 }
     {
@@ -44,8 +44,8 @@ impl Need {
         self.blocks[class.number()] += count;
     }
 
-    /// What the parts of an object need, one block for each: all pieces but the last and all middle
-    /// spines but the last have 256 words.
+    /// Returns the need of the parts of an object, one block for each. All pieces and middle spines have 256 words,
+    /// except the last of each kind.
     pub fn from_parts(parts: &Parts) -> Need
         ensures { (class : ℕ) → class < CLASSES
             → slice_index result class ≡ blocks_needed parts.now (parts_in parts.now) class }

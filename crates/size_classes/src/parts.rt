@@ -29,8 +29,8 @@ pub fn spines_in(cells: usize) -> usize
     }
 }
 
-/// What a part holds: references to `count` parts from part `first` on, or as many cells of the object
-/// from cell `first` on.
+/// The run of a part: references to `count` parts from part `first` on, or as many cells of the object from cell
+/// `first` on.
 #[derive(Clone, Copy, Debug, PartialEq, Eq)]
 pub struct PartContents {
     pub spine: bool,
@@ -39,7 +39,7 @@ pub struct PartContents {
 }
 
 impl PartContents {
-    /// What a part of an object with this many cells holds.
+    /// Returns the run of a part of an object with this many cells.
     pub fn of_part(cells: usize, part: u32) -> PartContents
         requires few { cells < 2 ^ 34 }
         ensures spine { result.spine ≡ (run_of cells part).spine }
@@ -82,8 +82,8 @@ pub struct Position {
 }
 
 impl Position {
-    /// The cell that refers to a part other than part 0, of an object with this many cells: a middle spine is
-    /// referred to by the root spine, in order.
+    /// Returns the cell that refers to a part other than part 0, of an object with this many cells. The root spine
+    /// refers to the middle spines, in order.
     pub fn of_part(cells: usize, part: u32) -> Position
         requires few { cells ≤ ARRAY_CELLS }
         requires some { 0 < part }
@@ -108,9 +108,9 @@ impl Position {
     }
 }
 
-/// The parts that an object is cut into: pieces of 252 cells, the last with the rest, and before them
-/// the spines, which refer to parts (arraylets, as in Bacon, Cheng and Rajan's collector of 2003).
-/// Contracts see them as the number of the object's cells.
+/// The parts into which an object is cut: pieces of 252 cells, the last with the rest, and before them the spines,
+/// which refer to parts (arraylets, as in Bacon, Cheng and Rajan's collector of 2003). Contracts see them as the number
+/// of the object's cells.
 #[derive(Clone, Copy, Debug, PartialEq, Eq)]
 pub struct Parts {
     cells: u32,
@@ -182,7 +182,7 @@ impl Parts {
     }
 }
 
-/// The parts of an object of a shape, or None where the shape is too large.
+/// The parts of an object of a shape, or None if the shape is too large.
 #[inline(always)]
 pub fn parts_of(shape: &Shape) -> Option<Parts>
     ensures none { IsNone result ↔ (fits shape.now ≡ false) }

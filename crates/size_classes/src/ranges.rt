@@ -8,7 +8,7 @@ use crate::config::{MOST_HEAP_PAGES, MOST_PAGES};
 /// file; all other ranges are the same.
 #[derive(Clone, Copy, Debug, PartialEq, Eq)]
 pub enum Ranges {
-    /// A configuration file's.
+    /// The ranges of a configuration file.
     File,
     /// Those of a program that calls the library.
     Library,

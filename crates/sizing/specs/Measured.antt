@@ -1,4 +1,4 @@
--- What events needed at most.
+-- The most that events needed.
 use Rattle.std.specs.Prelude.{◌≡◌, ℕ, ◌*◌, ◌<◌, ◌≤◌, ◌^◌, ◌↔◌, min, slice_index, List, Option, Some, None, MatchOption}
 use Rattle.graph_heap.specs.declared.command.Limits.{Limits}
 use Rattle.size_classes.specs.declared.class.TheConstants.{CLASSES}
@@ -12,7 +12,7 @@ use Rattle.fragmentation.specs.Suffice.{WithinBlocks, WithinPages, pages_of, Pag
 use Rattle.sizing.specs.declared.needed.Needed.{Needed}
 use Rattle.sizing.specs.declared.measured.Measured.{Measured}
 
--- Events keep to a demand that is taken together: with some numbers of what is live where the cycles begin.
+-- Events keep to a joint demand: with some numbers of live blocks at the beginnings of cycles.
 abbrev pub KeepTogether : (ℕ → ℕ) → Limits → List Event → Type 0
 KeepTogether blocks l es = (live : Lives) × AllKeep (WithinBlocks blocks live) live (opening_season l) es
 
@@ -33,7 +33,7 @@ together_in n class = slice_index n.together class
 abbrev pub page_demand_in : Needed → PageDemand
 page_demand_in n = record { live = n.live; made = n.made }
 
--- Events keep to a demand taken together, within pages, and to a demand in pages, exactly where these are at least as
+-- Events keep to a demand taken together, within pages, and to a demand in pages, exactly if these are at least as
 -- large as what was needed.
 pub record AreLeast (l : Limits) (es : List Event) (n : Needed) : Type 0 where
   pub together : (blocks : ℕ → ℕ)
@@ -57,13 +57,13 @@ abbrev pub IsPaceWithin : Pace → Pace → Type 0
 IsPaceWithin p most = (class : ℕ) → class < CLASSES → (p.live class ≤ most.live class)
     × (p.busy class ≤ most.busy class) × (p.idle class ≤ most.idle class)
 
--- Events keep to a pace with quanta of at least k units exactly where the pace is at least this one, and the
+-- Events keep to a pace with quanta of at least k units exactly if the pace is at least this one, and the
 -- quanta have that many.
 abbrev pub IsLeastPace : Limits → List Event → Pace → Type 0
 IsLeastPace l es p = (most : Pace) (k : ℕ)
     → AllKeepPace most k (opening_beat l) es ↔ (IsPaceWithin p most × HaveBudgets k es)
 
--- each quantum has at least k units exactly where k is at most this
+-- each quantum has at least k units exactly if k is at most this
 abbrev pub IsLeastBudget : List Event → ℕ → Type 0
 IsLeastBudget es budget = (k : ℕ) → HaveBudgets k es ↔ (k ≤ budget)
 
@@ -72,8 +72,9 @@ abbrev pub IsPaceStated : Pace → Type 0
 IsPaceStated p = (class : ℕ) → class < CLASSES → (p.live class < 2 ^ 32) × (p.busy class < 2 ^ 64)
     × (p.idle class < 2 ^ 64)
 
--- What was measured of events: the least that they needed, or that no numbers that can be stated are as large; the
--- least pace to which they keep, or that no table states one; and the least budget of a quantum, or that there is none.
+-- The measurements of events: the least numbers that they needed, or that no numbers that can be stated are as large;
+-- the least pace to which they keep, or that no table states one; and the least budget of a quantum, or that there is
+-- none.
 pub record IsMeasured (l : Limits) (es : List Event) (m : Measured) : Type 0 where
   pub needed : MatchOption m.needed (CanBeStated l es → ⊥) (AreLeast l es)
   pub pace : MatchOption m.pace ((p : Pace) (k : ℕ) → IsPaceStated p → AllKeepPace p k (opening_beat l) es → ⊥)

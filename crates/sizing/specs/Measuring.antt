@@ -1,4 +1,4 @@
--- What it is to measure a trace.
+-- The outcome of measuring a trace.
 use Rattle.std.specs.Prelude.{◌<◌, Result, length}
 use Rattle.size_classes.specs.declared.config.Config.{Config}
 use Rattle.heap_model.specs.Opening.{IsOpening}

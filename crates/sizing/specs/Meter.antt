@@ -1,4 +1,4 @@
--- What a meter holds.
+-- The fields of a meter.
 use Rattle.std.specs.Prelude.{◌≡◌, ℕ, ◌+◌, ◌<◌, ◌≤◌, ◌↔◌, true, false, List, [], ◌∷◌, length, min, max, slice_index, IfSome}
 use Rattle.size_classes.specs.declared.class.TheConstants.{CLASSES}
 use Rattle.graph_heap.specs.declared.command.Limits.{Limits}
@@ -14,11 +14,11 @@ use Rattle.sizing.specs.Counts.{MOST, AreBlocks, IsPages}
 use Rattle.sizing.specs.Season.{AddsBlocks, AsksMost}
 use Rattle.sizing.specs.Measured.{IsLeastPace}
 
--- nothing is live where a cycle begins
+-- nothing is live when a cycle begins
 abbrev pub none_live : Lives
 none_live n class = 0
 
--- the season after events, where cycles begin with this much live
+-- the season after events, when cycles begin with this much live
 abbrev pub season_at : Lives → Season → List Event → Season
 season_at live s [] = s
 season_at live s (e ∷ es) = season_at live (season_after live s e) es
@@ -32,7 +32,7 @@ beat_after b (e ∷ es) = beat_after (next_beat b e) es
 abbrev pub AllFit : Graph → Type 0
 AllFit g = (id : ℕ) → fits (object_of g.objects id).shape ≡ true
 
--- these blocks are asked for
+-- these blocks are requested
 pub record Asks (asked : List ℕ) (old new : Meter) : Type 0 where
   pub graph : new.graph ≡ old.graph
   pub cycle_running : new.cycle_running ≡ old.cycle_running
@@ -76,7 +76,7 @@ pub record Holds (s : Season) (b : Beat) (m : Meter) : Type 0 where
   pub swept : AreBlocks m.season.since_swept (made_since s.swept s)
   pub asked : AreBlocks m.asked b.asked
 
--- the meter holds what the events needed at most at their pace
+-- the meter has the most that the events needed at their pace
 pub record Needs (l : Limits) (es : List Event) (m : Meter) : Type 0 where
   pub pace : Pace
   pub paces : IsLeastPace l es pace
@@ -89,12 +89,12 @@ pub record Needs (l : Limits) (es : List Event) (m : Meter) : Type 0 where
 abbrev pub AgreeTo : ℕ → Lives → Lives → Type 0
 AgreeTo cycles lives live = (n : ℕ) → n ≤ cycles → live n ≡ lives n
 
--- no bound
+-- there is no bound
 abbrev pub Anything : Season → (ℕ → ℕ) → Type 0
 Anything s asked = Unit {0}
 
--- What was live where the cycles of events began, and what was needed before the last sweep ended: whatever else may be
--- said to be live is no less.
+-- The live blocks when the cycles of events began, and the need before the last sweep ended: any other numbers that
+-- hold are no less.
 pub record Lived (l : Limits) (es : List Event) (lives : Lives) (before : ℕ → ℕ) : Type 0 where
   pub least : (live : Lives) → AllKeep Anything live (opening_season l) es
       → (n class : ℕ) → class < CLASSES → lives n class ≤ live n class
@@ -103,7 +103,7 @@ pub record Lived (l : Limits) (es : List Event) (lives : Lives) (before : ℕ �
   pub exact : (live : Lives) → AgreeTo (season_at none_live (opening_season l) es).cycles lives live
       → (class : ℕ) → class < CLASSES → (season_at live (opening_season l) es).before class ≡ before class
 
--- Events keep to a bound, with what was live or more, where a number is at least another; and else with nothing.
+-- Events keep to a bound, with the live blocks or more, if a number is at least another; and else with none.
 pub record IsLeastOf
     (Q : Type 0) (Within : Q → Lives → Season → (ℕ → ℕ) → Type 0) (Least : Q → Type 0)
     (l : Limits) (es : List Event) (lives : Lives) : Type 0 where
@@ -136,7 +136,7 @@ pub record Shifts (l : Limits) (es : List Event) (m : Meter) : Type 0 where
   pub live_most : (n : ℕ) → pages_of (lives n) ≤ live
   pub live_counted : IsPages m.most.live live
 
--- What a meter holds once these events have led to a course.
+-- The fields of a meter once these events have led to a course.
 pub record Measures (l : Limits) (es : List Event) (r : Course) (m : Meter) : Type 0 where
   pub are : AreOf (season_at none_live (opening_season l) es) (beat_after (opening_beat l) es) r
   pub holds : Holds (season_at none_live (opening_season l) es) (beat_after (opening_beat l) es) m
@@ -149,7 +149,7 @@ AreQuanta budget [] = Unit {0}
 AreQuanta budget (Quantum_done units_allowed units phase ∷ es) = (units_allowed ≡ budget) × AreQuanta budget es
 AreQuanta budget (e ∷ es) = ⊥
 
--- quanta of a budget, one at least, lead from a course to another
+-- one or more quanta of a budget lead from a course to another
 pub record Works (budget : ℕ) (quanta : List Event) (r new : Course) : Type 0 where
   pub each : AreQuanta budget quanta
   pub some : 0 < length quanta

@@ -1,4 +1,4 @@
--- What it means that pages suffice.
+-- The meaning of "pages suffice".
 use Rattle.std.specs.Prelude.{◌≡◌, ◌≤◌, List, Some}
 use Rattle.graph_heap.specs.declared.command.Limits.{Limits}
 use Rattle.size_classes.specs.declared.config.Config.{Config}
@@ -28,9 +28,9 @@ EachFindsRoom config Keeps = (h : HeapState) (es : List Event) (new : Course) �
 abbrev pub NeedNoMore : Needed → Limits → List Event → Type 0
 NeedNoMore n l es = KeepTogether (together_in n) l es × KeepGathered n.gathered l es
 
--- For which runs these numbers of pages suffice, on any configuration that has them: where blocks are never moved, and
--- with moving as it is configured, for those that need no more blocks of any class; where moving follows each sweep
--- and may empty all pages, for those that need no more pages so; and for those that keep to the demand in pages.
+-- The runs for which these numbers of pages suffice, on any configuration that has them. If blocks are never moved, or
+-- with moving as it is configured: those that need no more blocks of any class. If moving follows each sweep and may
+-- empty all pages: those that need no more pages in this way, and those that keep to the demand in pages.
 pub record Suffices (n : Needed) : Type 0 where
   pub still : (c : Config) → c.defrag_below ≡ 0 → still_pages n ≤ c.pages
       → EachFindsRoom c (KeepTogether (together_in n))
@@ -39,9 +39,9 @@ pub record Suffices (n : Needed) : Type 0 where
   pub page_demand : (c : Config) → MovesAll c → demand_pages (page_demand_in n) ≤ c.pages
       → EachFindsRoom c (KeepPageDemand (page_demand_in n))
 
--- What is promised of a run with these events, of which this was measured, on a new heap of a configuration. Where the
--- pages are as many as it must have, no reply of this run is the refusal for lack of space, nor is one of any run that
--- needs no more; the same of the pace, with quanta of no fewer units than any had; and the numbers of pages suffice on
+-- The promise for a run with these events and measurements, on a new heap of a configuration. If the configuration has
+-- the pages that it must have, no reply of this run is the refusal for lack of space, nor is one of any run that needs
+-- no more. The same holds of the pace, with quanta of no fewer units than any had. And the numbers of pages suffice on
 -- other configurations.
 pub record Promises (config : Config) (es : List Event) (m : Measured) : Type 0 where
   pub needed : (n : Needed) → m.needed ≡ Some n → needed_pages config n ≤ config.pages

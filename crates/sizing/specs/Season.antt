@@ -1,4 +1,4 @@
--- What is counted from one cycle to the next.
+-- The counts from one cycle to the next.
 use Rattle.std.specs.Prelude.{◌≡◌, ℕ, ◌+◌, ◌<◌, ◌≤◌, ◌⊎◌, true, false, List, min, max, slice_index}
 use Rattle.size_classes.specs.declared.class.TheConstants.{CLASSES}
 use Rattle.heap_model.specs.Pages.{whole_pages}
@@ -54,8 +54,8 @@ pub record IsNothing (m : Most) : Type 0 where
   pub live : m.live ≡ 0
   pub made : m.made ≡ 0
 
--- These blocks are asked for: what is needed at most is no less than what is needed now, of each class together, in
--- pages where each cycle gathers every class, and in pages of what is made.
+-- These blocks are requested: the greatest need is no less than the need now, of each class together, in pages if each
+-- cycle gathers every class, and in pages of made objects.
 pub record AsksMost (s : Season) (asked : List ℕ) (old new : Most) : Type 0 where
   pub together : (most live made more : ℕ → ℕ) → AreBlocks old.together most → AreBlocks s.live_base live
       → AreBlocks s.since_base made → AreBlocks asked more
@@ -67,7 +67,7 @@ pub record AsksMost (s : Season) (asked : List ℕ) (old new : Most) : Type 0 wh
       → IsPages new.made (max most (pages_of (λ class. made class + more class)))
   pub live : new.live ≡ old.live
 
--- This many blocks are live where a cycle begins: the most pages of live objects are what they were, or those that
+-- This many blocks are live when a cycle begins: the most pages of live objects are what they were, or those that
 -- these take, if they are more.
 pub record LivesMost (live : List ℕ) (old new : Most) : Type 0 where
   pub same : new ≡ record old { live = new.live }

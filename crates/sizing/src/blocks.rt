@@ -10,14 +10,14 @@ use size_classes::{CLASSES, Class, Need, parts_of};
 /// How many blocks of each class. A count stops at the greatest that can be represented.
 pub type Blocks = [u128; CLASSES];
 
-/// No block.
+/// Returns no block of any class.
 pub fn none() -> Blocks
     ensures { AreBlocks result (λ class. 0) }
 {
     [0; CLASSES]
 }
 
-/// The blocks that an object of a shape needs; none where the shape is too large.
+/// The blocks that an object of a shape needs; none if the shape is too large.
 pub fn needed_by(shape: &Shape) -> Blocks
     ensures { fits shape.now ≡ true → AreBlocks result (needed shape.now) }
 {
@@ -51,7 +51,7 @@ pub fn raise(blocks: &mut Blocks, least: &Blocks)
     }
 }
 
-/// The same as a table, or None where a count is more than a table can hold.
+/// The same as a table, or None if a count is more than a table can hold.
 pub fn table(blocks: &Blocks) -> Option<[u64; CLASSES]>
     ensures some { IfSome result (λ t. IsTable (2 ^ 64) t blocks.now) }
     ensures none { IsNone result → HasOver (2 ^ 64) blocks.now }

@@ -1,5 +1,5 @@
-//! What a trace needs of each size class: it is played on a new heap, while the graph heap is marked where each
-//! cycle begins, and what is asked for is counted.
+//! The need of a trace in each size class: it is played on a new heap. The graph heap is marked when each cycle begins,
+//! and the blocks that are requested are counted.
 #![tactic(auto)]
 
 pub mod blocks;

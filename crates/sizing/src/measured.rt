@@ -1,4 +1,4 @@
-//! What was measured.
+//! The measurements of a run.
 ghost use Rattle.std.specs.Prelude.{◌≤◌, IfSome};
 ghost use Rattle.std.proofs.Props.{props};
 ghost use Rattle.size_classes.specs.declared.config.TheConstants.{LEAST_BUDGET};
@@ -7,14 +7,15 @@ use crate::needed::Needed;
 use size_classes::Config;
 use space::Pace;
 
-/// What a run needed: in blocks and pages, the least pace to which it keeps, and the least budget of a quantum.
+/// The measurements of a run: its need in blocks and pages, the least pace to which it keeps, and the least budget of a
+/// quantum.
 #[derive(Clone, Copy, Debug, PartialEq, Eq)]
 pub struct Measured {
-    /// None where some number is more than can be stated.
+    /// None if some number is more than can be stated.
     pub needed: Option<Needed>,
-    /// None where some class needed more blocks than a pace can state.
+    /// None if some class needed more blocks than a pace can state.
     pub pace: Option<Pace>,
-    /// In units. None where no quantum was done.
+    /// The least budget of a quantum, in units. None if no quantum was done.
     pub budget: Option<u32>,
     ghost budget_in_range: { IfSome budget (λ least. LEAST_BUDGET ≤ least) } by { Prim.hlevel props },
 }
@@ -24,7 +25,7 @@ impl Measured {
     ghost use Rattle.size_classes.specs.declared.config.TheConstants.{MOST_BUDGET};
     ghost use Rattle.sizing.specs.Measured.{least_units, HasUnits};
 
-    /// The units that each quantum of the run, and each of a configuration's schedule, has at least.
+    /// Returns the least units of any quantum of the run and of a configuration's schedule.
     fn units(&self, config: &Config) -> u32
         ensures units { result ≡ least_units config.now self.now.budget }
         ensures within { (LEAST_BUDGET ≤ result) × (result ≤ MOST_BUDGET) }
@@ -35,8 +36,8 @@ impl Measured {
         }
     }
 
-    /// A configuration that differs from the given one in its schedule alone: that gives a quantum just as many units
-    /// as each quantum of the run, and each of the given schedule, has at least.
+    /// Returns a configuration that differs from the given one only in its schedule: a quantum has the least units of
+    /// any quantum of the run, or the given schedule's if these are fewer.
     pub fn slowest(&self, config: &Config) -> Config
         ensures { HasUnits config.now (least_units config.now self.now.budget) result }
     {

@@ -1,4 +1,4 @@
-//! What events add up to, and what they needed at most.
+//! The sums of events, and the most that they needed.
 ghost use Rattle.std.specs.Prelude.{◌≡◌, ◌<◌, ◌≤◌, ◌^◌, ◌↔◌, ◌⊎◌, ℕ, true, false, List, [], ◌∷◌, ◌++◌, length, IfOk, OnOk, IfSome, IsNone, IsTrue};
 ghost use Rattle.graph_heap.specs.declared.command.Limits.{Limits as Bounds};
 ghost use Rattle.graph_heap.specs.Graph.{root_cells};
@@ -27,14 +27,14 @@ use heap_model::phase::Phase;
 use space::Pace;
 use std::alloc::Global;
 
-/// The graph heap to which events lead, what their objects need, and what the events needed at most so far.
+/// The graph heap to which events lead, the blocks that its objects need, and the most that the events needed so far.
 #[derive(Drop)]
 pub struct Meter {
     graph: Reference,
     /// Whether a cycle is running.
     cycle_running: bool,
     season: Season,
-    /// What was asked for since the last beginning, or quantum of a cycle.
+    /// The blocks requested since the last beginning, or quantum of a cycle.
     asked: Blocks,
     live: Blocks,
     busy: Blocks,
@@ -66,7 +66,7 @@ fn least_of(least: Option<u32>, budget: u32) -> u32
 }
 
 impl Meter {
-    /// Before the first event.
+    /// Makes the meter before the first event.
     pub(crate) fn new(alloc: Global, limits: &Limits) -> Result<Meter, NoMemory>
         ensures { IfOk result (λ m. (h : HeapState) → IsOpening h → h.limits ≡ limits.now
             → Measures h.limits [] (opened h) m) }
@@ -92,7 +92,7 @@ impl Meter {
         self.cycle_running
     }
 
-    /// Notes that these blocks are asked for.
+    /// Counts these blocks as requested.
     fn ask(&mut self, asked: &Blocks)
         ensures { Asks asked.now self.old self.new }
     {
@@ -112,8 +112,8 @@ impl Meter {
         self.season.allocate(blocks);
     }
 
-    /// Does an entry on the graph heap. Answers whether an object was allocated, and the blocks for which the command
-    /// asks, where nothing but lack of space refuses it.
+    /// Does an entry on the graph heap. Returns whether an object was allocated, and the blocks that the command
+    /// requests, unless it is refused for another reason than lack of space.
     fn record(&mut self, entry: &Entry) -> Result<(bool, Blocks), NoMemory>
         ensures stepped { IsEntryOf self.old.graph entry.now
             → OnOk result (self.new ≡ record self.old { graph = after_entry self.old.graph entry.now }) }
@@ -169,7 +169,7 @@ impl Meter {
         Ok(())
     }
 
-    /// Quanta are done, which end in this phase: what was asked for is counted anew while a cycle runs.
+    /// Notes that quanta are done, which end in this phase: the requested blocks are counted anew while a cycle runs.
     fn beat(&mut self, phase: Phase)
         ensures same { self.new ≡ record self.old { cycle_running = self.new.cycle_running; asked = self.new.asked } }
         ensures on { self.old.cycle_running ≡ true → (self.new.cycle_running ≡ pace.in_cycle phase)
@@ -206,7 +206,7 @@ impl Meter {
         })
     }
 
-    /// What the events needed.
+    /// Returns the most that the events needed.
     pub(crate) fn measured(&self) -> Measured
         requires { IfSome self.now.budget (λ least. LEAST_BUDGET ≤ least) }
         ensures { (l : Bounds) (es : List Event) (r : Course) → Measures l es r self.now → IsMeasured l es result }

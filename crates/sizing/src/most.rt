@@ -1,4 +1,4 @@
-//! What events needed at most, together and in pages.
+//! The most that events needed, together and in pages.
 ghost use Rattle.std.specs.Prelude.{IfSome, IsNone};
 ghost use Rattle.sizing.specs.Season.{AsksMost, LivesMost, IsNothing, AreStated, CannotBeStated};
 
@@ -7,21 +7,22 @@ use crate::needed::Needed;
 use crate::page_counts::{pages_of, season_pages};
 use crate::season::Season;
 
-/// What events needed at most.
+/// The most that events needed.
 #[derive(Clone, Copy, Debug, PartialEq, Eq)]
 pub struct Most {
-    /// Of each class, what was live when that cycle began whose sweep ended last, is made since and asked for.
+    /// In each class, the blocks live when the cycle began whose sweep ended last, with those made since and those
+    /// requested.
     pub together: Blocks,
-    /// The pages that a season takes where each cycle gathers every class.
+    /// The pages that a season takes if each cycle gathers every class.
     pub gathered: u128,
-    /// The pages of live objects where a cycle begins.
+    /// The pages of live objects when a cycle begins.
     pub live: u128,
-    /// The pages of what is made from a cycle's beginning to the end of the next cycle's sweep.
+    /// The pages of objects made from a cycle's beginning to the end of the next cycle's sweep.
     pub made: u128,
 }
 
 impl Most {
-    /// Before the first event.
+    /// Makes the numbers before the first event: all are 0.
     pub fn new() -> Most
         ensures { IsNothing result }
     {
@@ -33,7 +34,7 @@ impl Most {
         }
     }
 
-    /// Notes that these blocks are asked for.
+    /// Counts these blocks as requested.
     pub fn ask(&mut self, season: &Season, asked: &Blocks)
         ensures { AsksMost season.now asked.now self.old self.new }
     {
@@ -47,7 +48,7 @@ impl Most {
         self.made = self.made.max(pages_of(&made));
     }
 
-    /// Notes that this many blocks are live where a cycle begins.
+    /// Counts this many blocks as live when a cycle begins.
     pub fn begin(&mut self, live: &Blocks)
         ensures { LivesMost live.now self.old self.new }
     {

@@ -1,4 +1,4 @@
-//! What a run needed in blocks and pages, and how many pages suffice for it.
+//! The need of a run in blocks and pages, and how many pages suffice for it.
 ghost use Rattle.std.specs.Prelude.{◌≡◌, ◌≤◌, ◌*◌};
 ghost use Rattle.size_classes.specs.declared.class.TheConstants.{CLASSES};
 ghost use Rattle.space.specs.declared.pages.TheConstants.{MOST_CLASS_PAGES};
@@ -11,17 +11,17 @@ use crate::page_counts::gathered_of;
 use size_classes::{CLASSES, Class, Config};
 use space::{below, pages_of_class, spare};
 
-/// What a run needed at most.
+/// The most that a run needed.
 #[derive(Clone, Copy, Debug, PartialEq, Eq)]
 pub struct Needed {
-    /// Of each size class, the blocks of what was live when that cycle began whose sweep ended last, is made since and
-    /// asked for, together.
+    /// In each size class, the blocks live when the cycle began whose sweep ended last, with those made since and those
+    /// requested.
     pub together: [u64; CLASSES],
-    /// The pages that it took where each cycle gathers every class.
+    /// The pages that it took if each cycle gathers every class.
     pub gathered: u64,
-    /// The pages of live objects where a cycle begins.
+    /// The pages of live objects when a cycle begins.
     pub live: u64,
-    /// The pages of what is made from a cycle's beginning to the end of the next cycle's sweep.
+    /// The pages of objects made from a cycle's beginning to the end of the next cycle's sweep.
     pub made: u64,
 }
 
@@ -33,7 +33,7 @@ fn moves_all(config: &Config) -> bool
 }
 
 impl Needed {
-    /// The pages that its blocks take together, where this many of each class may be left sparse.
+    /// Returns the pages that its blocks take together, if this many of each class may be left sparse.
     fn pages(&self, spare: u32) -> u128
         ensures pages { result ≡ pages_for (together_in self.now) spare CLASSES }
         ensures within { result ≤ CLASSES * MOST_CLASS_PAGES }
@@ -46,7 +46,7 @@ impl Needed {
         pages
     }
 
-    /// The pages that its blocks take together, with one of each class that may be left.
+    /// Returns the pages that its blocks take together, with one of each class that may be left.
     fn sparse(&self) -> u128
         ensures pages { result ≡ sparse_pages (together_in self.now) }
         ensures within { result ≤ CLASSES * MOST_CLASS_PAGES }
@@ -58,7 +58,7 @@ impl Needed {
         pages
     }
 
-    /// How many pages suffice where blocks are never moved.
+    /// Returns how many pages suffice if blocks are never moved.
     pub fn still(&self) -> u128
         ensures pages { result ≡ still_pages self.now }
         ensures within { result ≤ CLASSES * MOST_CLASS_PAGES }
@@ -66,7 +66,7 @@ impl Needed {
         self.pages(0)
     }
 
-    /// How many suffice with moving as a configuration has it.
+    /// Returns how many pages suffice with moving as a configuration has it.
     pub fn moved(&self, config: &Config) -> u128
         ensures { result ≡ moved_pages config.now self.now }
     {

@@ -22,7 +22,8 @@ pub fn whole_of(number: usize, blocks: u128) -> u128
     pages_of_class(Class::new(number as u8), blocks, 0)
 }
 
-/// The pages of a class whose blocks were gathered, for this many: one more where they fill a page, which may be left.
+/// The pages of a class whose blocks were gathered, for this many: one more if they fill a page, because one may be
+/// left.
 pub fn gathered_of(number: usize, blocks: u128) -> u128
     requires class { number < CLASSES }
     requires blocks { blocks ≤ MOST_BLOCKS }

@@ -1,4 +1,4 @@
-//! What objects need from one cycle to the next.
+//! The need of objects from one cycle to the next.
 ghost use Rattle.std.specs.Prelude.{◌≡◌, false, true};
 ghost use Rattle.heap_model.specs.Phases.{awaits_sweep_end};
 ghost use Rattle.sizing.specs.Counts.{AreNone};
@@ -7,27 +7,27 @@ ghost use Rattle.sizing.specs.Season.{AddsBlocks, IsBegun, IsSwept};
 use crate::blocks::{Blocks, add, none};
 use heap_model::phase::Phase;
 
-/// The blocks of each class that objects need: those live where a cycle began, and those allocated since.
+/// The blocks of each class that objects need: those live when a cycle began, and those allocated since.
 #[derive(Clone, Copy, Debug, PartialEq, Eq)]
 pub struct Season {
     /// Whether a cycle is running, and its sweep hasn't ended.
     pub awaiting_sweep_end: bool,
-    /// What was live when the last cycle began.
+    /// The blocks live when the last cycle began.
     pub live_last: Blocks,
-    /// What was live when that cycle began whose sweep ended last.
+    /// The blocks live when the cycle began whose sweep ended last.
     pub live_base: Blocks,
-    /// Of objects that were allocated since the last cycle began.
+    /// The blocks allocated since the last cycle began.
     pub since_last: Blocks,
-    /// Of those since that cycle began whose sweep ended last.
+    /// The blocks allocated since the cycle began whose sweep ended last.
     pub since_base: Blocks,
-    /// Of those since that sweep ended.
+    /// The blocks allocated since that sweep ended.
     pub since_swept: Blocks,
-    /// What was needed up to that sweep's end, since the cycle before began.
+    /// The blocks needed up to that sweep's end, since the cycle before began.
     pub before: Blocks,
 }
 
 impl Season {
-    /// Before the first event.
+    /// Makes the season before the first event.
     pub fn new() -> Season
         ensures awaiting_sweep_end { result.awaiting_sweep_end ≡ false }
         ensures live { AreNone result.live_last × AreNone result.live_base × AreNone result.before }
@@ -45,7 +45,7 @@ impl Season {
         }
     }
 
-    /// An object is allocated that needs these blocks.
+    /// Counts an object that needs these blocks as allocated.
     pub fn allocate(&mut self, blocks: &Blocks)
         ensures { AddsBlocks blocks.now self.old self.new }
     {
@@ -54,7 +54,7 @@ impl Season {
         add(&mut self.since_swept, blocks);
     }
 
-    /// A cycle is begun, while this many blocks are live.
+    /// Begins a cycle, while this many blocks are live.
     pub fn begin(&mut self, live: &Blocks)
         ensures { IsBegun live.now self.old self.new }
     {
@@ -75,7 +75,8 @@ impl Season {
         self.since_swept = none();
     }
 
-    /// Quanta are done, which end in this phase: where it awaits no sweep's end, the sweep of the last cycle has ended.
+    /// Notes that quanta are done, which end in this phase: if it awaits no sweep's end, the sweep of the last cycle
+    /// has ended.
     pub fn rest(&mut self, phase: Phase)
         ensures awaiting_sweep_end { awaits_sweep_end phase ≡ true → self.new ≡ self.old }
         ensures rested { self.old.awaiting_sweep_end ≡ false → self.new ≡ self.old }

@@ -1,4 +1,4 @@
--- No command but New asks for blocks, or is refused for lack of space.
+-- Only New requests blocks, and only New is refused for lack of space.
 use Rattle.std.specs.Prelude.{slice_index_or}
 use Rattle.std.proofs.Common.{◌≡◌, ℕ, ◌+◌, ◌-◌, ◌*◌, ◌≤◌, Bool, true, false, ◌&&◌, nat_lt, ◌==◌, if◌then◌else◌, List, [], ◌∷◌, length, slice_index, slice_get, Option, Some, None, Result, Ok, Err, ap, ◌∙◌, arith, refl}
 use Rattle.graph_heap.specs.declared.command.Shape.{Shape}

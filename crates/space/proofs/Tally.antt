@@ -127,8 +127,8 @@ module _ (h : HeapState) (g : Graph) (blocks : ℕ → ℕ) (spare : ℕ) (w : A
       (λ same. bounded_room h.store.pages blocks (needed shape) spare w b room (λ k l. (let a = asks k l in let e = same k in omega (arith, a, e))))
   command_has_room m _ asks = (tt, refl)
 
--- What is kept of a course and its tally: among the objects there were when the cycle began whose sweep ended
--- last, those with a main copy need no more than live ones may.
+-- The invariant of a course and its tally: among the objects that existed when the cycle began whose sweep ended last,
+-- those with a main copy need no more than live ones may.
 pub record IsTracked (r : Course) (t : Tally) (d : Demand) (spare : ℕ) : Type 0 where
   graph : t.graph ≡ present_of r
   last : t.last ≡ length (snapshot_of r).objects

@@ -1,4 +1,4 @@
--- How many blocks a program asks for.
+-- How many blocks a program requests.
 use Rattle.std.specs.Prelude.{◌≡◌, ℕ, ◌+◌, ◌<◌, ◌≤◌, true, List, sum_by}
 use Rattle.graph_heap.specs.declared.command.Command.{Command}
 use Rattle.graph_heap.specs.declared.command.Change.{Change}
@@ -10,13 +10,13 @@ use Rattle.size_classes.specs.Need.{needed}
 use Rattle.heap_model.specs.Collector.{contains}
 use Rattle.heap_model.specs.Event.{change_by}
 
--- Of each size class: how many blocks live objects need at most where a cycle begins, and how many the objects need
--- that are allocated from there, or from the start, up to the end of the next cycle's sweep, with the one asked for.
+-- For each size class: the most blocks that live objects need when a cycle begins; and the most blocks of the objects
+-- that are allocated from then, or from the start, to the end of the next cycle's sweep, with the one requested.
 pub record Demand : Type 0 where
   pub live : ℕ → ℕ
   pub allocated : ℕ → ℕ
 
--- both together
+-- the live and the allocated blocks of a class together
 abbrev pub blocks_for : Demand → ℕ → ℕ
 blocks_for d class = d.live class + d.allocated class
 
@@ -28,7 +28,7 @@ blocks_of objects class = sum_by (λ o. needed o.shape class) objects
 abbrev pub blocks_by : Graph → List ℕ → ℕ → ℕ
 blocks_by g ids class = sum_by (λ id. needed (object_of g.objects id).shape class) ids
 
--- What is live needs at most this many blocks of each class: whatever can be reached is among identities that
+-- Live objects need at most this many blocks of each class: every identity that can be reached is among identities that
 -- need no more.
 pub record LiveWithin (g : Graph) (most : ℕ → ℕ) : Type 0 where
   pub ids : List ℕ
@@ -40,6 +40,7 @@ abbrev pub asked_by : Change → ℕ → ℕ
 asked_by (changes.New cell id shape) class = needed shape class
 asked_by _ class = 0
 
--- the blocks of a class for which a command of mutator m asks, where nothing but lack of space refuses it
+-- the blocks of a class that a command of mutator m requests, unless it is refused for another reason than lack of
+-- space
 abbrev pub asked_for : Graph → ℕ → Command → ℕ → ℕ
 asked_for g m c = asked_by (change_by true g m c)

@@ -21,11 +21,11 @@ spare_in c = if c.defrag_below == 0 then 0 else c.defrag_pages
 abbrev pub Fits : Config → Demand → Type 0
 Fits c d = space_for d (spare_in c) ≤ c.pages
 
--- below how many free pages moving follows a sweep, in a heap of a configuration; 0 where no page may be emptied
+-- below how many free pages moving follows a sweep, in a heap of a configuration; 0 if no page may be emptied
 abbrev pub below_in : Config → ℕ
 below_in c = if c.defrag_pages == 0 then 0 else c.defrag_below
 
--- the quanta of its schedule that a cycle takes at most on this many pages, of which it may empty so many
+-- the most quanta of its schedule that a cycle takes on this many pages, of which it may empty `emptied`
 abbrev pub moved_quanta_at : Config → ℕ → ℕ → ℕ
 moved_quanta_at c pages emptied =
     moved_quanta (c.mutators * c.slots + c.statics) pages emptied (c.collector_ticks * c.rate)
@@ -51,11 +51,11 @@ is_unmoved c p pages = nat_le (unmoved_pages c p pages) (moved_pages c p pages)
 abbrev pub pages_needed : Config → Pace → ℕ → ℕ
 pages_needed c p pages = if is_unmoved c p pages then unmoved_pages c p pages else moved_pages c p pages
 
--- the quanta with which these pages are reckoned
+-- the most quanta of a cycle, from which the number of pages is calculated
 abbrev pub quanta_needed : Config → Pace → ℕ → ℕ
 quanta_needed c p pages = if is_unmoved c p pages then unmoved_quanta_at c pages else moved_quanta_at c pages c.defrag_pages
 
--- what a pace takes in a heap of a configuration with this many pages
+-- the needs of a pace in a heap of a configuration with this many pages
 pub record IsNeeded (c : Config) (p : Pace) (count : ℕ) (needs : Needs) : Type 0 where
   pub pages : needs.pages ≡ pages_needed c p count
   pub quanta : needs.quanta ≡ quanta_needed c p count

@@ -1,4 +1,4 @@
--- A pace: how many blocks are asked for while the collector does a quantum's work.
+-- A pace: how many blocks are requested while the collector does a quantum's work.
 use Rattle.std.specs.Prelude.{ℕ, ◌+◌, ◌*◌, ◌<◌, ◌≤◌, Bool, true, false, if◌then◌else◌, List, [], ◌∷◌, length}
 use Rattle.graph_heap.specs.declared.command.Limits.{Limits}
 use Rattle.graph_heap.specs.Graph.{Graph, opening}
@@ -11,22 +11,22 @@ use Rattle.heap_model.specs.State.{HeapState}
 use Rattle.heap_model.specs.Event.{Event, Command_done, Cycle_begun, Begin_refused, Quantum_done, Quantum_refused}
 use Rattle.space.specs.Demand.{Demand, LiveWithin, asked_for}
 
--- Of each size class: how many blocks live objects need at most where a cycle begins; how many are asked for
--- at most while a cycle runs, from its beginning or a quantum up to the next quantum; and how many from the
--- end of a cycle until the next begins.
+-- For each size class: the most blocks that live objects need when a cycle begins; the most that are requested while a
+-- cycle runs, from its beginning or a quantum to the next quantum; and the most that are requested from the end of a
+-- cycle until the next begins.
 pub record Pace : Type 0 where
   pub live : ℕ → ℕ
   pub busy : ℕ → ℕ
   pub idle : ℕ → ℕ
 
--- The graph heap to which the events lead; whether a cycle runs; and how many blocks were asked for since
--- the last beginning, or quantum of a cycle.
+-- The graph heap to which the events lead; whether a cycle runs; and how many blocks were requested since the last
+-- beginning, or quantum of a cycle.
 pub record Beat : Type 0 where
   pub graph : Graph
   pub cycle_running : Bool
   pub asked : ℕ → ℕ
 
--- where no event was done yet
+-- the beat before the first event
 abbrev pub opening_beat : Limits → Beat
 opening_beat l = record { graph = opening l; cycle_running = false; asked = λ class. 0 }
 
@@ -74,7 +74,6 @@ moved_quanta h = cycle.moved_quanta (length h.roots) (length h.store.pages) h.de
 abbrev pub unmoved_quanta : HeapState → ℕ → ℕ
 unmoved_quanta h = cycle.unmoved_quanta (length h.roots) (length h.store.pages)
 
--- the demand of a pace where a cycle takes at most this many quanta: that of two cycles, and of the time
--- between them
+-- the demand of a pace if a cycle takes at most this many quanta: that of two cycles, and of the time between them
 abbrev pub demand_of : Pace → ℕ → Demand
 demand_of p quanta = record { live = p.live; allocated = λ class. 2 * (quanta * p.busy class) + p.idle class }

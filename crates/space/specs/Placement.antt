@@ -1,4 +1,4 @@
--- Where blocks stand, and on how many pages.
+-- The places of blocks, and the pages that they take.
 use Rattle.std.specs.Prelude.{◌≡◌, ◌≢◌, ℕ, ◌+◌, ◌/◌, ◌<◌, ◌≤◌, ◌⊎◌, true, List, Option, Some, None, length}
 use Rattle.graph_heap.specs.Graph.{Object, object_of}
 use Rattle.size_classes.specs.declared.class.TheConstants.{CLASSES, PAGE_WORDS}
@@ -25,8 +25,8 @@ MayEvacuate spare most evacuating (phases.Moving (moves.Pass class page best cho
 MayEvacuate spare most evacuating (phases.Moving (moves.Emptying class page block chosen)) = (evacuating ≤ chosen)
     × (chosen ≤ spare) × (spare ≡ most)
 
--- as many pages may be left sparse as a cycle may empty; or none, where so many are free after each sweep that
--- moving never begins
+-- as many pages may be left sparse as a cycle may empty; or none, if enough are free after each sweep that moving never
+-- begins
 abbrev pub MaySpare : HeapState → (ℕ → ℕ) → ℕ → Type 0
 MaySpare h blocks spare = (spare_of h ≡ spare)
     ⊎ ((spare ≡ 0) × (pages_for blocks 0 CLASSES + h.defrag_below ≤ length h.store.pages))
@@ -42,8 +42,8 @@ abbrev pub class_in : Option Page → Option ℕ
 class_in None = None
 class_in (Some p) = Some p.class
 
--- Each allocated block is one of a part, on a page of the part's class; an old copy is on an evacuating page; and no
--- part has two main copies, nor two old ones.
+-- Each allocated block is one of a part, on a page of the part's class. An old copy is on an evacuating page. No part
+-- has two main copies, or two old ones.
 pub record IsTidy (s : Store) (objects : List Object) : Type 0 where
   pub class : (b : ℕ) → is_allocated s b ≡ true
       → class_for (part_words (cells_of (record_of s b).shape) (record_of s b).part)
@@ -61,7 +61,7 @@ pub record IsTidy (s : Store) (objects : List Object) : Type 0 where
   pub old : (b : ℕ) → is_allocated s b ≡ true
       → ((record_of s b).forward ≡ b) ⊎ (is_evacuating (page_at s.pages (b / PAGE_WORDS)) ≡ true)
 
--- of the identities up to one, only these have a main copy
+-- among the identities up to `base`, only these have a main copy
 abbrev pub KeepsOnly : Store → ℕ → List ℕ → Type 0
 KeepsOnly s base ids = (b : ℕ) → is_allocated s b ≡ true → (record_of s b).forward ≡ b
     → (record_of s b).identity ≤ base → contains ids (record_of s b).identity ≡ true

@@ -1,4 +1,4 @@
--- What a command asks for, whatever the heap is; and that no reply is the refusal for lack of space.
+-- The object that a command requests, whatever the heap is; and that no reply is the refusal for lack of space.
 use Rattle.std.specs.Prelude.{◌≡◌, ℕ, true, if◌then◌else◌, List, [], ◌∷◌}
 use Rattle.graph_heap.specs.declared.command.Command.{Command}
 use Rattle.graph_heap.specs.declared.command.Command.TheVariants as commands

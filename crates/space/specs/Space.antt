@@ -10,7 +10,7 @@ abbrev pub class_sum : (ℕ → ℕ) → ℕ → ℕ
 class_sum number zero = 0
 class_sum number (suc class) = class_sum number class + number class
 
--- The pages that a class takes for this many blocks, and `spare` more that may be left sparse; none where it
+-- The pages that a class takes for this many blocks, and `spare` more that may be left sparse; none if it
 -- has no block.
 abbrev pub class_pages : ℕ → ℕ → ℕ → ℕ
 class_pages spare class blocks = if blocks == 0 then 0 else whole_pages class blocks + spare
@@ -24,7 +24,7 @@ pages_for blocks spare (suc class) = pages_for blocks spare class + class_pages 
 abbrev pub spare_of : HeapState → ℕ
 spare_of h = if h.defrag_below == 0 then 0 else h.defrag_pages
 
--- below how many free pages moving follows a sweep; 0 where no page may be emptied
+-- below how many free pages moving follows a sweep; 0 if no page may be emptied
 abbrev pub below_of : HeapState → ℕ
 below_of h = if h.defrag_pages == 0 then 0 else h.defrag_below
 

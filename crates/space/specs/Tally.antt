@@ -1,4 +1,4 @@
--- What a list of events adds up to, by the events alone: no heap is looked at.
+-- The sums of a list of events, by the events alone: they don't depend on a heap.
 use Rattle.std.specs.Prelude.{◌≡◌, ℕ, ◌+◌, ◌<◌, ◌≤◌, true, if◌then◌else◌, List, [], ◌∷◌, length, drop}
 use Rattle.graph_heap.specs.declared.command.Limits.{Limits}
 use Rattle.graph_heap.specs.declared.command.Command.{Command}
@@ -11,14 +11,14 @@ use Rattle.heap_model.specs.Phases.{awaits_sweep_end}
 use Rattle.heap_model.specs.Event.{Event, Command_done, Cycle_begun, Begin_refused, Quantum_done, Quantum_refused}
 use Rattle.space.specs.Demand.{Demand, LiveWithin, blocks_of, asked_for}
 
--- The graph heap to which the events lead; how many objects there were when the last cycle began; and how
--- many when that cycle began whose sweep ended last. Both are 0 before the first.
+-- The graph heap to which the events lead; how many objects there were when the last cycle began; and how many there
+-- were when the cycle began whose sweep ended last. Both numbers are 0 before the first.
 pub record Tally : Type 0 where
   pub graph : Graph
   pub last : ℕ
   pub base : ℕ
 
--- where no event was done yet
+-- the tally before the first event
 abbrev pub opening_tally : Limits → Tally
 opening_tally l = record { graph = opening l; last = 0; base = 0 }
 
@@ -31,8 +31,8 @@ after_event t Begin_refused = t
 after_event t (Quantum_done budget units phase) = if awaits_sweep_end phase then t else record t { base = t.last }
 after_event t (Quantum_refused budget) = t
 
--- An event keeps to a demand. Where a cycle begins, what is live is within it; and at a command, so are the
--- objects that were allocated since the cycle began whose sweep ended last, with the one that is asked for.
+-- An event keeps to a demand. When a cycle begins, live objects are within the demand. At a command, so are the objects
+-- that were allocated since the cycle began whose sweep ended last, with the one requested.
 abbrev pub KeepsTo : Demand → Tally → Event → Type 0
 KeepsTo d t (Command_done m c reply) = (class : ℕ) → class < CLASSES
     → blocks_of (drop t.base t.graph.objects) class + asked_for t.graph m c class ≤ d.allocated class

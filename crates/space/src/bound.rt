@@ -18,41 +18,41 @@ ghost use Rattle.space.specs.Lasting.{LastsAtMost};
 ghost use Rattle.space.specs.Fitting.{Fits, FitsIn, moved_quanta_at, unmoved_quanta_at};
 ghost use Rattle.space.specs.Room.{asks, AllHaveRoom};
 
-/// The space bound. In every run of events from an opening heap that keeps to a demand, no new object is
-/// refused for lack of space, where there are as many pages as the demand takes.
+/// The space bound. If a run of events from an opening heap keeps to a demand, and there are as many pages as the
+/// demand takes, then no new object is refused for lack of space.
 pub fn space_suffices()
     ensures { (h : HeapState) (es : List Event) (new : Course) (d : Demand) → IsOpening h → 0 < length h.store.pages
         → Runs (opened h) es new → AllKeepTo d (opening_tally h.limits) es
         → space_for d (spare_of h) ≤ length h.store.pages → EveryNewFindsRoom es }
 {}
 
-/// Nor is one refused where as many pages stay free besides those that the demand takes as moving begins below: then
-/// no sweep is followed by moving, and no page is left sparse.
+/// The space bound without moving. No new object is refused either, if as many pages stay free besides those of the
+/// demand as moving begins below: then no sweep is followed by moving, and no page is left sparse.
 pub fn space_suffices_unmoved()
     ensures { (h : HeapState) (es : List Event) (new : Course) (d : Demand) → IsOpening h → 0 < length h.store.pages
         → Runs (opened h) es new → AllKeepTo d (opening_tally h.limits) es
         → space_for d 0 + below_of h ≤ length h.store.pages → EveryNewFindsRoom es }
 {}
 
-/// A run that keeps to a pace keeps to a demand. The quanta of a cycle are limited, so that what is asked for
-/// between them adds up to no more than two cycles' quanta, and the time between two cycles, ask for.
+/// A run that keeps to a pace keeps to a demand. A cycle has a limited number of quanta, so the requested blocks add up
+/// to at most those of two cycles' quanta, and of the time between two cycles.
 pub fn paces_are_demands()
     ensures { (h : HeapState) (es : List Event) (new : Course) (p : Pace) (k : ℕ) → LEAST_BUDGET ≤ k → IsOpening h
         → 0 < length h.store.pages → Runs (opened h) es new → AllKeepPace p k (opening_beat h.limits) es
         → AllKeepTo (demand_of p (moved_quanta h k)) (opening_tally h.limits) es }
 {}
 
-/// So no new object is refused for lack of space in a run that keeps to a pace, where there are as many pages
-/// as the pace takes.
+/// So no new object is refused for lack of space in a run that keeps to a pace, if there are as many pages as the pace
+/// takes.
 pub fn space_suffices_at_a_pace()
     ensures { (h : HeapState) (es : List Event) (new : Course) (p : Pace) (k : ℕ) → LEAST_BUDGET ≤ k → IsOpening h
         → 0 < length h.store.pages → Runs (opened h) es new → AllKeepPace p k (opening_beat h.limits) es
         → space_for (demand_of p (moved_quanta h k)) (spare_of h) ≤ length h.store.pages → EveryNewFindsRoom es }
 {}
 
-/// Where as many pages stay free besides those that a pace takes as moving begins below, no sweep is followed by
-/// moving, and each quantum that doesn't end its cycle spends its whole budget. So a run that keeps to the pace keeps
-/// to a smaller demand, and no new object is refused for lack of space.
+/// If as many pages stay free besides those of a pace as moving begins below, no sweep is followed by moving, and each
+/// quantum that doesn't end its cycle spends its whole budget. So a run that keeps to the pace keeps to a smaller
+/// demand, and no new object is refused for lack of space.
 pub fn space_suffices_at_an_unmoved_pace()
     ensures demand { (h : HeapState) (es : List Event) (new : Course) (p : Pace) (k : ℕ) → LEAST_BUDGET ≤ k
         → IsOpening h → 0 < length h.store.pages → Runs (opened h) es new → AllKeepPace p k (opening_beat h.limits) es
@@ -64,19 +64,18 @@ pub fn space_suffices_at_an_unmoved_pace()
         → EveryNewFindsRoom es }
 {}
 
-/// A command asks for no more blocks than its shape needs, and for none where that is too large, whatever the
-/// heap is.
+/// A command requests no more blocks than its shape needs, and none if that is too large, whatever the heap is.
 pub fn commands_ask_for_their_shapes()
     ensures { (g : Graph) (m : ℕ) (c : Command) (class : ℕ) → asked_for g m c class ≤ asks c class }
 {}
 
-/// Commands other than `New` are never refused for lack of space: where no `New` is, no reply is that refusal.
+/// Commands other than `New` are never refused for lack of space: if there is no `New`, no reply is that refusal.
 pub fn only_new_needs_room()
     ensures { (r new : Course) (es : List Event) → Runs r es new → EveryNewFindsRoom es → AllHaveRoom es }
 {}
 
-/// In a heap of a configuration, no reply of a run is the refusal for lack of space: where the run keeps to a
-/// demand that fits the configuration, or to a pace that fits in its pages.
+/// In a heap of a configuration, no reply of a run is the refusal for lack of space, if the run keeps to a demand that
+/// fits the configuration, or to a pace that fits in its pages.
 pub fn configured_space_suffices()
     ensures demand { (config : Config) (h : HeapState) (es : List Event) (new : Course) (d : Demand) → 1 ≤ config.pages
         → IsOpening h → settings_of h ≡ settings_by config → Runs (opened h) es new

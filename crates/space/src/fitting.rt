@@ -21,7 +21,7 @@ pub fn spare(config: &Config) -> u32
     }
 }
 
-/// Below how many free pages moving follows a sweep; 0 where no page may be emptied.
+/// Below how many free pages moving follows a sweep; 0 if no page may be emptied.
 pub fn below(config: &Config) -> u32
     ensures { result ≡ below_in config.now }
 {
@@ -45,7 +45,7 @@ fn swept(config: &Config, pages: u32) -> u64
     roots + arena + (most + 1) * count + (most + 4)
 }
 
-/// The units that moving spends at most, on this many pages, of which a cycle may empty so many.
+/// Returns the most units that moving spends on this many pages, of which a cycle may empty `emptied`.
 fn moving(pages: u32, emptied: u32) -> u64
     requires pages { pages ≤ MOST_HEAP_PAGES }
     requires emptied { emptied ≤ MOST_HEAP_PAGES }
@@ -58,8 +58,8 @@ fn moving(pages: u32, emptied: u32) -> u64
     looks + arena + 1
 }
 
-/// The quanta of the schedule that a cycle takes at most, in a heap of the configuration with this many pages, of which
-/// it may empty so many. Those that end in moving may leave a part of their budgets.
+/// Returns the most quanta of the schedule that a cycle takes, in a heap of the configuration with this many pages, of
+/// which it may empty `emptied`. Quanta that end in moving may leave a part of their budgets.
 pub fn moved_quanta(config: &Config, pages: u32, emptied: u32) -> u64
     requires pages { pages ≤ MOST_HEAP_PAGES }
     requires emptied { emptied ≤ MOST_HEAP_PAGES }
@@ -83,18 +83,18 @@ pub fn unmoved_quanta(config: &Config, pages: u32) -> u64
     swept(config, pages) / u64::from(config.budget()) + 1
 }
 
-/// What a pace takes in a heap of a configuration with this many pages.
+/// The needs of a pace in a heap of a configuration with this many pages.
 #[derive(Clone, Copy, Debug, PartialEq, Eq)]
 pub struct Needs {
     /// The pages.
     pub pages: u128,
-    /// The quanta of the schedule that a cycle takes at most, with which they are reckoned.
+    /// The most quanta of the schedule that a cycle takes; the pages are calculated from them.
     pub quanta: u64,
 }
 
 impl Needs {
-    /// What a pace takes where a cycle takes this many quanta: with `sparse` pages that may be left sparse for each
-    /// class, and `free` others that stay free.
+    /// Returns the needs of a pace if a cycle takes this many quanta: with `sparse` pages that may be left sparse for
+    /// each class, and `free` others that stay free.
     fn of(pace: &Pace, quanta: u64, sparse: u32, free: u32) -> Needs
         requires { quanta ≤ MOST_QUANTA }
         ensures pages { result.pages ≡ space_for (demand_of (pace_in pace.now) quanta) sparse + free }
@@ -107,9 +107,9 @@ impl Needs {
     }
 }
 
-/// What a pace takes in a heap of a configuration with this many pages, in the way that takes fewer: with those that
-/// moving may leave sparse, or with as many free ones as moving begins below. In the second case it never begins, and
-/// fewer quanta suffice for a cycle.
+/// Returns the needs of a pace in a heap of a configuration with this many pages, in the way that takes fewer: with the
+/// pages that moving may leave sparse, or with as many free ones as moving begins below. In the second case moving
+/// never begins, and fewer quanta suffice for a cycle.
 pub fn pace_needs(config: &Config, pace: &Pace, pages: u32) -> Needs
     requires { pages ≤ MOST_HEAP_PAGES }
     ensures { IsNeeded config.now (pace_in pace.now) pages result }
@@ -139,8 +139,8 @@ pub fn pace_fits(config: &Config, pace: &Pace) -> bool
     fits_in(config, pace, config.pages)
 }
 
-/// The least number of pages in which a pace fits, with all else as the configuration has it; None where it
-/// fits in no number of pages that a configuration file may ask for.
+/// Returns the least number of pages in which a pace fits, with all else as the configuration has it. None if it fits
+/// in no number of pages that a configuration file may ask for.
 pub fn least_pages(config: &Config, pace: &Pace) -> Option<u32>
     ensures { IsLeast config.now (pace_in pace.now) result }
 {

@@ -1,5 +1,4 @@
-//! How many blocks a program asks for while the collector does a quantum's work, and the pages that they
-//! take.
+//! How many blocks a program requests while the collector does a quantum's work, and the pages that they take.
 ghost use Rattle.std.specs.Prelude.{◌≡◌, ◌*◌, ◌≤◌};
 ghost use Rattle.space.specs.Space.{space_for};
 ghost use Rattle.space.specs.Pace.{demand_of};
@@ -14,9 +13,9 @@ pub const MOST_QUANTA: u64 = 300_000_000_000_000;
 /// More quanta than a cycle can take up to its sweep's end.
 pub const MOST_UNMOVED_QUANTA: u64 = 10_600_000;
 
-/// Of each size class: how many blocks live objects need at most where a cycle begins; how many are asked for
-/// at most while a cycle runs, from its beginning or a quantum up to the next quantum; and how many from the
-/// end of a cycle until the next begins.
+/// For each size class: the most blocks that live objects need when a cycle begins; the most that are requested while a
+/// cycle runs, from its beginning or a quantum to the next quantum; and the most that are requested from the end of a
+/// cycle until the next begins.
 #[derive(Clone, Copy, Debug, PartialEq, Eq)]
 pub struct Pace {
     pub live: [u32; CLASSES],
@@ -25,7 +24,7 @@ pub struct Pace {
 }
 
 impl Pace {
-    /// How many pages it takes, where a cycle takes at most this many quanta, and this many pages may be left
+    /// Returns how many pages it takes, if a cycle takes at most this many quanta, and this many pages may be left
     /// sparse for each class.
     pub fn pages(&self, quanta: u64, spare: u32) -> u128
         requires { quanta ≤ MOST_QUANTA }

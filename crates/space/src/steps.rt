@@ -19,8 +19,8 @@ ghost use Rattle.space.specs.Space.{pages_for};
 ghost use Rattle.space.specs.Counts.{main_blocks, IsBounded};
 ghost use Rattle.space.specs.Placement.{HasBoundedPages, IsTidy, KeepsOnly, KeepsShapes};
 
-/// Pages that are within the bound for this many blocks of each class have room for more blocks, where these and
-/// those that are allocated are together no more than that.
+/// Pages that are within the bound for this many blocks of each class have room for more blocks, if these and the
+/// allocated ones are together no more than that.
 pub fn bounded_pages_have_room()
     ensures { (pages : List (Option Page)) (blocks need : ℕ → ℕ) (spare : ℕ) → ArePages pages
         → IsBounded pages blocks spare → pages_for blocks spare CLASSES ≤ length pages
@@ -28,8 +28,8 @@ pub fn bounded_pages_have_room()
         → has_room pages need ≡ true }
 {}
 
-/// The parts of an object that take their blocks leave pages within the bound, where what is allocated and what
-/// they need are no more than its blocks of each class; and as many more blocks are allocated.
+/// The blocks that an object's parts take leave pages within the bound, if they and the allocated blocks are no more
+/// than its blocks of each class. Then as many more blocks are allocated.
 pub fn taken_blocks_stay_bounded()
     ensures { (cells : ℕ) (at : ℕ → ℕ) (old : List (Option Page)) (parts : ℕ) (new : List (Option Page))
         (blocks : ℕ → ℕ) (spare : ℕ) → ArePages old → IsBounded old blocks spare
@@ -45,8 +45,8 @@ pub fn actions_stay_bounded()
         → HasBoundedPages after blocks spare }
 {}
 
-/// Each action of the collector leaves blocks where they should stand, and until the sweep's end no
-/// identity comes back that was gone.
+/// Each action of the collector keeps blocks at their proper places; and until the sweep's end no identity comes back
+/// that was gone.
 pub fn actions_stay_tidy()
     ensures tidy { (h after : HeapState) (cost : ℕ) (present snapshot : Graph) (objects : List Object)
         → Represents h present snapshot → Action h cost after → IsTidy h.store objects → IsTidy after.store objects }
@@ -55,9 +55,8 @@ pub fn actions_stay_tidy()
         → KeepsOnly after.store base ids }
 {}
 
-/// A command's change leaves blocks where they should stand, no identity comes back that was gone, and the
-/// pages stay within their bound, where what is allocated and what is asked for are no more than its blocks of each
-/// class.
+/// A command's change keeps blocks at their proper places, and no identity comes back that was gone. The pages stay
+/// within their bound, if the allocated and the requested blocks are no more than its blocks of each class.
 pub fn changes_stay_tidy()
     ensures tidy { (h after : HeapState) (g : Graph) (c : Change) → h.next ≡ length g.objects + 1
         → DoesChange h g c after → IsTidy h.store g.objects → IsTidy after.store (changed g c).objects }
@@ -70,8 +69,8 @@ pub fn changes_stay_tidy()
         → HasBoundedPages h blocks spare → HasBoundedPages after blocks spare }
 {}
 
-/// The allocated blocks of a class, on pages that aren't evacuating, are no more than what the identities need that
-/// were kept, and what the objects need that were allocated since.
+/// The allocated blocks of a class, on pages that aren't evacuating, are no more than the blocks of the identities that
+/// were kept and of the objects that were allocated since.
 pub fn allocated_blocks_are_few()
     ensures { (s : Store) (class : ℕ) (objects first : List Object) (ids : List ℕ) → ArePages s.pages → IsTidy s objects
         → KeepsShapes first objects → KeepsOnly s (length first) ids

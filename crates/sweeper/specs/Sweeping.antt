@@ -25,21 +25,21 @@ swept_at h page block =
     else (if is_looked_at (page_at h.store.pages page) block then answers.Closed
     else (if is_garbage h (page_at h.store.pages page) page block then answers.Freed else answers.Looked))
 
--- where the sweeper is after an answer
+-- the place of the sweeper after an answer
 abbrev pub place_after : ℕ → ℕ → Swept → Phase
 place_after page block answers.Looked = phases.Sweeping page (block + 1)
 place_after page block answers.Freed = phases.Sweeping page (block + 1)
 place_after page block answers.Closed = phases.Sweeping (page + 1) 0
 place_after page block answers.Nothing = phases.Sweeping page block
 
--- what an answer costs
+-- the cost of an answer
 abbrev pub cost_of : Swept → ℕ
 cost_of answers.Looked = LOOK
 cost_of answers.Freed = LOOK
 cost_of answers.Closed = CLOSE
 cost_of answers.Nothing = 0
 
--- one action was done where the answer names one, and else nothing
+-- one action was done if the answer names one, and else nothing
 abbrev pub SweepsOne : HeapFields → Swept → HeapFields → Type 0
 SweepsOne old answers.Looked new = ActsOnce old LOOK new
 SweepsOne old answers.Freed new = ActsOnce old LOOK new

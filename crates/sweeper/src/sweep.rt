@@ -15,7 +15,7 @@ use heap_model::cost::{CLOSE, LOOK, TURN};
 use heap_model::phase::{Moving, Phase};
 use nodes::{HeapFields, Nodes};
 
-/// What an action of the sweeper did.
+/// The effect of an action of the sweeper.
 #[derive(Clone, Copy, Debug, PartialEq, Eq)]
 pub enum Swept {
     /// It looked at a block, which stays.
@@ -28,8 +28,8 @@ pub enum Swept {
     Nothing,
 }
 
-/// Does one action of the sweeper. It looks at a block of a page, and frees it if it is allocated and isn't marked;
-/// where no block of the page is left, it closes the page; where all pages are closed, it does nothing.
+/// Does one action of the sweeper. It looks at a block of a page, and frees it if it is allocated and not marked. If no
+/// block of the page is left, it closes the page. If all pages are closed, it does nothing.
 #[inline(always)]
 pub fn sweep_one(heap: &mut HeapFields, page: u32, block: u32) -> Swept
     requires heap { AreHeapFields heap.old }
@@ -68,9 +68,9 @@ pub fn sweep_one(heap: &mut HeapFields, page: u32, block: u32) -> Swept
     Swept::Looked
 }
 
-/// Looks at the next blocks of a page, as many as are left or as there is room for: a block that is allocated and
-/// whose colour isn't the one that means marked is freed. Where none is left, it closes the page, and the
-/// free pages right after it for which there is room; where all pages are closed, it ends the sweep.
+/// Looks at the next blocks of a page, as far as there is room: an allocated block without the colour that means marked
+/// is freed. If no block is left, it closes the page, and the free pages right after it, as far as there is room. If
+/// all pages are closed, it ends the sweep.
 pub fn sweep_next(heap: &mut HeapFields, page: u32, block: u32, room: u32)
     requires heap { AreHeapFields heap.old }
     requires phase { heap.old.phase ≡ phases.Sweeping page block }
@@ -194,8 +194,7 @@ fn sweep_rest(heap: &mut HeapFields, page: u32, block: u32, count: u32)
     heap.charge(count * LOOK + CLOSE, place);
 }
 
-/// The phase after a sweep: moving begins where pages may be emptied, and fewer are free than the
-/// configuration asks for.
+/// The phase after a sweep: moving begins if pages may be emptied, and fewer are free than the configuration asks for.
 fn after_sweep(heap: &HeapFields) -> Phase
     ensures { result ≡ actions.after_sweep (state_of heap.now) }
 {

@@ -49,8 +49,8 @@ swapped size counts k (suc n) =
     spread : (a b c : ℕ) → a * (b + c) ≡ a * b + a * c
     spread a b c = grind arith
 
--- What is counted of a reference is of an allocated block, and no more than its words; the block is of an object among
--- some identities if it is one of the first; and no two such blocks are of one part.
+-- The count of a reference is of an allocated block, and at most its words. The block is of an object among some
+-- identities if it is one of the first. No two of these blocks are of one part.
 pub record AreBlocks (s : Store) (count : ℕ) (ids : List ℕ) (f : ℕ → ℕ) : Type 0 where
   pub allocated : (x : ℕ) → 0 < f x → is_allocated s (x - 1) ≡ true
   pub few : (x : ℕ) → 0 < f x → f x ≤ size_at s (x - 1)

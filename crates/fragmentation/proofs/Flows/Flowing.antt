@@ -46,7 +46,7 @@ module _ (h : HeapState) (f : Flow) (k : ℕ) (great : 0 < k) (live : Lives) (li
   abbrev most : ℕ
   most = sweep_quanta f (length h.roots) (length h.store.pages) k
 
-  -- of other classes there are none since later either
+  -- no blocks of other classes were made since later either
   none_since : (s : Season) (count : ℕ) → OnlyMade f (made_since 0 s) → OnlyMade f (made_since count s)
   none_since s count none class l e = let d = drop_less 0 count s.graph.objects class (omega arith) in let z = none class l e in omega (arith, d, z)
 

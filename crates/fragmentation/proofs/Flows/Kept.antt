@@ -1,4 +1,4 @@
--- What is kept along a run that keeps to a flow.
+-- The invariant along a run that keeps to a flow.
 use Rattle.std.proofs.Common.{◌≡◌, ℕ, ◌+◌, ◌*◌, ◌<◌, ◌≤◌, ◌⊎◌, inl, Bool, true, false, ◌==◌, if◌then◌else◌, List, [], ◌∷◌, length, ap, sym, subst, arith, refl}
 use Rattle.size_classes.specs.declared.class.TheConstants.{CLASSES, MOST_BLOCKS}
 use Rattle.heap_model.specs.declared.phase.Phase.{Phase}
@@ -47,21 +47,21 @@ lives_few f k n (Quantum_refused budget ∷ es) t keeps j = lives_few f k n es t
 abbrev pub words_since : ℕ → Season → ℕ
 words_since count s = words_of (made_since count s)
 
--- What counts as made before the cycle whose sweep ended last: no more than was live where some cycle began, and what was
--- made besides.
+-- The blocks that count as made before the cycle whose sweep ended last: no more than were live when some cycle began,
+-- and those made besides.
 pub record Earlier (f : Flow) (live : Lives) (before : ℕ → ℕ) : Type 0 where
   pub made : ℕ → ℕ
   pub number : ℕ
   pub few : (class : ℕ) → class < CLASSES → before class ≤ live number class + made class
   pub only : OnlyMade f made
 
--- while pages are swept, no more was spent than on roots, on marking so many words, and on what was looked at since
+-- while pages are swept, no more was spent than on roots, on marking this many words, and on the looks since
 abbrev pub SweepsWithin : HeapState → ℕ → Phase → Type 0
 SweepsWithin h words (phases.Sweeping page block) = h.units ≤ length h.roots + words + 3 + (MOST_BLOCKS + 1) * page + block
 SweepsWithin h words _ = Unit {0}
 
--- What is kept: how many words were made since the last cycle began, since the one began whose sweep ended last, and in
--- all that the season counts.
+-- The invariant: how many words were made since the last cycle began, since the one began whose sweep ended last, and
+-- in all that the season counts.
 pub record IsFlowing (h : HeapState) (f : Flow) (k : ℕ) (live : Lives) (r : Course) (s : Season) (t : FlowMeter) : Type 0 where
   pub graph : s.graph ≡ present_of r
   pub same : t.graph ≡ present_of r

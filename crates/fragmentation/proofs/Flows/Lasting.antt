@@ -35,7 +35,7 @@ use Rattle.fragmentation.proofs.Flows.Quanta.{Flows, needs_few, quanta_few}
 use Rattle.fragmentation.proofs.Flows.Flowing.{flows_next}
 use Rattle.fragmentation.proofs.Flows.Suffices.{AllFlow, live, lives, opening_flows, flow_all}
 
--- Of pages some are chosen, which takes a look at every page for each; to the others words are moved, no more than they have,
+-- Some pages are chosen, and each takes a look at every page. Words are moved to the others: no more than they have,
 -- and no more than there are.
 share : (pages chosen moved words : ℕ) → moved + PAGE_WORDS * chosen ≤ PAGE_WORDS * pages → moved ≤ words + 1 → chosen * pages + moved ≤ pages * pages + words * (PAGE_WORDS - pages) / PAGE_WORDS + 1
 share pages chosen moved words room few = by_size (order pages PAGE_WORDS)
@@ -309,7 +309,7 @@ module _ (h : HeapState) (f : Flow) (k : ℕ) (great : 256 ≤ k) (some : 0 < k)
       let v = flows_next h f k some lived lives_few traced r runs.0 e s t w all.0 all.1 runs.1 in
       gone_after es runs.0 new _ _ v (goes_next r runs.0 e s t w g runs.1 v) runs.2 all.2 on
 
-  -- such phases last so many quanta in every run, where they do at each place of it
+  -- phases of a kind last at most `bound` quanta in every run, if they do at each place of it
   module _ (is_such : Phase → Bool) (bound : ℕ) (few : (r : Course) (s : Season) (t : FlowMeter) → IsKept r s t → Goes r t → is_such r.heap.phase ≡ true → t.quanta + 1 ≤ bound) where
     pub all_last : (es : List Event) (r new : Course) (s : Season) (t : FlowMeter) → IsKept r s t → Goes r t → Runs r es new → AllFlow f k lived s t es → HaveBudgets k es → LastsAtMost is_such bound t.quanta es
     all_last [] r new s t w g runs all enough = tt

@@ -106,7 +106,7 @@ module _ (h : HeapState) (f : Flow) (k : ℕ) (great : 0 < k) (live : Lives) (li
     pub few : t.awaiting_sweep_end ≡ true → (t.quanta + 1) * f.quantum_words + f.burst ≤ traced_words f most
     few on = let m = mul-le-mul_right f.quantum_words (quanta_few on) in omega (arith, m)
 
-    -- what is asked for leaves the words that were made within a cycle's
+    -- the requested words leave the words that were made within those of a cycle
     pub asked_few : (asked : ℕ) → t.words + asked ≤ allowed_words f t → t.words + asked ≤ (if t.awaiting_sweep_end then traced_words f most else f.cycle_words)
     asked_few asked keeps = by_tracing t.awaiting_sweep_end refl keeps
       where

@@ -1,4 +1,4 @@
--- What a cycle spends where a run keeps to a flow.
+-- The units that a cycle spends if a run keeps to a flow.
 use Rattle.std.proofs.Common.{◌≡◌, ℕ, ◌+◌, ◌-◌, ◌*◌, ◌/◌, ◌<◌, ◌≤◌, ◌⊎◌, inl, inr, Bool, true, false, leb, if◌then◌else◌, length, ap, sym, subst, arith, refl}
 use Rattle.std.specs.Prelude.{None}
 use Rattle.std.proofs.lemmas.Nat.{le-div}

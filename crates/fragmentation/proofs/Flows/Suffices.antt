@@ -30,7 +30,7 @@ AllFlow f k live s t [] = Unit {0}
 AllFlow f k live s t (e ∷ es) = Paces f t e × BeginsWithin live s e × AllFlow f k live (season_after live s e) (next_meter k t e) es
 
 module _ (f : Flow) (k : ℕ) (live : Lives) where
-  -- of the events from here on, what live objects need is what was said
+  -- from here on the events have the stated need of live objects
   abbrev Agrees : Season → Lives → Type 0
   Agrees s rest = (j : ℕ) → s.cycles < j → live j ≡ rest j
 

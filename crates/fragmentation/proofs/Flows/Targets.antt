@@ -1,4 +1,5 @@
--- What moving spends by its pages: a look at every page for each that is chosen, and for each other no more words than it has.
+-- The units of moving by its pages: a look at every page for each that is chosen, and for each other no more words than
+-- it has.
 use Rattle.std.proofs.Common.{◌≡◌, ℕ, ◌+◌, ◌*◌, ◌/◌, ◌<◌, ◌≤◌, Bool, true, false, not, ◌&&◌, ◌==◌, if◌then◌else◌, List, [], ◌∷◌, Option, Some, None, length, set, length-set, ap, ◌∙◌, sym, subst, arith, refl}
 use Rattle.std.specs.Prelude.{count_by, sum_by, slice_get}
 use Rattle.std.proofs.lemmas.List.Sums.{sum_by-cons}

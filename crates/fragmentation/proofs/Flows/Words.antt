@@ -19,12 +19,12 @@ pub page_words_least : (k : ℕ) → k < CLASSES → LEAST_PAGE_FILL ≤ size_of
 unfolding size_of blocks_in
 page_words_least k h = leb-true LEAST_PAGE_FILL (size_of k * blocks_in k) (all_below_at (λ k. leb LEAST_PAGE_FILL (size_of k * blocks_in k)) CLASSES k refl h)
 
--- of one class no more
+-- the blocks of one class have exactly as many words
 pub page_words_attained : (k : ℕ) × (k < CLASSES) × (size_of k * blocks_in k ≡ LEAST_PAGE_FILL)
 unfolding size_of blocks_in
 page_words_attained = (36, omega arith, refl)
 
--- the whole pages of a class but one are filled
+-- the whole pages of a class are filled, except one
 filled : (b n q : ℕ) → 0 < b → q * b ≤ n + (b - 1) → (q ≡ 0) ⊎ ((p : ℕ) × (q ≡ p + 1) × (p * b ≤ n))
 filled b n zero some l = inl refl
 filled b n (suc p) some l = inr (p, omega arith, (let d : suc p * b ≡ p * b + b = times p b in omega (arith, l, d, some)))
@@ -50,7 +50,7 @@ filled_words s b n q some least l = by_filled (filled b n q some l)
 class_words : (k n : ℕ) → k < CLASSES → LEAST_PAGE_FILL * whole_pages k n ≤ size_of k * n + LEAST_PAGE_FILL
 class_words k n l = filled_words (size_of k) (blocks_in k) n (whole_pages k n) (blocks_some k l) (page_words_least k l) (div-mul-le_self (n + (blocks_in k - 1)) (blocks_in k))
 
--- a sum of so many times each number
+-- a sum of multiples of each number
 pub times_sum : (c : ℕ) (f : ℕ → ℕ) (n : ℕ) → class_sum (λ k. c * f k) n ≡ c * class_sum f n
 times_sum c f zero = sym (mul-zero c)
 times_sum c f (suc n) = let r = times_sum c f n in let d : c * (class_sum f n + f n) ≡ c * class_sum f n + c * f n = spread c (class_sum f n) (f n) in omega (arith, r, d)

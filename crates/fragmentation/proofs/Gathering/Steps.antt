@@ -194,7 +194,7 @@ gather_action h after cost a c w (Moves_block class page block chosen i to j p q
     )
 gather_action h after cost a c w (Ends_moving done) = tt
 
--- a class that is tight stays so, but for a sweep
+-- a tight class stays tight, except through a sweep
 same_tight : (old new : List (Option Page)) (class : ℕ) → new ≡ old → IsTight old class → IsTight new class
 same_tight old new class e t = subst (λ z. IsTight z class) (sym e) t
 

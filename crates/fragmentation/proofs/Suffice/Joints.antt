@@ -49,7 +49,7 @@ bounded_opening h blocks spare o some may = record {
   same = may;
 }
 
--- What is kept of a heap beside its bounded pages, whatever it does, and with which as many pages as are enough have room.
+-- The invariant of a heap beside its bounded pages, whatever it does; with it, `enough` pages have room.
 pub record KeepsRoom (blocks : ℕ → ℕ) (spare enough : ℕ) (Kept : HeapState → Type 0) : Type 0 where
   pub room : (h : HeapState) → ArePages h.store.pages → HasBoundedPages h blocks spare → Kept h → enough ≤ length h.store.pages
       → (need : ℕ → ℕ) → ((k : ℕ) → k < CLASSES → main_blocks h.store.pages k + need k ≤ blocks k) → has_room h.store.pages need ≡ true

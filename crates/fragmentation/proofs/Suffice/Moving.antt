@@ -58,8 +58,8 @@ module _ (h : HeapState) (g : Graph) (s : Season) (first made : ℕ → ℕ) (a 
 left_same : (r : Course) (need more : ℕ → ℕ) → ((k : ℕ) → need k ≡ more k) → IsLeftover r.heap.store r.heap.phase need → IsLeftover r.heap.store r.heap.phase more
 left_same r need more e w = leftover_more r.heap.store r.heap.phase need more (λ k l. (let x = e k in omega (arith, x))) w
 
--- What is kept beside what is counted: since the last sweep's end, when each class was gathered, only what is made since
--- opens pages.
+-- The invariant beside the counts: since the last sweep's end, when each class was gathered, only made objects open
+-- pages.
 module _ (live : Lives) (pages : ℕ) where
   pub record IsMoving (r : Course) (s : Season) : Type 0 where
     pub room : pages ≤ length r.heap.store.pages

@@ -68,7 +68,7 @@ all_kinds pages w =
     let l = sum_by-le-sum_by (λ o. class_sum (λ k. evacuating_on k o) CLASSES) (λ o. one_if (is_evacuating o)) pages one_leaves in
     omega (arith, a, u, b, s, l)
 
--- room for what is asked for
+-- room for the requested blocks
 module _ (h : HeapState) (blocks : ℕ → ℕ) (spare : ℕ) (a : ArePages h.store.pages) (w : IsSparse h.store h.phase blocks) (leave : evacuating_pages h.store.pages ≤ spare) (fits : sparse_pages blocks + spare ≤ length h.store.pages) where
   class_sparse : (need : ℕ → ℕ) → ((k : ℕ) → k < CLASSES → main_blocks h.store.pages k + need k ≤ blocks k) → (class : ℕ) → class < CLASSES → whole_pages class (need class - free_blocks h.store.pages class) + staying_pages h.store.pages class ≤ gathered_pages class (blocks class)
   class_sparse need asks class small = by_missing (zero_or (need class - free_blocks h.store.pages class))

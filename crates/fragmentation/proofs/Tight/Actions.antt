@@ -1,4 +1,4 @@
--- What holds of few pages and of what is left, through each action and each chain of actions.
+-- Facts of few pages and of leftover pages, through each action and each chain of actions.
 use Rattle.std.proofs.Common.{◌≡◌, ℕ, ◌+◌, ◌-◌, ◌<◌, ◌≤◌, ◌⊎◌, inl, inr, Bool, true, false, ◌&&◌, if◌then◌else◌, nat_lt, List, Option, Some, None, length, ap, ◌∙◌, sym, subst, arith, refl}
 use Rattle.std.proofs.lemmas.List.Sums.{count_by-le-length}
 use Rattle.std.proofs.lemmas.List.Quantifiers.{position-Some}

@@ -1,4 +1,4 @@
--- What a page that is chosen, and a block that is moved off it, change of main copies on evacuating pages.
+-- The main copies on evacuating pages, after a page is chosen, and after a block is moved off it.
 use Rattle.std.proofs.Common.{◌≡◌, ◌≢◌, ℕ, zero, suc, ◌+◌, ◌*◌, ◌/◌, ◌<◌, ◌≤◌, ◌⊎◌, inl, inr, Bool, true, false, not, ◌&&◌, cond, ◌==◌, if◌then◌else◌, Some, None, length, set, ap, ◌∙◌, sym, subst, arith, refl}
 use Rattle.std.specs.Prelude.{count_by, slice_get}
 use Rattle.std.proofs.lemmas.Bool.{eq-eqb}
@@ -65,7 +65,7 @@ module _ (s t : Store) (class page : ℕ) (p : Page) (at : page_at s.pages page 
   place : (k : ℕ) → page_at t.pages k ≡ (if k == page then Some v else page_at s.pages k)
   place k = page_set s.pages t.pages page (Some p) (Some v) within at is k
 
-  -- of other classes no page becomes evacuating
+  -- no page of another class becomes evacuating
   other_leaves : (k j : ℕ) → (class == k) ≡ false → evacuates k (page_at t.pages j) ≡ true → evacuates k (page_at s.pages j) ≡ true
   other_leaves k j ne on = by_place (j == page) (place j)
     where

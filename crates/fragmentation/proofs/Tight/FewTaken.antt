@@ -1,4 +1,4 @@
--- How many pages a class has since a sweep ended, through blocks that are taken; and room for what is asked for.
+-- How many pages a class has since a sweep ended, through blocks that are taken; and room for requested blocks.
 use Rattle.std.proofs.Common.{◌≡◌, ℕ, ◌+◌, ◌-◌, ◌*◌, ◌<◌, ◌≤◌, ◌⊎◌, inl, inr, Bool, true, false, ◌==◌, if◌then◌else◌, List, Option, Some, None, length, set, ap, ◌∙◌, sym, subst, arith, refl}
 use Rattle.std.proofs.lemmas.Bool.{le-leb}
 use Rattle.std.proofs.lemmas.Nat.{le-div}
@@ -34,7 +34,7 @@ emptied_same old new (phases.Sweeping page block) class w s = refl
 emptied_same old new (phases.Moving (moves.Pass k page best chosen)) class w s = refl
 emptied_same old new (phases.Moving (moves.Emptying k page block chosen)) class w s = ap (allocated_from class block) (s page w.0 w.1 w.2) ∙ sym (ap (allocated_from class block) w.1)
 
--- pages for what is asked for, beside those that there are
+-- pages for the requested blocks, beside those that exist
 class_few : (pages : List (Option Page)) (p : Phase) (first made need : ℕ → ℕ) → IsFew pages p first made → (class : ℕ) → class < CLASSES → whole_pages class (need class - free_blocks pages class) + used_pages pages class ≤ first class + whole_pages class (made class + need class)
 class_few pages p first made need w class small = by_missing (zero_or (need class - free_blocks pages class)) (order (used_pages pages class) (first class))
   where
@@ -174,7 +174,7 @@ block_few old new class page index p first made small placed t w = elim (took ol
           | inr x ↦ inr (let u = used k in let o : one_if (class == k) ≡ 0 = ap one_if s in omega (arith, u, o, x))
         ]
 
--- room for what is asked for
+-- room for the requested blocks
 pub few_room : (pages : List (Option Page)) (p : Phase) (first made need : ℕ → ℕ) → ArePages pages → IsFew pages p first made → few_pages first (λ class. made class + need class) CLASSES ≤ length pages → has_room pages need ≡ true
 few_room pages p first made need a w fits = le-leb (pages_needed pages need CLASSES) (free_pages pages) (
     let s = needed_sums pages need (used_pages pages) (λ class. first class + whole_pages class (made class + need class)) CLASSES (class_few pages p first made need w) in

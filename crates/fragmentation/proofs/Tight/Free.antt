@@ -51,7 +51,7 @@ free_some pages page class l = let u = free_change pages (set pages page None) p
 pub evacuating_free : (p : Page) (class : ℕ) → free_on class (Some (record p { evacuating = true })) ≡ 0
 evacuating_free p class = ap (λ b. cond b (count_by not p.allocated) 0) (and-false (p.class == class))
 
--- of a page that may be chosen
+-- a page that may be chosen
 pub record Choosable (class : ℕ) (p : Page) : Type 0 where
   pub own : p.class ≡ class
   pub evacuating : p.evacuating ≡ false
@@ -119,7 +119,7 @@ refused_tight pages class c w good e = by_page (page_at pages c.page) refl
         let h : allocated_on (page_at pages c.page) ≡ allocated_on (Some p) = ap allocated_on at in
         omega (arith, all, l, f, h)
 
--- where all pages but one add nothing
+-- all pages except one add nothing
 all_none : (f : Option Page → ℕ) (pages : List (Option Page)) → ((j : ℕ) → f (page_at pages j) ≡ 0) → sum_by f pages ≡ 0
 all_none f [] e = refl
 all_none f (o ∷ os) e = let r = all_none f os (λ j. e (suc j)) in let h : f o ≡ 0 = e 0 in let a = sum_by-cons f o os in omega (arith, r, h, a)

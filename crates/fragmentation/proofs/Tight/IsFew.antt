@@ -32,6 +32,6 @@ pub record IsFew (pages : List (Option Page)) (phase : Phase) (first made : ℕ 
   pub fair : (class : ℕ) → class < CLASSES → blocks_in class * used_pages pages class + to_move pages class phase ≤ blocks_in class * first class + made class + free_blocks pages class
   pub still : is_sweeping phase ≡ false → (class : ℕ) → class < CLASSES → IsTight pages class ⊎ (used_pages pages class ≤ first class)
 
--- the pages of the first classes, with what is asked for
+-- the pages of the first classes, with the requested blocks
 abbrev pub few_pages : (ℕ → ℕ) → (ℕ → ℕ) → ℕ → ℕ
 few_pages first made n = class_sum (λ class. first class + whole_pages class (made class)) n

@@ -1,4 +1,5 @@
--- What is left of pages that were chosen, while new objects took the places of their blocks: of each class one page at most.
+-- The main copies left on pages that were chosen, while new objects took the places of their blocks: at most one page
+-- of each class.
 use Rattle.std.specs.Prelude.{◌≡◌, ℕ, ◌+◌, ◌/◌, ◌<◌, ◌≤◌, ◌⊎◌, Bool, true, false, ◌&&◌, ◌==◌, if◌then◌else◌, List, Option, Some, None}
 use Rattle.size_classes.specs.declared.class.TheConstants.{CLASSES, PAGE_WORDS}
 use Rattle.size_classes.specs.Sizes.{blocks_in}

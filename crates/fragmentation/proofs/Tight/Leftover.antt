@@ -1,4 +1,4 @@
--- Of each class one page at most is left with main copies: through each action.
+-- At most one page of each class is left with main copies: through each action.
 use Rattle.std.proofs.Common.{◌≡◌, ℕ, suc, ◌+◌, ◌*◌, ◌/◌, ◌<◌, ◌≤◌, ◌⊎◌, inl, inr, Bool, true, false, not, ◌&&◌, ◌==◌, if◌then◌else◌, List, [], ◌∷◌, Option, Some, None, length, set, ap, ◌∙◌, sym, subst, arith, refl}
 use Rattle.std.specs.Prelude.{count_by, slice_get}
 use Rattle.std.proofs.lemmas.Bool.{eq-eqb}

@@ -1,4 +1,4 @@
--- Where objects stand among those that were found, and the table of their places.
+-- The places of objects among those that were found, and the table of these places.
 use Rattle.std.proofs.Common.{◌≡◌, ◌≢◌, ℕ, zero, suc, ◌+◌, ◌-◌, ◌*◌, ◌<◌, ◌≤◌, ◌⊎◌, inl, inr, Bool, true, false, cond, List, [], ◌∷◌, ◌++◌, length, length-append, length-set, set, get_or, replicate, ap, ◌∙◌, sym, subst, refl, arith}
 use Rattle.std.specs.Prelude.{nat_lt, count_by, slice_index}
 use Rattle.std.proofs.Math.Seq.{get_or-append_seam}

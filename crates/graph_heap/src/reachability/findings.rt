@@ -12,7 +12,8 @@ use std::marker::Model;
 #[derive(Drop)]
 pub struct Search {
     found: Vec<Found>,
-    /// Of identity n, at place n - 1: the place where it stands among those found, from 1, or 0.
+    /// At place n - 1, for the object of identity n: its place among those found, counted from 1, or 0 if it wasn't
+    /// found.
     places: Vec<usize>,
 }
 
@@ -27,7 +28,7 @@ impl Model for Search {
 }
 
 impl Search {
-    /// Nothing found yet, of this many objects.
+    /// Makes a search of this many objects that has found none yet.
     pub(crate) fn none(alloc: Global, objects: usize) -> Result<Search, NoMemory>
         ensures { IfOk result (λ s. s ≡ record { found = []; objects = objects }) }
     {
@@ -37,7 +38,7 @@ impl Search {
         })
     }
 
-    /// Adds an object, if it is one and wasn't found before.
+    /// Adds an object, if there is one of this identity and it wasn't found before.
     fn add(&mut self, found: Found) -> Result<(), NoMemory>
         ensures { OnOk result (Takes found self.old self.new) }
     {
@@ -89,7 +90,7 @@ impl Search {
         }
     }
 
-    /// What was found of an object.
+    /// Returns the find of an object.
     pub(crate) fn one(&self, id: u64) -> Found
         requires { (k : ℕ) × IsAt self.now.found id k }
         ensures { (k : ℕ) → IsAt self.now.found id k → found_at self.now.found k ≡ result }
@@ -105,7 +106,7 @@ impl Search {
         self.found.as_slice()
     }
 
-    /// The place of an object among those found, from 0: None where it wasn't found.
+    /// The place of an object among those found, from 0: None if it wasn't found.
     pub fn place(&self, id: u64) -> Option<usize>
         ensures some { IfSome result (λ k. IsAt self.now.found id k) }
         ensures none { IsNone result → IsNowhere self.now.found id }

@@ -1,6 +1,6 @@
 //! An object that can be reached.
 
-/// What holds a reference.
+/// The root or the cell that holds a reference.
 #[derive(Clone, Copy, Debug, PartialEq, Eq)]
 pub enum Holder {
     /// A root, by its place in the row of roots, from 0: the slots of mutator 0, of mutator 1 and so on, and
@@ -17,6 +17,6 @@ pub struct Found {
     pub id: u64,
     /// How many reference cells a shortest path to it goes through.
     pub distance: u64,
-    /// The last holder of such a path: what holds the object.
+    /// The last holder of a shortest path: it holds the object.
     pub holder: Holder,
 }

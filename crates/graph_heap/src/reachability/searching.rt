@@ -7,9 +7,9 @@ use crate::reachability::findings::Search;
 use crate::reference::Reference;
 use std::alloc::Global;
 
-/// The objects of a graph heap that can be reached, each once, nearest to the roots first, with their distances from
-/// the roots: a breadth-first search (Moore, 1959). It looks at each root, and at each reference cell of these objects,
-/// once; and asks for a word for each root, and for each object that was ever made, reached or not.
+/// Finds the objects of a graph heap that can be reached, each once, nearest to the roots first, with their distances:
+/// a breadth-first search (Moore, 1959). It looks once at each root, and at each reference cell of these objects. It
+/// takes a word for each root and for each object that was ever made, reached or not. Refused: NoMemory.
 pub fn search(alloc: Global, graph: &Reference) -> Result<Search, NoMemory>
     ensures { IfOk result (λ s. FindsAll graph.now s.found) }
 {

@@ -7,7 +7,7 @@ use crate::command::Limits;
 use crate::no_memory::NoMemory;
 
 impl Reference {
-    /// What bounds the heap. It has as many roots as there are slots and statics.
+    /// Returns the limits of the heap. It has as many roots as there are slots and statics.
     pub fn limits(&self) -> &Limits
         ensures limits { result.now ≡ self.now.limits }
         ensures row { length self.now.roots ≡ graph.root_cells self.now.limits }

@@ -1,4 +1,5 @@
-//! What the slow heap tells of its objects: which can be reached, their shapes, and for which a command asks.
+//! Questions about the objects of the slow heap: which can be reached, their shapes, and the shape that a command asks
+//! for.
 ghost use Rattle.std.specs.Prelude.{◌≡◌, ◌↔◌, true, length, IfOk, IsOkAnd, OnErr, IsTrue};
 ghost use Rattle.graph_heap.specs.Graph as graph;
 ghost use Rattle.graph_heap.specs.Effect.{effect_of, settled, TellsMade};
@@ -40,8 +41,8 @@ impl Reference {
         }
     }
 
-    /// Whether the entry is a step, which is then done, as `accepts` does; and the shape of the object for which its
-    /// command asks, where nothing but lack of space refuses it.
+    /// Does the step of an entry, as `accepts` does, and returns whether it is one. Also returns the shape of the
+    /// object that the command requests, if the command is refused for no other reason than lack of space.
     #[tactic(auto, unfolding(crate::specs::Effect::reply_of, crate::specs::Effect::next_of))]
     pub fn accepts_asking(&mut self, entry: &Entry) -> Result<(bool, Option<Shape>), NoMemory>
         ensures asked { IfOk result (λ told. told.1
@@ -50,7 +51,7 @@ impl Reference {
         ensures yes { IsOkAnd result (λ told. IsTrue told.0) → self.new ≡ after_entry self.old entry.now }
         ensures no { IsOkAnd result (λ told. ¬ IsTrue told.0) → self.new ≡ self.old }
         ensures err { OnErr result (self.new ≡ self.old) }
-        // Memory is refused only where the entry is a step that makes an object.
+        // Memory is refused only if the entry is a step that makes an object.
         ensures made { OnErr result (IsEntryOf self.old entry.now × TellsMade entry.now.reply) }
     {
         let (reply, change) = self.reply_and_change(true, entry.mutator, &entry.command);

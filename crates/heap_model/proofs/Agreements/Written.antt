@@ -1,4 +1,4 @@
--- What mutators write keeps the invariant.
+-- Writes of mutators keep the invariant.
 use Rattle.std.proofs.Common.{◌≡◌, ◌≢◌, ℕ, ◌+◌, ◌<◌, ◌≤◌, Bool, true, false, List, length, get_or, set, refl, ap, subst, sym, ◌∙◌, arith, inr, ◌==◌, length-set}
 use Rattle.std.specs.Prelude.{Option}
 use Rattle.graph_heap.specs.declared.command.Change.TheVariants as changes

@@ -1,4 +1,4 @@
--- What a command changes is founded in the graph heap: in the row, or in an object that can be reached.
+-- The change of a command is founded in the graph heap: it is in the row, or in an object that can be reached.
 use Rattle.std.proofs.Common.{◌≡◌, ◌≢◌, ℕ, ◌+◌, ◌-◌, ◌*◌, ◌<◌, ◌≤◌, Bool, true, false, List, length, get_or, refl, ap, subst, sym, ◌∙◌, arith, inl, inr, ◌==◌, ◌&&◌, if◌then◌else◌, nat_lt, Option, Some, None, Result, Ok, Err}
 use Rattle.std.specs.Prelude.{slice_get, slice_index, slice_index_or}
 use Rattle.std.proofs.lemmas.Nat.{mul-add-lt}

@@ -1,4 +1,4 @@
--- What the barrier leaves as it was, and what holds behind it.
+-- The state that the barrier leaves as it was, and the facts that hold behind it.
 use Rattle.std.proofs.Common.{◌≡◌, ℕ, ◌-◌, Bool, true, false, List, ◌∷◌, ◌++◌, ap, refl, sym, ◌∙◌, ◌==◌, ◌||◌}
 use Rattle.graph_heap.specs.Graph.{Graph}
 use Rattle.heap_model.specs.Block.{BlockRecord, with_colour}

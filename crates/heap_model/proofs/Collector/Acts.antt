@@ -1,4 +1,4 @@
--- What the collector does, over references: one action, and the beginning of a cycle.
+-- The collector, over references: one action, and the beginning of a cycle.
 use Rattle.std.specs.Prelude.{◌≡◌, ◌≢◌, ℕ, ◌+◌, ◌<◌, ◌≤◌, Bool, true, false, List, [], ◌∷◌, ◌++◌, if◌then◌else◌}
 use Rattle.heap_model.specs.Collector.{In_idle, In_roots, In_marking, In_sweep, In_moves, Collector}
 use Rattle.heap_model.proofs.Core.Edits.{shade, set_root, set_cell, free, flip, move}

@@ -1,4 +1,4 @@
--- What mutators do keeps the invariant: a record of what is overwritten, one write, and new objects.
+-- Mutators keep the invariant: a record of an overwritten reference, one write, and new objects.
 use Rattle.std.proofs.Common.{◌≡◌, ℕ, ◌<◌, Bool, true, false, arith, refl, ap, subst, sym, ◌∙◌}
 use Rattle.heap_model.specs.Core.{Name, PartGraph, Heap, Reach, Kept, Base, Tracing}
 use Rattle.heap_model.specs.Agree.{IsMain}

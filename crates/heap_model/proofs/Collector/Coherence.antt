@@ -1,4 +1,4 @@
--- What is grey, and what of it is scanned: through each step of the collector over references.
+-- The grey parts, and their scanned cells: through each step of the collector over references.
 use Rattle.std.proofs.Common.{◌≡◌, ℕ, ◌+◌, ◌<◌, ◌≤◌, Bool, true, false, List, [], ◌∷◌, ◌++◌, arith, refl, ap, subst, sym, ◌∙◌, ◌==◌, ◌||◌, if◌then◌else◌}
 use Rattle.heap_model.specs.Core.{Name, PartGraph, Heap, Reach, Base, Tracing, Sweeping, Moving, Left}
 use Rattle.heap_model.specs.Collector.{Progress, In_idle, In_roots, In_marking, In_sweep, In_moves, Collector, contains, Once, done_by, done_of, Greys, PhaseInvariant, Coherent}

@@ -1,4 +1,4 @@
--- What is changed in the heap and in the part graph, one thing at a time.
+-- Changes of the heap and of the part graph, one thing at a time.
 use Rattle.std.specs.Prelude.{ℕ, Bool, true, false, set, if◌then◌else◌, ◌==◌, ◌&&◌}
 use Rattle.heap_model.specs.Core.{Name, PartGraph, Heap}
 

@@ -1,4 +1,4 @@
--- What is kept: reachable when the cycle began, or made since.
+-- Kept parts: reachable when the cycle began, or made since.
 use Rattle.std.proofs.Common.{ℕ, zero, suc, ◌<◌, ◌⊎◌, inl, inr, arith, refl, subst, sym}
 use Rattle.heap_model.specs.Core.{Name, null, PartGraph, Walk, Reach, FreshBy, KeptBy, Fresh, Kept, Grows}
 

@@ -5,8 +5,8 @@ use Rattle.heap_model.proofs.Core.Stays.{SaysSame}
 use Rattle.heap_model.proofs.Core.Kept.{kept_reach, kept_fresh}
 use Rattle.heap_model.proofs.Core.NewObject.{old_target_kept, old_root_kept}
 
--- Two heaps that show the same: the same blocks are allocated, and each says the same. What stands in blocks that
--- aren't allocated, and behind a block's last cell, doesn't count.
+-- Two heaps that show the same: the same blocks are allocated, with the same records. Words of blocks that aren't
+-- allocated, and words behind a block's last cell, don't count.
 pub record SameBlocks (h h' : Heap) : Type 0 where
   pub next : h'.next ≡ h.next
   pub roots : h'.roots ≡ h.roots

@@ -1,4 +1,4 @@
--- What stays of a heap while blocks are added to it.
+-- The state of a heap that stays while blocks are added to it.
 use Rattle.std.specs.Prelude.{◌≡◌, ℕ, ◌<◌, true}
 use Rattle.heap_model.specs.Core.{Heap}
 

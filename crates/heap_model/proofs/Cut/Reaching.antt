@@ -1,4 +1,4 @@
--- What the part graph of a graph heap reaches is what the graph heap reaches.
+-- The part graph of a graph heap reaches the same as the graph heap.
 use Rattle.std.proofs.Common.{◌≡◌, ℕ, zero, suc, ◌+◌, ◌/◌, ◌%◌, ◌<◌, ◌≤◌, ◌≢◌, Bool, true, false, length, get_or, arith, refl, ap, subst, sym, ◌∙◌, nat_lt, List}
 use Rattle.graph_heap.specs.Graph.{Object, Graph, no_object, object_of}
 use Rattle.graph_heap.specs.Reach.{Path, Reaches}

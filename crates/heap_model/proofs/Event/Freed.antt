@@ -1,4 +1,4 @@
--- What was freed can't be reached, and never comes back.
+-- A freed object can't be reached, and never comes back.
 use Rattle.std.proofs.Common.{◌≡◌, ◌≢◌, ℕ, ◌<◌, ◌≤◌, ◌⊎◌, inl, inr, Bool, true, false, List, [], ◌∷◌, ◌++◌, length, get_or, ap, subst, sym, arith, ◌==◌, if◌then◌else◌, length-set, length-append}
 use Rattle.graph_heap.specs.declared.command.Change.{Change}
 use Rattle.graph_heap.specs.declared.command.Change.TheVariants as changes

@@ -1,4 +1,4 @@
--- What the next action costs is fixed by the state.
+-- The cost of the next action is fixed by the state.
 use Rattle.std.proofs.Common.{◌≡◌, ◌≢◌, ℕ, ◌+◌, ◌-◌, ◌<◌, ◌≤◌, ◌⊎◌, inl, inr, Bool, true, false, List, length, drop, get_or, refl, ap, sym, subst, ◌∙◌, arith}
 use Rattle.std.specs.Prelude.{Option, Some, None, slice_get, position}
 use Rattle.std.specs.List.{position_or_len}

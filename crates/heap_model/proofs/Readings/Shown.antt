@@ -1,4 +1,4 @@
--- What a heap that agrees with a graph heap reads as.
+-- The readings of a heap that agrees with a graph heap.
 use Rattle.std.proofs.lemmas.List.{get_or-drop, get_or-take}
 use Rattle.std.proofs.Common.{◌≡◌, ◌≢◌, ℕ, ◌+◌, ◌-◌, ◌<◌, Bool, true, false, length, get_or, refl, ap, subst, sym, ◌∙◌, arith, ◌==◌, if◌then◌else◌, ◌↔◌, drop, ◌*◌, ◌/◌, ◌%◌, nat_lt}
 use Rattle.graph_heap.specs.Graph.{Graph, object_of, Object}

@@ -1,4 +1,4 @@
--- What mutators do takes no work away.
+-- Mutators take no work away.
 use Rattle.std.proofs.Common.{Bool, List, ◌≡◌, ◌≢◌, ℕ, ◌+◌, ◌-◌, ◌*◌, ◌/◌, ◌<◌, ◌≤◌, inl, inr, true, false, length, set, refl, ap, subst, sym, ◌∙◌, arith, length-set}
 use Rattle.std.proofs.lemmas.Bool.{cases_Bool, cases_eq}
 use Rattle.graph_heap.specs.declared.command.Shape.{Shape}

@@ -1,4 +1,4 @@
--- What was entered, and what a sweep did.
+-- The entries since a moment, and the figures of a sweep.
 use Rattle.std.proofs.Common.{◌≡◌, drop, refl}
 use Rattle.std.specs.Prelude.{Option, Some, None}
 use Rattle.heap_model.specs.Event.{Course}

@@ -1,4 +1,4 @@
--- What a log holds after one step more.
+-- A log after one more step.
 use Rattle.std.proofs.Common.{◌≡◌, ℕ, ◌+◌, ◌-◌, ◌^◌, min, max, Bool, true, false, cond, List, [], ◌∷◌, ◌++◌, length, refl, ap, ◌∙◌, sym, subst, arith, append_assoc}
 use Rattle.std.specs.Prelude.{Option, Some, None, count_by}
 use Rattle.heap_model.specs.Event.{Course}

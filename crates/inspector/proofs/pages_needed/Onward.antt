@@ -3,7 +3,7 @@ use Rattle.std.proofs.Common.{◌≡◌, ℕ, ◌+◌, ◌<◌, ◌≤◌, ◌�
 use Rattle.std.specs.Option.{option_or}
 use Rattle.std.proofs.lemmas.Bool.{cases_lt}
 
--- Of the numbers below a limit: from this one on this holds of each, and not of the one before it; or not of the last.
+-- From this number on it holds of each below a limit, and not of the one before it; or it doesn't hold of the last.
 abbrev pub HoldsFrom : (ℕ → Type 0) → ℕ → Option ℕ → Type 0
 HoldsFrom Fits limit None = (pages : ℕ) → pages + 1 ≡ limit → 1 ≤ pages → Fits pages → ⊥
 HoldsFrom Fits limit (Some from) = (1 ≤ from) × (from < limit) × ((pages : ℕ) → from ≤ pages → pages < limit → Fits pages) × ((pages : ℕ) → pages + 1 ≡ from → 1 ≤ pages → Fits pages → ⊥)

@@ -1,6 +1,6 @@
-//! What is reported of a cycle.
+//! The figures of a cycle.
 
-/// What the sweep of a cycle did, by the heap after the quantum in which it ended, or by the history up to there.
+/// The figures of a cycle's sweep, by the heap after the quantum in which it ended, or by the history up to there.
 #[derive(Clone, Copy, Debug, PartialEq, Eq)]
 pub struct Sweep {
     /// How many objects were freed.
@@ -30,7 +30,7 @@ pub struct Cycle {
     pub longest: u64,
     /// How many blocks were moved, once its sweep has ended.
     pub moved: Option<u64>,
-    /// What its sweep did, once that has ended.
+    /// The figures of its sweep, once that has ended.
     pub sweep: Option<Sweep>,
 }
 

@@ -25,7 +25,7 @@ pub struct Log {
 }
 
 impl Log {
-    /// Before the first step.
+    /// Makes the log before the first step.
     pub fn new(alloc: Global) -> Log
         ensures { (now : Course) → IsLog [] now result }
     {

@@ -34,7 +34,7 @@ fn blocks_of(entry: &Entry) -> u32
     }
 }
 
-/// What entries made.
+/// The objects that entries made, and their blocks.
 pub fn made_by(entries: &[Entry]) -> Made
     ensures objects { result.objects ≡ count_by makes entries.now }
     ensures blocks { result.blocks ≡ sum_by blocks_made entries.now }

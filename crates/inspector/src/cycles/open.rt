@@ -14,7 +14,7 @@ use crate::cycles::turn::QuantumEffect;
 use machine::{Heap, Recorded};
 use nodes::Copies;
 
-/// What is known of the last sweep, and of the last cycle's end.
+/// The figures of the last sweep, and of the last cycle's end.
 #[derive(Clone, Copy, Debug, PartialEq, Eq)]
 pub struct Base {
     /// The objects that the sweep kept.
@@ -27,7 +27,7 @@ pub struct Base {
     pub place: usize,
 }
 
-/// What is reported of a cycle's end.
+/// The figures of a cycle's end.
 #[derive(Clone, Copy, Debug, PartialEq, Eq)]
 pub struct End {
     /// The units of the cycle.
@@ -36,7 +36,7 @@ pub struct End {
     pub moved: usize,
 }
 
-/// What was known when a cycle began.
+/// The figures when a cycle began.
 #[derive(Clone, Copy, Debug, PartialEq, Eq)]
 pub struct Start {
     /// The number of the line that began it.
@@ -58,14 +58,14 @@ pub struct Open {
     pub end: Option<End>,
 }
 
-/// The first number where it is so, and else the second.
+/// Returns the first number if `is_so`, else the second.
 fn either(is_so: bool, first: usize, second: usize) -> usize
     ensures { result ≡ (if is_so then first else second) }
 {
     if is_so { first } else { second }
 }
 
-/// The second, where there is a sweep.
+/// Returns the number of moved blocks, if there is a sweep.
 fn once_swept(sweep: Option<Sweep>, moved: usize) -> Option<u64>
     ensures { result ≡ option_map (λ s. moved) sweep }
 {
@@ -73,7 +73,7 @@ fn once_swept(sweep: Option<Sweep>, moved: usize) -> Option<u64>
 }
 
 impl Base {
-    /// Before the first step.
+    /// Returns the figures before the first step.
     pub fn new() -> Base
         ensures { IsBase [] result }
     {
@@ -85,7 +85,7 @@ impl Base {
         }
     }
 
-    /// What is known after one more quantum, with the copies in the heap and the length of the history.
+    /// Returns the figures after one more quantum, with the copies in the heap and the length of the history.
     pub fn after(self, turn: &QuantumEffect, copies: &Copies, place: usize) -> Base
         ensures { (steps : List Step) (s : Step) → IsBase steps self → IsQuantumEffect s turn.now
             → AreCounted s copies.now
@@ -106,7 +106,7 @@ impl Base {
 }
 
 impl End {
-    /// What is reported of a cycle that ends with this heap, which has this many old copies.
+    /// Returns the figures of a cycle that ends with this heap, which has this many old copies.
     fn from_heap(heap: &Heap, old: usize) -> End
         ensures { result ≡ record { units = heap.now.units; moved = old } }
     {
@@ -118,7 +118,7 @@ impl End {
 }
 
 impl Start {
-    /// What the sweep of the cycle did, which has just ended and left these copies.
+    /// Returns the figures of the cycle's sweep, which has just ended and left these copies.
     fn swept(&self, recorded: &Recorded, copies: &Copies) -> Sweep
         ensures { (swept ended : Option Course) (first : Course) → IsBaseAt swept ended self.now.base
             → self.now.place ≡ length first.history
@@ -199,7 +199,7 @@ impl Open {
         Some(End::from_heap(heap, copies.old))
     }
 
-    /// The cycle after one more quantum, with the copies in the heap where they were counted.
+    /// The cycle after one more quantum, with the copies in the heap if they were counted.
     pub fn after(self, turn: &QuantumEffect, copies: &Copies, recorded: &Recorded) -> Open
         ensures { (earlier later : List Step) (first s : Step) → begins first ≡ true → IsOpen earlier first later self
             → IsQuantumEffect s turn.now → AreCounted s copies.now → s.after ≡ recorded.now.course
@@ -214,7 +214,7 @@ impl Open {
         }
     }
 
-    /// How it ended; or with this heap, where it is still running.
+    /// How it ended; or with this heap, if it is still running.
     fn end(&self, heap: &Heap) -> End
         ensures { (later : List Step) (first : Step) → IsEnd first later self.now.end
             → (count_by ends_cycle later ≡ 0 → (end_of first later).heap ≡ heap.now)

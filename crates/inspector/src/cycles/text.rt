@@ -8,13 +8,13 @@ use std::alloc::{AllocError, Global};
 /// How figures stand in a line.
 #[derive(Clone, Copy, Debug, PartialEq, Eq)]
 pub enum Layout {
-    /// In columns of 8 bytes, with a blank between two.
+    /// In columns of 8 bytes, with a blank between two figures.
     Columns,
-    /// With a comma between two.
+    /// With a comma between two figures.
     Commas,
 }
 
-/// The line above all others, which names the figures.
+/// Returns the line above all others, which names the figures.
 fn header(layout: Layout) -> &'static str
     ensures { result.now ≡ header layout }
 {
@@ -26,7 +26,7 @@ fn header(layout: Layout) -> &'static str
     }
 }
 
-/// What stands between two figures.
+/// Returns the separator of two figures.
 fn separator(layout: Layout) -> &'static str
     ensures { result.now ≡ separator layout }
 {
@@ -36,7 +36,7 @@ fn separator(layout: Layout) -> &'static str
     }
 }
 
-/// The text of a figure in a column.
+/// Returns the text of a figure in a column.
 #[tactic(auto, using(crate::proofs::cycles::Columns::column_is))]
 fn column(alloc: Global, number: u128) -> Result<String, AllocError>
     ensures { IfOk result (λ text. string_bytes text ≡ in_column (decimal number)) }
@@ -75,7 +75,7 @@ pub fn figures(cycle: &Cycle) -> [Option<u128>; 10]
     ]
 }
 
-/// The line of a cycle.
+/// Returns the line of a cycle.
 fn line(alloc: Global, layout: Layout, cycle: &Cycle) -> Result<String, AllocError>
     ensures { IfOk result (λ text. string_bytes text ≡ cycle_line layout cycle.now) }
 {

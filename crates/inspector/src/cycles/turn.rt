@@ -1,4 +1,4 @@
-//! What a quantum was to the cycle that it found.
+//! The effect of a quantum on the cycle that it found.
 ghost use Rattle.std.specs.Prelude.{◌≡◌, true};
 ghost use Rattle.nodes.specs.Copies.{copies_in};
 ghost use Rattle.trace.specs.Observing.{IsMark};
@@ -11,7 +11,7 @@ use nodes::Copies;
 use sizing::in_cycle;
 use trace::Mark;
 
-/// What a quantum was to the cycle that it found.
+/// The effect of a quantum on the cycle that it found.
 #[derive(Clone, Copy, Debug, PartialEq, Eq)]
 pub struct QuantumEffect {
     /// Whether it found one running.
@@ -25,7 +25,7 @@ pub struct QuantumEffect {
 }
 
 impl QuantumEffect {
-    /// What a quantum was that left the heap so, before which the collector was at this mark.
+    /// Returns the effect of a quantum, from the collector's mark before it and the heap after it.
     pub fn between(before: &Mark, heap: &Heap) -> QuantumEffect
         ensures { (s : Step) → is_quantum s.event ≡ true → IsMark s.before.heap before.now → s.after.heap ≡ heap.now
             → IsQuantumEffect s result }

@@ -37,7 +37,7 @@ pub(crate) fn pages_line(
     format!(in alloc; "pages {needed} of {pages}{verdict}")
 }
 
-/// What is reported where no table has room for the blocks.
+/// Returns the line that is printed if no table has room for the blocks.
 pub(crate) fn too_many(alloc: Global) -> Result<String, AllocError>
     ensures { IfOk result (λ line. string_bytes line ≡ too_many) }
 {

@@ -1,4 +1,4 @@
-//! What is reported of what a run needed.
+//! The report of a run's needs.
 ghost use Rattle.std.specs.Prelude.{◌≡◌, ◌++◌, IfOk, string_bytes};
 ghost use Rattle.inspector.specs.NeededReport.{blocks_line, still_line, moved_line, gathered_line, page_demand_line, form_lines};
 ghost use Rattle.inspector.specs.NeededReport.{keys_line, fewest_keys, fewest_line, room_line, needed_report, needed_told};
@@ -10,7 +10,7 @@ use sizing::Needed;
 use space::pages_of_class;
 use std::alloc::{AllocError, Global};
 
-/// The line of a class, or nothing where no block of it is needed.
+/// The line of a class, or nothing if no block of it is needed.
 fn class_line(alloc: Global, needed: &Needed, class: Class) -> Result<String, AllocError>
     ensures { IfOk result (λ line. string_bytes line ≡ blocks_line needed.now class) }
 {
@@ -38,7 +38,7 @@ fn moved_line(alloc: Global, pages: u128) -> Result<String, AllocError>
     format!(in alloc; "as configured {pages}: for each run that needs no more blocks of any size\n")
 }
 
-/// How many suffice with moving after each sweep.
+/// Returns the line with the pages that suffice with moving after each sweep.
 fn gathered_line(alloc: Global, pages: u64) -> Result<String, AllocError>
     ensures { IfOk result (λ line. string_bytes line ≡ gathered_line pages) }
 {
@@ -143,11 +143,12 @@ fn told_of(alloc: Global, config: &Config, needed: &Option<Needed>) -> Result<St
     }
 }
 
-/// What is reported of what a run needed: of each class whose blocks are needed its size in words, how many of them
-/// together, and the pages that they take; then how many pages suffice in each way, and for which runs; the fewest
-/// without moving or with moving after each sweep, with the keys to set for them; then how many pages the configuration
-/// must have, out of how many it has, and whether they suffice for this run and each that needs no more. Without numbers,
-/// that the blocks are too many. Last on how many pages the trace of the run finds room, with the keys to set.
+/// Returns the report of a run's needs. Each class with needed blocks has a line: its size in words, how many blocks
+/// together, and the pages that they take. Then come: the pages that suffice in each way, and for which runs; the
+/// fewest without moving or with moving after each sweep, and the keys to set for them; how many pages the
+/// configuration must have, out of those that it has, and whether they suffice for this run and each that needs no
+/// more. If there are no numbers, it says that the blocks are too many. Last come the pages on which the trace of the
+/// run finds room, with the keys to set.
 pub fn needed_report(
     alloc: Global,
     config: &Config,

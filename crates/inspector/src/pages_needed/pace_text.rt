@@ -1,4 +1,4 @@
-//! What is reported of a pace.
+//! The report of a pace.
 ghost use Rattle.std.specs.Prelude.{◌≡◌, Some, IfOk, string_bytes};
 ghost use Rattle.space.specs.Fitting.{pace_in};
 ghost use Rattle.inspector.specs.NeededReport.{pace_line, quanta_line, from_line, least_lines, pace_report, IsPaceReport};
@@ -10,7 +10,7 @@ use size_classes::{Class, Config};
 use space::{Pace, least_pages, pace_needs};
 use std::alloc::{AllocError, Global};
 
-/// The line of a class, or nothing where no block of it is needed.
+/// The line of a class, or nothing if no block of it is needed.
 fn class_line(alloc: Global, pace: &Pace, class: Class) -> Result<String, AllocError>
     ensures { IfOk result (λ line. string_bytes line ≡ pace_line (pace_in pace.now) class) }
 {
@@ -23,7 +23,7 @@ fn class_line(alloc: Global, pace: &Pace, class: Class) -> Result<String, AllocE
     format!(in alloc; "size {size} live {live} busy {busy} idle {idle}\n")
 }
 
-/// With how many quanta of a cycle the pages are reckoned, each of the schedule's units.
+/// Returns the line with the quanta of a cycle from which the pages are calculated, each of the schedule's units.
 fn quanta_line(alloc: Global, quanta: u64, units: u32) -> Result<String, AllocError>
     ensures { IfOk result (λ line. string_bytes line ≡ quanta_line quanta units) }
 {
@@ -65,11 +65,11 @@ fn lines_with(alloc: Global, config: &Config, pace: &Pace) -> Result<String, All
     .concat(alloc)
 }
 
-/// What is reported of a pace in a heap of a configuration, with quanta of its schedule's units: of each class whose
-/// blocks are needed its size in words, the blocks of live objects, of what is asked for while a cycle runs up to the
-/// next quantum, and between two cycles; with how many quanta of a cycle the pages are reckoned; how many pages are
-/// needed, out of how many there are, and for which runs they suffice; the least number of pages that does, and from
-/// how many on each does. Without a pace, that the blocks are too many.
+/// Returns the report of a pace in a heap of a configuration, with quanta of its schedule's units. Each class with
+/// needed blocks has a line: its size in words, the blocks of live objects, those requested while a cycle runs up to
+/// the next quantum, and those between two cycles. Then come: the quanta of a cycle from which the pages are
+/// calculated; how many pages are needed, out of those there are, and for which runs they suffice; the least number of
+/// pages that suffices, and from how many on each does. If there is no pace, it says that the blocks are too many.
 pub fn pace_report(
     alloc: Global,
     config: &Config,

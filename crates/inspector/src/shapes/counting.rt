@@ -13,12 +13,12 @@ use nodes::BlockView;
 use std::alloc::{AllocError, Global};
 use std::collections::BTreeMap;
 
-/// What is held in the blocks that were looked at.
+/// The figures of the blocks that were looked at.
 #[derive(Drop)]
 pub struct Counted {
-    /// Of each shape, by its cells.
+    /// The figures of each shape, by its cells.
     pub each: BTreeMap<Cells, Held>,
-    /// Of all shapes.
+    /// The figures of all shapes.
     pub all: Held,
 }
 
@@ -42,7 +42,7 @@ impl Counted {
         Ok(())
     }
 
-    /// Counts the block at a place of a page that has blocks of this many words: nothing where it isn't allocated, or
+    /// Counts the block at a place of a page that has blocks of this many words: nothing if it isn't allocated, or
     /// holds an old copy.
     fn look_at(
         &mut self,
@@ -81,7 +81,7 @@ impl Counted {
     }
 }
 
-/// What a heap holds of each shape, and of all of them.
+/// Counts the objects of each shape, and of all shapes, that a heap holds.
 pub fn count(alloc: Global, heap: &Heap) -> Result<Counted, AllocError>
     ensures rows { IfOk result (λ counted. AreRows heap.now.store counted.each.entries) }
     ensures all { IfOk result (λ counted. counted.all ≡ held_of any_shape heap.now.store) }

@@ -1,4 +1,4 @@
-//! What is held of some objects.
+//! The objects, parts and words of some shapes that a heap holds.
 ghost use Rattle.std.specs.Prelude.{◌≡◌, ◌≤◌};
 ghost use Rattle.inspector.specs.Shapes.{nothing, both, held_by, cells_of};
 ghost use Rattle.inspector.specs.Counted.{IsOfBlocks};
@@ -15,7 +15,7 @@ pub struct Cells {
     pub words: u32,
 }
 
-/// What is held of some objects. Old copies count nowhere.
+/// The objects, parts and words of some shapes that a heap holds. Old copies count nowhere.
 #[derive(Clone, Copy, Debug, PartialEq, Eq)]
 pub struct Held {
     /// How many objects they are.
@@ -38,7 +38,7 @@ pub(crate) fn cells_of(shape: Shape) -> Cells
     Cells { refs, words }
 }
 
-/// That of no object.
+/// Returns the figures of no object.
 pub(crate) fn nothing() -> Held
     ensures { result ≡ nothing }
 {

@@ -16,7 +16,7 @@ fn figures(alloc: Global, held: &Held) -> Result<String, AllocError>
     format!(in alloc; " objects {objects} parts {parts} words {words}\n")
 }
 
-/// The line of a shape.
+/// Returns the line of a shape.
 fn shape_line(alloc: Global, cells: &Cells, held: &Held) -> Result<String, AllocError>
     ensures { IfOk result (λ line. string_bytes line ≡ shape_line (cells.now, held.now)) }
 {
@@ -46,9 +46,9 @@ fn lines_of(alloc: Global, counted: &Counted) -> Result<String, AllocError>
     Ok(text)
 }
 
-/// What a heap holds of each shape, in lines that end with LF: of each shape of which a part is held its references and
-/// its words, and how many objects of it there are, how many parts these have, and how many words the blocks of these
-/// take, in rising order of references and then of words; last the sums. Old copies count nowhere.
+/// Returns the text of the report by shape, in lines that end with LF. Each shape of which a part is held has a line:
+/// its references and words, how many objects it has, how many parts these have, and how many words their blocks take.
+/// The lines are in rising order of references and then of words; last come the sums. Old copies count nowhere.
 pub fn shapes_text(alloc: Global, heap: &Heap) -> Result<String, AllocError>
     ensures { IfOk result (λ text. ShapesTold heap.now (string_bytes text)) }
 {

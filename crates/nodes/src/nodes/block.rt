@@ -1,4 +1,4 @@
-//! What an allocated block says, read and written.
+//! The records of allocated blocks, read and written.
 ghost use Rattle.std.specs.Prelude.{◌≡◌, ◌≢◌, ◌+◌, ◌-◌, ◌<◌, ◌≤◌, length, slice_index, slice_set, true};
 ghost use Rattle.heap_model.specs.Action.{KeepsBlocks};
 ghost use Rattle.heap_model.specs.Block.{with_colour, with_cell};
@@ -54,7 +54,7 @@ impl Nodes {
         block as u64 + 1
     }
 
-    /// What a reference names, by way of the forwarding word of its block (Brooks, 1984).
+    /// Returns the object that a reference names, by way of the forwarding word of its block (Brooks, 1984).
     #[inline(always)]
     pub fn resolve(&self, reference: u64) -> Referent
         requires block { reference ≢ 0 → is_allocated self.now (reference - 1) ≡ true }
@@ -108,7 +108,7 @@ impl Nodes {
         }
     }
 
-    /// The identity of that object.
+    /// Returns the identity of a block's object.
     #[inline(always)]
     pub fn identity(&self, block: usize) -> u64
         requires { is_allocated self.now block ≡ true }
@@ -142,7 +142,7 @@ impl Nodes {
         self.arena.set_colour(block, colour);
     }
 
-    /// What cell i of an allocated block holds.
+    /// Returns cell i of an allocated block.
     #[inline(always)]
     pub fn cell(&self, block: usize, i: usize) -> u64
         requires allocated { is_allocated self.now block ≡ true }

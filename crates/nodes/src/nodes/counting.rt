@@ -1,4 +1,4 @@
-//! What can be seen of a page, and the blocks of all pages, counted.
+//! The view of a page, and counts over the blocks of all pages.
 ghost use Rattle.std.specs.Prelude.{◌≡◌, ◌+◌, ◌-◌, ◌*◌, ◌^◌, ◌<◌, ◌≤◌, length, true, IfSome};
 ghost use Rattle.size_classes.specs.Parts.{cells_of};
 ghost use Rattle.heap_model.specs.Pages.{page_at};
@@ -36,7 +36,7 @@ fn cells_in(shape: Shape) -> usize
 }
 
 impl Nodes {
-    /// What can be seen of a page: None where it is free, or where there is no such page.
+    /// Returns the view of a page: None if it is free, or if there is no such page.
     pub fn page(&self, page: usize) -> Option<PageView>
         ensures view { result ≡ view_of (page_at self.now.pages page) }
         ensures within { IfSome result (λ v. v.allocated ≤ 512) }
@@ -44,8 +44,8 @@ impl Nodes {
         self.table.page(page)
     }
 
-    /// How many words are wasted inside the allocated blocks of a page: of each block those behind the last cell of its
-    /// part. There are none on a free page, nor where there is no such page.
+    /// Returns how many words are wasted inside the allocated blocks of a page: those behind the last cell of each
+    /// block's part. None are on a free page, or on a page that doesn't exist.
     pub fn wasted_inside(&self, page: usize) -> usize
         ensures wasted { result ≡ wasted_on self.now page }
         ensures within { result ≤ 131072 }

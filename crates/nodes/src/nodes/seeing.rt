@@ -1,4 +1,4 @@
-//! What can be seen of one block.
+//! The view of one block.
 ghost use Rattle.std.specs.Prelude.{◌≡◌, true};
 ghost use Rattle.heap_model.specs.Store.{is_allocated, record_of};
 ghost use Rattle.nodes.specs.Seen.{seen_in, block_view};
@@ -6,7 +6,7 @@ ghost use Rattle.nodes.specs.Seen.{seen_in, block_view};
 use super::Nodes;
 use graph_heap::Shape;
 
-/// What can be seen of an allocated block: the part that it holds, and of which object.
+/// The view of an allocated block: the part that it holds, and of which object.
 #[derive(Clone, Copy, Debug, PartialEq, Eq)]
 pub struct BlockView {
     /// The identity of the object.
@@ -20,7 +20,7 @@ pub struct BlockView {
 }
 
 impl Nodes {
-    /// What can be seen of an allocated block.
+    /// Returns the view of an allocated block.
     fn seen(&self, block: usize) -> BlockView
         requires { is_allocated self.now block ≡ true }
         ensures { result ≡ seen_in block (record_of self.now block) }
@@ -33,7 +33,7 @@ impl Nodes {
         }
     }
 
-    /// What can be seen of a block of a page, by its number there, from 0. None where it isn't allocated, or where there is
+    /// Returns the view of a block of a page, by its number there, from 0. None if it isn't allocated, or if there is
     /// no such page or block.
     pub fn block(&self, page: usize, index: usize) -> Option<BlockView>
         ensures { result ≡ block_view self.now page index }

@@ -1,4 +1,4 @@
-//! What is read of the pages: by the records alone where they tell it, else with the words.
+//! Questions about the pages: some are answered by the records alone, others also need the words.
 ghost use Rattle.std.specs.Prelude.{◌≡◌, ◌-◌, ◌^◌, ◌<◌, ◌≤◌, ◌↔◌, IsTrue, slice_get, slice_index, position, length, IfSome, IsSomeAnd, Some, true, option_map};
 ghost use Rattle.size_classes.specs.Need.{blocks_needed};
 ghost use Rattle.size_classes.specs.Parts.{parts_in};
@@ -41,8 +41,8 @@ impl PageTable {
         self.free_blocks[class.number()]
     }
 
-    /// Whether there is room for the parts of an object: the blocks that are needed besides the free ones
-    /// are taken in whole pages, and these together are at most the free pages.
+    /// Whether there is room for the parts of an object: needed blocks for which no free one is left take whole pages,
+    /// and there are as many free pages.
     #[inline(always)]
     pub fn room(&self, parts: &Parts) -> bool
         ensures { Tells self.now (λ pages. result ≡ has_room pages (blocks_needed parts.now (parts_in parts.now))) }
@@ -107,7 +107,7 @@ impl PageTable {
         }
     }
 
-    /// What can be seen of a page: None where it is free, or where there is no such page.
+    /// Returns the view of a page: None if it is free, or if there is no such page.
     pub fn page(&self, page: usize) -> Option<PageView>
         ensures view { Tells self.now (λ pages. result ≡ view_of (page_at pages page)) }
         ensures within { Tells self.now (λ pages. IfSome result (λ v. v.allocated ≤ 512)) }

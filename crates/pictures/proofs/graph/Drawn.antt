@@ -1,4 +1,4 @@
--- What is drawn, in parts.
+-- The drawing, in parts.
 use Rattle.std.proofs.Common.{◌≡◌, ◌≢◌, ℕ, ◌+◌, ◌-◌, ◌<◌, min, Bool, true, false, if◌then◌else◌, List, [], ◌∷◌, ◌++◌, length, take, drop, get_or, ap, ◌∙◌, sym}
 use Rattle.std.specs.Prelude.{nat_eq, Some, Result, Ok, Err}
 use Rattle.std.specs.Result.{IsErrAnd}

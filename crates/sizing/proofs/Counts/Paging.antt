@@ -58,7 +58,7 @@ many_pages class n small l =
     let e = blocks_at class small in
     le-div TOO_MANY (n + (blocks_in class - 1)) (blocks_in class) (omega (arith, b.0, e)) (omega (arith, b.1, e, l))
 
--- of a class, the pages of blocks that are counted up to the most
+-- the pages of a class, for blocks that are counted up to the most
 told : (class n allocated : ℕ) → class < CLASSES → allocated ≡ min n MOST → IsPages (whole_pages class (min allocated MOST_BLOCKS)) (whole_pages class n)
 told class n allocated small e = elim (cases_lt MOST_BLOCKS n) [
   | inl more ↦ (

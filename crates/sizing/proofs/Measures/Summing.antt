@@ -1,4 +1,4 @@
--- What was measured, in the end.
+-- The measurements, in the end.
 use Rattle.std.proofs.Common.{◌≡◌, ℕ, ◌<◌, ◌≤◌, ◌^◌, ◌↔◌, ◌⊎◌, inl, inr, List, arith, refl, ◌∙◌, sym, subst}
 use Rattle.std.specs.Prelude.{Option, Some, None, MatchOption, IfSome, IsNone, slice_index}
 use Rattle.graph_heap.specs.declared.command.Limits.{Limits}

@@ -1,4 +1,4 @@
--- What a meter holds after a beginning and after quanta.
+-- The fields of a meter after a beginning and after quanta.
 use Rattle.std.proofs.Common.{◌≡◌, ℕ, ◌<◌, ◌≤◌, ◌↔◌, Bool, true, false, if◌then◌else◌, List, [], ◌∷◌, ◌++◌, length, max, arith, refl, ap, ◌∙◌, sym, subst}
 use Rattle.std.proofs.Math.Seq.{drop-length}
 use Rattle.std.specs.Prelude.{IfSome, slice_index}
@@ -54,7 +54,7 @@ module _ (l : Limits) (es : List Event) (r new : Course) (old fin : Meter) (v : 
     abbrev begin_pace : Pace
     begin_pace = record { live = λ class. max (v.needs.pace.live class) (needed_now class); busy = v.needs.pace.busy; idle = v.needs.pace.idle }
 
-    -- of each season, whatever else is said to be live
+    -- each season, whatever else is said to be live
     within : (live : Lives) (most : ℕ → ℕ) → LiveWithin (season_at live (opening_season l) es).graph most ↔ Least needed_now most
     within live most = live_in (season_at live (opening_season l) es).graph ((alike live (opening_season l) es).graph ∙ v.are.graph) most
 

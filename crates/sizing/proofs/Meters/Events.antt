@@ -1,4 +1,4 @@
--- What a meter holds after each event.
+-- The fields of a meter after each event.
 use Rattle.std.proofs.Common.{◌≡◌, ℕ, ◌+◌, ◌<◌, ◌≤◌, ◌↔◌, ◌⊎◌, inl, inr, Bool, true, false, if◌then◌else◌, List, [], ◌∷◌, ◌++◌, length, drop, max, arith, refl, ap, ◌∙◌, sym, subst}
 use Rattle.std.specs.Prelude.{None, IfSome}
 use Rattle.graph_heap.specs.declared.command.Limits.{Limits}
@@ -96,12 +96,12 @@ not_more more a b up off = elim (le_or b a) [
     le_or : (x y : ℕ) → (x ≤ y) ⊎ (y < x)
     le_or x y = grind arith
 
--- a meter that noted what is asked for steps as its graph did
+-- a meter that counted the requested blocks steps as its graph did
 pub noted_steps : (old done noted : Meter) (x : Entry) → noted.graph ≡ done.graph → (IsEntryOf old.graph x → done ≡ record old { graph = after_entry old.graph x }) → IsEntryOf old.graph x
     → noted ≡ record noted { graph = after_entry old.graph x }
 noted_steps old done noted x same stepped is = ap (λ (g : Graph). record noted { graph = g }) (same ∙ ap (λ (y : Meter). y.graph) (stepped is))
 
--- what is asked for is noted after the entry was done as it would be before
+-- requested blocks that are counted after the entry was done are counted as before it
 pub asks_before : (asked : List ℕ) (old done noted : Meter) → done ≡ record old { graph = done.graph } → Asks asked done noted → Asks asked old (record noted { graph = old.graph })
 asks_before asked old done noted same asks = let s = subst (λ (x : Meter). Asks asked x noted) same asks in record {
   graph = refl;

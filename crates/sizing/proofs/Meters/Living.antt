@@ -1,4 +1,4 @@
--- What is live needs what the objects need that can be reached, and no less.
+-- Live objects need exactly the blocks of the objects that can be reached.
 use Rattle.std.proofs.Common.{◌≡◌, ℕ, ◌<◌, ◌≤◌, ◌↔◌, inl, inr, true, false, ◌||◌, ◌==◌, List, [], ◌∷◌, ◌++◌, length, arith, refl, ap, ◌∙◌, sym, subst}
 use Rattle.std.specs.Prelude.{nat_eq, sum_by}
 use Rattle.std.specs.List.{IsDistinct, AllByRecursion}

@@ -1,4 +1,4 @@
--- What a command allocates, and asks for.
+-- The blocks that a command allocates, and those that it requests.
 use Rattle.std.proofs.Common.{◌≡◌, ℕ, ◌+◌, ◌<◌, ◌≤◌, ◌⊎◌, inl, inr, Bool, true, false, ◌==◌, if◌then◌else◌, List, [], ◌∷◌, length, length-append, arith, refl, ap, ◌∙◌, sym, subst, Result, Ok, Err}
 use Rattle.std.specs.Prelude.{Option, Some, None, IfSome, IsNone}
 use Rattle.graph_heap.specs.declared.command.Limits.{Limits}

@@ -19,7 +19,7 @@ no_more u m x y e f l = yes u m (omega (arith, e, f, l))
 more : (u m x y : ℕ) → x ≡ u → y ≡ m → y < x → nat_le u m ≡ false
 more u m x y e f l = no u m (omega (arith, e, f, l))
 
--- what one of the two ways takes: so many pages, with so many quanta a cycle
+-- the needs in one of the two ways: this many pages, with this many quanta a cycle
 pub record Takes (needs : Needs) (count cycle : ℕ) : Type 0 where
   pub pages : needs.pages ≡ count
   pub quanta : needs.quanta ≡ cycle

@@ -32,7 +32,7 @@ module _ (h : HeapState) (k : ℕ) (great : 256 ≤ k) where
       let same = same_swept h r.heap i.limit i.settings in
       few_quanta k (swept_units h) n (n * k) (omega (arith, great)) (omega arith) (omega (arith, l, s, z, same))
 
-  -- such phases last so many quanta in every run, where they do at each place of it
+  -- phases of a kind last at most `most` quanta in every run, if they do at each place of it
   all_last : (is_such : Phase → Bool) (most : ℕ) → ((r : Course) (n : ℕ) → IsCourse r → IsSpent k h r n → is_such r.heap.phase ≡ true → n + 1 ≤ most)
       → (es : List Event) (r new : Course) (n : ℕ) → IsCourse r → IsSpent k h r n → Runs r es new → HaveBudgets k es → LastsAtMost is_such most n es
   all_last is_such most few [] r new n w i runs great = tt

@@ -1,4 +1,4 @@
--- Where moving may begin, only the quanta that end in it leave units of their budgets.
+-- If moving may begin, only the quanta that end in it leave units of their budgets.
 use Rattle.std.proofs.Common.{◌≡◌, ◌≢◌, ℕ, ◌+◌, ◌-◌, ◌*◌, ◌/◌, ◌<◌, ◌≤◌, inl, inr, Bool, true, false, if◌then◌else◌, List, length, ap, ◌∙◌, sym, subst, arith, refl}
 use Rattle.std.proofs.lemmas.Nat.{le-div}
 use Rattle.std.proofs.Math.Nat.{mul-le-mul_right}
@@ -126,7 +126,7 @@ command_moved k h r new m c reply ended more units w v does = record {
       (founded (present_of r) (room_for r.heap c) m c (present_row r.heap (present_of r) (snapshot_of r) w.represents.consistent)) (change_at units r.heap new.heap (present_of r) _ does.change)).within;
 }
 
--- What is kept: each of n quanta spent k units at least, but for 255 of each that ended in moving.
+-- The invariant: each of n quanta spent at least k units, except for 255 of each that ended in moving.
 pub record IsSpent (k : ℕ) (h : HeapState) (r : Course) (n : ℕ) : Type 0 where
   pub limit : cycle_limit r.heap ≡ cycle_limit h
   pub settings : settings_of r.heap ≡ settings_of h
@@ -155,7 +155,7 @@ abbrev pub HasBudget : ℕ → Event → Type 0
 HasBudget k (Quantum_done budget units phase) = k ≤ budget
 HasBudget k _ = Unit {0}
 
--- where n quanta of a running cycle were done, so many were done after one more event; where none runs, any number will do
+-- the number of quanta of a running cycle after one more event, if n were done before it; if no cycle runs, any number
 abbrev pub Counts : Course → Event → ℕ → ℕ → Type 0
 Counts r Cycle_begun n to = to ≡ 0
 Counts r (Quantum_done budget units phase) n to = in_cycle r.heap.phase ≡ true → to ≡ n + 1

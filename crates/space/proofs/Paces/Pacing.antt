@@ -1,4 +1,4 @@
--- What keeps to a pace keeps to a demand.
+-- A run that keeps to a pace keeps to a demand.
 use Rattle.std.proofs.Common.{◌≡◌, ℕ, zero, suc, ◌+◌, ◌-◌, ◌*◌, ◌<◌, ◌≤◌, ◌⊎◌, inl, inr, Bool, true, false, ◌==◌, if◌then◌else◌, List, [], ◌∷◌, ◌++◌, Result, Ok, Err, length, get_or, drop, ap, ◌∙◌, sym, subst, arith, refl}
 use Rattle.std.proofs.lemmas.List.{drop-append-le, get_or_past}
 use Rattle.std.proofs.lemmas.Bool.{cases_lt}
@@ -114,7 +114,7 @@ quanta_after r Begin_refused n = n
 quanta_after r (Quantum_done budget units phase) n = if in_cycle r.heap.phase then n + 1 else n
 quanta_after r (Quantum_refused budget) n = n
 
--- What is kept, where n quanta of the cycle were done, and no cycle takes more than `most`.
+-- The invariant, if n quanta of the cycle were done, and no cycle takes more than `most`.
 pub record IsPaced (r : Course) (t : Tally) (b : Beat) (p : Pace) (most n : ℕ) : Type 0 where
   pub graph : t.graph ≡ present_of r
   pub same : b.graph ≡ present_of r

@@ -1,4 +1,4 @@
--- What a cycle spends, and with how many quanta.
+-- The units that a cycle spends, and its number of quanta.
 use Rattle.std.proofs.Common.{◌≡◌, ◌≢◌, ℕ, ◌+◌, ◌*◌, ◌/◌, ◌<◌, ◌≤◌, inl, inr, Bool, true, false, if◌then◌else◌, length, ap, ◌∙◌, sym, subst, arith, refl}
 use Rattle.std.proofs.lemmas.Nat.{le-div}
 use Rattle.graph_heap.specs.Graph.{Graph}

@@ -1,4 +1,4 @@
--- Where moving never begins, a quantum spends its whole budget, and a pace keeps to a smaller demand.
+-- If moving never begins, a quantum spends its whole budget, and a pace keeps to a smaller demand.
 use Rattle.std.proofs.Common.{◌≡◌, ℕ, ◌+◌, ◌<◌, ◌≤◌, inl, inr, Bool, true, false, ◌==◌, if◌then◌else◌, List, Option, Some, None, length, set, ap, ◌∙◌, sym, subst, arith, refl}
 use Rattle.std.proofs.lemmas.Bool.{cases_Bool}
 use Rattle.size_classes.specs.declared.class.TheConstants.{CLASSES}
@@ -60,7 +60,8 @@ still_tracing (phases.Marking part cell) none on = refl
 still_tracing (phases.Sweeping page block) none on = refl
 still_tracing (phases.Moving m) none on = absurd (none m refl)
 
--- What is kept of a course in which no page may be left sparse: it is that of a demand, and each quantum spends at least k units.
+-- The invariant of a course in which no page may be left sparse: that of a demand, and each quantum spends at least k
+-- units.
 record IsStill (h : HeapState) (d : Demand) (k : ℕ) (r : Course) (t : Tally) (n : ℕ) : Type 0 where
   tracked : IsTracked r t d 0
   limit : cycle_limit r.heap ≡ cycle_limit h

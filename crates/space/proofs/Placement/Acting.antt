@@ -1,4 +1,4 @@
--- What each action leaves of the blocks.
+-- The blocks after each action.
 use Rattle.std.proofs.Common.{◌≡◌, ℕ, ◌-◌, Bool, true, false, if◌then◌else◌, List, None, ap, ◌∙◌, refl}
 use Rattle.graph_heap.specs.Graph.{Object, Graph}
 use Rattle.heap_model.specs.declared.phase.Phase.TheVariants as phases

@@ -1,4 +1,4 @@
--- What a command leaves of the pages and the blocks.
+-- The pages and the blocks after a command.
 use Rattle.std.proofs.Common.{◌≡◌, ◌≢◌, ℕ, ◌+◌, ◌-◌, ◌/◌, ◌<◌, ◌≤◌, ◌⊎◌, inl, inr, Bool, true, false, ◌==◌, if◌then◌else◌, List, [], ◌∷◌, ◌++◌, Option, Some, None, length, set, ap, ◌∙◌, sym, subst, arith, refl, length-append}
 use Rattle.std.specs.Prelude.{position}
 use Rattle.std.proofs.lemmas.Bool.Decides.{eqb_tells}

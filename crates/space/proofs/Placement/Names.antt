@@ -95,7 +95,7 @@ parts_member i cells (suc parts) class p l e = by_class (is_class class (class_f
 abbrev object_names : ℕ → Object → ℕ → List Name
 object_names i o class = part_names i (cells_of o.shape) (parts_in (cells_of o.shape)) class
 
--- of identities
+-- the names of identities
 ids_names : List Object → ℕ → List ℕ → List Name
 ids_names objects class [] = []
 ids_names objects class (i ∷ is) = object_names i (object_of objects i) class ++ ids_names objects class is
@@ -124,7 +124,7 @@ ids_member objects class (j ∷ js) i p there l e = by_first (j == i) refl there
         (subst (λ z. is_member name_eq (object_names z (object_of objects z) class) (name i p) ≡ true) (sym same) (parts_member i (cells_of (object_of objects i).shape) (parts_in (cells_of (object_of objects i).shape)) class p l e))
     by_first false f t rec = member_right (object_names j (object_of objects j) class) (ids_names objects class js) (name i p) (rec t)
 
--- of the objects from one on
+-- the names of the objects from one on
 object_names_from : ℕ → List Object → ℕ → List Name
 object_names_from base [] class = []
 object_names_from base (o ∷ os) class = object_names (base + 1) o class ++ object_names_from (base + 1) os class

@@ -30,7 +30,7 @@ use Rattle.space.specs.Placement.{class_in, IsTidy, KeepsOnly}
 pub not_same : (a b : ℕ) → (a == b) ≡ false → a ≢ b
 not_same a b e = grind arith
 
--- two records say the same, but for colours, links and cells
+-- two records are the same, except for colours, links and cells
 pub record SameHead (m n : BlockRecord) : Type 0 where
   pub identity : m.identity ≡ n.identity
   pub part : m.part ≡ n.part

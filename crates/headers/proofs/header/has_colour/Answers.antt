@@ -4,7 +4,7 @@ use Rattle.heap_model.specs.Header.{bit_of}
 use Rattle.heap_model.specs.State.{same_colour}
 use Rattle.headers.proofs.header.has_colour.Goals as goal
 
--- a bit is the one of a colour where it tells of it
+-- a bit is that of a colour if it says so
 bit_told : (b : ℕ) (colour : Bool) → b < 2 → eqb (4 * b) (4 * bit_of colour) ≡ same_colour colour (eqb b 1)
 bit_told b true small = elim (cases_eq b 1) [
   | inl e ↦ eq-eqb (4 * b) 4 (omega (arith, e)) ∙ sym (eq-eqb b 1 e)

@@ -3,7 +3,7 @@ use Rattle.graph_heap.specs.Merge.{mine, commands_of}
 use Rattle.heap_server.specs.Played.{IsPart}
 use Rattle.heap_server.proofs.workers.work.Given as goal
 
--- the commands so far were called, and the seat was told of them
+-- the commands so far were called, and the seat has seen their entries
 abbrev pub invariant-loop-command : goal.invariant-loop-command
 invariant-loop-command g l = record {
   mutator : l.seat.mutator ≡ l.fn.seat.mutator;

@@ -129,6 +129,14 @@ def built_well(happens, wanted):
         return (is_built(top, file).returncode == 0) == wanted
 
 
+def waits_for_one(kept):
+    """Whether a crate that is named gets its stamp while the run goes on, and no other."""
+    with tempfile.TemporaryDirectory() as top:
+        copy(top)
+        write(top, "log", SAID.partition("\n")[0] + "\n")
+        return kept(top, f"{top}/log", f"{top}/noted", "below") == (1, 0) and stamps(top) == ["below"]
+
+
 def marks_late():
     """Whether a program isn't marked where something was changed since the sum was taken."""
     with tempfile.TemporaryDirectory() as top:
@@ -160,6 +168,7 @@ def passed(kept):
         good[f"{what}, beside"] = given_well(happens, wanted)
     for what, (happens, wanted) in CHANGES.items():
         good[f"{what} is changed"] = built_well(happens, wanted)
+    good["one crate"] = waits_for_one(kept)
     good["a late mark"] = marks_late()
     good["other files here, beside"] = given_well(CASES["nothing"][0], ["below"], changes_here=True)
     for what in [it for it, is_good in good.items() if not is_good]:

@@ -57,12 +57,28 @@ step() {
 
 # beside NAME COMMAND..: begins a step, which runs beside others until `join` names it
 beside() {
-    local began=$SECONDS
+    after '' "$@"
+}
+
+# after OTHER NAME COMMAND..: the same, once the step OTHER that runs beside others has passed; if it fails, so does this one
+after() {
     (
-        "${@:2}" >"$room/$1" 2>&1
-        echo "$? $((SECONDS - began))" >"$room/$1.end"
+        began=$SECONDS
+        status=0
+        if [ -n "$1" ]; then
+            until [ -s "$room/$1.end" ]; do sleep 1; done
+            began=$SECONDS
+            read -r status _ <"$room/$1.end"
+        fi
+        if [ "$status" = 0 ]; then
+            "${@:3}"
+            status=$?
+        else
+            echo "$1 didn't pass"
+        fi >"$room/$2" 2>&1
+        echo "$status $((SECONDS - began))" >"$room/$2.end"
     ) &
-    groups[$1]=$!
+    groups[$2]=$!
 }
 
 # join NAME..: waits for steps that run beside one another, and prints the outcome of each

@@ -6,8 +6,7 @@ import re
 import subprocess
 import time
 
-from kept import gathered
-from kit import rt
+from kit import gathered, rt
 
 # The last line of a run.
 ENDED = re.compile(r"^\d+ passed, \d+ failed", re.M)
@@ -16,15 +15,8 @@ PARTS = ("format", "toolchain/checked.a", "toolchain/checked.json", "toolchain/m
 
 
 def touched(crate):
-    """Returns a mark that shows whether the file of the crate was changed, even if it was changed back."""
-    found = []
-    for part in (*rt.rtlib.PARTS, "c"):
-        for at, folders, names in os.walk(f"{crate.folder}/{part}"):
-            folders.sort()
-            for name in ["", *sorted(names)]:
-                it = os.lstat(f"{at}/{name}")
-                found.append([os.path.relpath(f"{at}/{name}", crate.folder), it.st_ino, it.st_size, it.st_mtime_ns, it.st_ctime_ns])
-    return found
+    """Returns a mark that shows whether a file of the crate was changed, even if it was changed back."""
+    return [list(it) for it in rt.touched(crate)]
 
 
 def is_built(top, *words):

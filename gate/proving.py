@@ -25,5 +25,5 @@ class Proving(Proved):
             print(f"{crate.name}: {fault}", flush=True)
             return False
         with open(f"{at}/stamp", "w", encoding="utf-8") as file:
-            file.write(crate.stamp())
+            file.write(self.stamp(crate.name))
         return True

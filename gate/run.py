@@ -98,9 +98,8 @@ class Run:
             with self.telling:
                 self.found[name] = verdicts.UNTURNED, ""
                 print(f"{name}: {verdicts.UNTURNED}, beside {', '.join(it.name for it in trial.edits)}", flush=True)
+        self.kept.keep(crate, [(it.edit, (it.ground, it.why)) for it in results if it.kind == verdicts.REFUSED])
         for it in results:
-            if it.kind == verdicts.REFUSED:
-                self.kept.keep(it.edit, (it.ground, it.why))
             self.tell(it.edit, it.kind, it.why, it.ground)
         return [self.task(crate, it) for it in again]
 

@@ -184,9 +184,6 @@ def whole(trial):
     found = kinds.get(kind, verdicts.NOT_TRIED)
     if "only because a proof file names" in said:
         found = verdicts.NAMES
-    elif "only by a limit of the prover" in said:
-        # (older kits have no kind for it)
-        found = verdicts.AT_LIMIT
     return Result(edit, found, LABEL.sub("", said), verdicts.ground_told(said) if found == verdicts.REFUSED else "")
 
 

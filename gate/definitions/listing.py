@@ -13,29 +13,6 @@ def sentence(comment):
     return first.replace("*", r"\*").replace("<", "&lt;") + "." if first else ""
 
 
-def in_order(files, trust, listed):
-    """The files of a crate, code before definitions, and among these each behind those on which it rests."""
-    below = {file: set() for file in files}
-    for place in listed:
-        for it in trust.definitions[place].rests_on:
-            if it.crate == place.crate and it.file in below and it.file != place.file:
-                below[place.file].add(it.file)
-    ordered = []
-
-    def put(file):
-        if file not in ordered and file not in under_way:
-            under_way.add(file)
-            for it in sorted(below[file]):
-                if it.startswith("specs/") and file.startswith("specs/"):
-                    put(it)
-            ordered.append(file)
-
-    under_way = set()
-    for file in sorted(files, key=lambda it: (it.startswith("specs/"), it)):
-        put(file)
-    return ordered
-
-
 def value_of(definition):
     """The value of a constant, and the parts of a type."""
     if not definition.value:
@@ -49,8 +26,7 @@ def line_of(definition, is_headline):
     """The line of a definition."""
     name = f"`{definition.place.name}`"
     said = sentence(definition.comment)
-    told = f"{value_of(definition)}{': ' if said else ''}{said}"
-    return f"  - {f'**{name}**' if is_headline else name} {definition.checksum()}{told}"
+    return f"  - {f'**{name}**' if is_headline else name}{value_of(definition)}{': ' if said else ''}{said}"
 
 
 def lines_of_crate(crate, trust, listed, headline):
@@ -58,7 +34,7 @@ def lines_of_crate(crate, trust, listed, headline):
     by_file = {}
     for place in sorted(listed, key=lambda it: trust.definitions[it].line):
         by_file.setdefault(place.file, []).append(place)
-    for file in in_order(by_file, trust, listed):
+    for file in sorted(by_file, key=lambda it: (it.startswith("specs/"), it)):
         ending = ".rt" if file.startswith("src/") else ".antt"
         yield f"- {file}{ending}: {sentence(trust.files[crate].get(file, ''))}"
         yield from (line_of(trust.definitions[it], it in headline) for it in by_file[file])
@@ -121,8 +97,8 @@ class Listing:
             f"# Definitions of `{crate}`",
             "",
             f"What contracts of public calls rest on in this crate: {counted(len(listed), 'definition')}, of which the headline rests",
-            f"on {len(of_headline)}, in bold. docs/TRUST.md says how they are found. Behind each name stand the first digits of the",
-            "checksum of its text; then the value of a constant or the parts of a type, and the first sentence above it.",
+            f"on {len(of_headline)}, in bold. docs/TRUST.md says how they are found. Behind each name stands the value of a constant or",
+            "the parts of a type, and the first sentence above it.",
             "",
             *lines_of_crate(crate, self.trust, listed, self.headline),
         ]

@@ -1,5 +1,4 @@
 """The definitions that are trusted: each with its place, and how a name finds it from its uses."""
-import hashlib
 import os
 import re
 from dataclasses import dataclass, field
@@ -36,10 +35,6 @@ class Definition:
     value: str = ""
     rests_on: set = field(default_factory=set)
     others: set = field(default_factory=set)
-
-    def checksum(self):
-        """The first eight digits of the checksum of its text, however that is laid out."""
-        return hashlib.sha256(" ".join(self.text.split()).encode()).hexdigest()[:8]
 
 
 @dataclass

@@ -3,21 +3,9 @@
  * that holds no heap, and texts. Two mutators, of which the first is live, with four slots each, and a static.
  */
 #include "metronome.h"
+#include "checks.h"
 #include <stdio.h>
 #include <string.h>
-
-static int passed, failed;
-
-static void check(int holds, int line) {
-    if (holds) {
-        passed++;
-    } else {
-        failed++;
-        fprintf(stderr, "failed: line %d\n", line);
-    }
-}
-
-#define IS(value, expression) check((expression) == (value), __LINE__)
 
 /* A call on the heap h has this answer. */
 #define ANSWERS(expected_kind, expected_number, name, ...) \
@@ -375,6 +363,5 @@ int main(void) {
     commands_of_a_closed_handle_are_refused();
     nothing_is_told_of_a_closed_handle();
     statuses_have_texts();
-    printf("%d passed, %d failed\n", passed, failed);
-    return failed != 0;
+    return checked();
 }

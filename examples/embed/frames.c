@@ -2,24 +2,12 @@
  * What the header has over the calls: frames of slots, whole cycles, and a pace at which no object is refused.
  */
 #include "metronome.h"
+#include "checks.h"
 #include <stdio.h>
 
 enum { SLOTS = 8, OF_FRAMES = 6, PAGES = 16, CELL_WORDS = 6, BUDGET = 1000, LIVE = 1500 };
 
 static metronome heap = METRONOME_CLOSED;
-static int passed, failed;
-
-static void check(int holds, int line) {
-    if (holds) {
-        passed++;
-    } else {
-        failed++;
-        fprintf(stderr, "failed: line %d\n", line);
-    }
-}
-
-#define CHECK(holds) check(holds, __LINE__)
-#define IS(status, call) check((call) == (uint32_t)(status), __LINE__)
 
 static int is_null(uint32_t slot) {
     metronome_shape shape;
@@ -156,6 +144,5 @@ int main(void) {
     check_refusals();
     check_pace();
     metronome_destroy(&heap);
-    printf("%d passed, %d failed\n", passed, failed);
-    return failed != 0;
+    return checked();
 }

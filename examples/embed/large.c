@@ -5,6 +5,7 @@
  */
 #define _GNU_SOURCE
 #include "metronome.h"
+#include "checks.h"
 #include <stdio.h>
 #include <stdlib.h>
 #include <sys/resource.h>
@@ -15,19 +16,6 @@ enum { SLOTS = 64, CALLS = 200000, BUDGET = 2000, MOST = 1048576, MOVED = 64, KI
 enum { MADE = 40000000, KEPT = 1000, BETWEEN = 2000000, STEP = 64 };
 
 static const int64_t PAGES[] = { 4096, 65536, MOST };
-
-static int passed, failed;
-
-static void check(int holds, int line) {
-    if (holds) {
-        passed++;
-    } else {
-        failed++;
-        fprintf(stderr, "failed: line %d\n", line);
-    }
-}
-
-#define CHECK(holds) check(holds, __LINE__)
 
 static metronome opened(int64_t pages, int64_t moved) {
     metronome heap = METRONOME_CLOSED;
@@ -172,6 +160,5 @@ int main(void) {
     answers_are_the_same(MOVED);
     much_is_live();
     one_more_is_refused();
-    printf("%d passed, %d failed\n", passed, failed);
-    return failed != 0;
+    return checked();
 }

@@ -4,21 +4,9 @@
  * at too, as a program does that asks before it makes a heap.
  */
 #include "metronome.h"
+#include "checks.h"
 #include <stdio.h>
 #include <string.h>
-
-static int passed, failed;
-
-static void check(int holds, int line) {
-    if (holds) {
-        passed++;
-    } else {
-        failed++;
-        fprintf(stderr, "failed: line %d\n", line);
-    }
-}
-
-#define IS(status, call) check((call) == (uint32_t)(status), __LINE__)
 
 /* What a call tells through its pointers, all bytes 7. */
 struct told {
@@ -279,6 +267,5 @@ int main(void) {
     cycles_keep_to_their_limit(settings);
     plans_are_told();
     plans_are_kept_by_new_heaps();
-    printf("%d passed, %d failed\n", passed, failed);
-    return failed != 0;
+    return checked();
 }

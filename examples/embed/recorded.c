@@ -3,22 +3,11 @@
  * other heaps and of closed handles, a quantum that is refused, and a file that takes nothing.
  */
 #include "metronome_record.h"
+#include "checks.h"
 
 enum { WORD = 7 };
 
 static metronome heap = METRONOME_CLOSED;
-static int passed, failed;
-
-static void check(int holds, int line) {
-    if (holds) {
-        passed++;
-    } else {
-        failed++;
-        fprintf(stderr, "failed: line %d\n", line);
-    }
-}
-
-#define CHECK(holds) check(holds, __LINE__)
 #define ANSWERS(what, call) check((call).kind == (what), __LINE__)
 
 static void write_cells(void) {
@@ -119,6 +108,5 @@ int main(void) {
     metronome_destroy(&heap);
     for (int i = 0; i < 3; i++) CHECK(fclose(files[i]) == 0);
     check_full(&settings);
-    printf("%d passed, %d failed\n", passed, failed);
-    return failed != 0;
+    return checked();
 }

@@ -1,21 +1,12 @@
 // The classes of metronome.hpp, each status that is theirs alone, and what is given back when they go out of scope. Built without
 // exceptions too, and then what throws is left out.
 #include "metronome.hpp"
+#include "checks.h"
 #include <cstdio>
 #include <cstring>
 #include <vector>
 
 using namespace barleynight;
-
-static int passed, failed;
-
-static void check(bool holds, int line) {
-    (holds ? passed : failed)++;
-    if (!holds) std::fprintf(stderr, "failed: line %d\n", line);
-}
-
-#define CHECK(holds) check(holds, __LINE__)
-#define IS(status, call) check((call) == static_cast<std::uint32_t>(status), __LINE__)
 
 static const metronome_settings SETTINGS = { 4, 2, 3, 1, 1000, 0, 0, 10, 12, 100, 1 };
 
@@ -303,6 +294,5 @@ int main() {
     CHECK(roots_used(heap) == 0);
     check_throwing();
     check_whole_cycle_that_moves();
-    std::printf("%d passed, %d failed\n", passed, failed);
-    return failed != 0;
+    return checked();
 }

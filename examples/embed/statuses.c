@@ -3,27 +3,15 @@
  * word, slot 2 an array of one reference, and slot 3 null; mutator 1 isn't live, and there is no mutator 2.
  */
 #include "metronome.h"
+#include "checks.h"
 #include <stdio.h>
 
 static metronome heap = METRONOME_CLOSED;
-static int passed, failed;
-
-static void check(int holds, int line) {
-    if (holds) {
-        passed++;
-    } else {
-        failed++;
-        fprintf(stderr, "failed: line %d\n", line);
-    }
-}
-
 #define REFUSED(status, call) \
     do { \
         metronome_answer answer = (call); \
         check(answer.kind == METRONOME_REFUSED && answer.number == (status), __LINE__); \
     } while (0)
-
-#define IS(status, call) check((call) == (uint32_t)(status), __LINE__)
 
 /* A command of a mutator that there isn't, and of one that isn't live. */
 #define LIVENESS(name, ...) \
@@ -169,6 +157,5 @@ int main(void) {
     fill(settings);
     check_spent();
     metronome_destroy(&heap);
-    printf("%d passed, %d failed\n", passed, failed);
-    return failed != 0;
+    return checked();
 }

@@ -3,24 +3,12 @@
  * that lies there once, with its identity and shape; which of some identities lie there; a block by its number.
  */
 #include "metronome.h"
+#include "checks.h"
 #include <stdio.h>
 #include <string.h>
 
 /* A quantum has fewer units than there are roots, and than the array has cells: so quanta end in each phase. */
 enum { PAGES = 64, SLOTS = 64, STATICS = 256, CELLS = 1000, MADE = 3000, BUDGET = 300 };
-
-static int passed, failed;
-
-static void check(int holds, int line) {
-    if (holds) {
-        passed++;
-    } else {
-        failed++;
-        fprintf(stderr, "failed: line %d\n", line);
-    }
-}
-
-#define CHECK(holds) check(holds, __LINE__)
 
 /* The shapes that were made, by identity, and how often a walk met each. */
 static metronome_shape made[MADE + 1];
@@ -131,6 +119,5 @@ int main(void) {
     walks_in_each_phase(0);
     walks_in_each_phase(PAGES);
     blocks_are_told();
-    printf("%d passed, %d failed\n", passed, failed);
-    return failed != 0;
+    return checked();
 }

@@ -14,6 +14,7 @@
  */
 #define _GNU_SOURCE
 #include "metronome_shared.h"
+#include "../checks.h"
 #include <pthread.h>
 #include <stdio.h>
 #include <string.h>
@@ -54,16 +55,6 @@ static int wakes_are_slow, turns_are_long;
 static uint64_t wakes;          /* how often a thread was woken; an atomic, as is the next */
 static uint64_t last_wake;      /* who woke one last: its number, above 32 bits of how often it had slept by then */
 static _Thread_local struct actor *me;
-static int passed, failed;
-
-static void check(int holds, int line) {
-    if (holds) {
-        passed++;
-    } else {
-        failed++;
-        fprintf(stderr, "failed: line %d\n", line);
-    }
-}
 
 #define READ(at) __atomic_load_n(&(at), __ATOMIC_SEQ_CST)
 #define SET(at, value) __atomic_store_n(&(at), value, __ATOMIC_SEQ_CST)
@@ -347,6 +338,5 @@ int main(void) {
     look_at_many(fair, CREW);
     look_at_many(in_order, MOST);
     look_at_many(fair, MOST);
-    printf("%d passed, %d failed\n", passed, failed);
-    return failed != 0;
+    return checked();
 }

@@ -5,6 +5,7 @@
  */
 #define _GNU_SOURCE
 #include "metronome_shared.h"
+#include "../checks.h"
 #include <pthread.h>
 #include <stdio.h>
 #include <time.h>
@@ -15,18 +16,6 @@ static metronome_gate gate; /* one after the other */
 static metronome_seat own = METRONOME_NO_SEAT, seats[WAITERS];
 static uint64_t waits, wakes; /* how often a thread slept, and how often one was to be woken; counted as atomics */
 static uint64_t entered;      /* written in turns alone */
-static int passed, failed;
-
-static void check(int holds, int line) {
-    if (holds) {
-        passed++;
-    } else {
-        failed++;
-        fprintf(stderr, "failed: line %d\n", line);
-    }
-}
-
-#define IS(status, call) check((call) == (uint32_t)(status), __LINE__)
 
 static uint64_t count_of(uint64_t *count) {
     return __atomic_load_n(count, __ATOMIC_SEQ_CST);
@@ -187,6 +176,5 @@ int main(void) {
     look_at(fast);
     look_at(in_order);
     look_at(fair);
-    printf("%d passed, %d failed\n", passed, failed);
-    return failed != 0;
+    return checked();
 }

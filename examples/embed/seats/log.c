@@ -5,26 +5,13 @@
  * noted, and what was read meanwhile were the same ones.
  */
 #include "model.h"
+#include "../checks.h"
 #include <pthread.h>
 #include <stdio.h>
 #include <stdlib.h>
 #include <string.h>
 
 enum { THREADS = 4, AT_MOST = 16, SHORT = 12 };
-
-static int passed, failed;
-
-static void check(int holds, int line) {
-    if (holds) {
-        passed++;
-    } else {
-        failed++;
-        fprintf(stderr, "failed: line %d\n", line);
-    }
-}
-
-#define CHECK(holds) check(holds, __LINE__)
-#define IS(status, call) check((call) == (uint32_t)(status), __LINE__)
 
 /* A command with these numbers. */
 static metronome_command numbered(uint32_t kind, uint32_t first, uint32_t second, uint32_t third, uint32_t fourth) {
@@ -288,6 +275,5 @@ int main(int count, char **words) {
     IS(METRONOME_NO_HEAP, metronome_seat_enter(&none));
     for (size_t n = 0; n < sizeof rings / sizeof *rings; n++) check_ring(rings[n]);
     check_threads(count > 1 ? (uint32_t)atoi(words[1]) : 400);
-    printf("%d passed, %d failed\n", passed, failed);
-    return failed != 0;
+    return checked();
 }

@@ -3,23 +3,12 @@
  * in the order that the header says, and changes nothing.
  */
 #include "metronome_shared.h"
+#include "../checks.h"
 #include <stdio.h>
 #include <string.h>
 
-static int passed, failed;
 static const metronome_seat none = METRONOME_NO_SEAT;
 static const metronome_settings settings = METRONOME_SETTINGS(4, 4, 4);
-
-static void check(int holds, int line) {
-    if (holds) {
-        passed++;
-    } else {
-        failed++;
-        fprintf(stderr, "failed: line %d\n", line);
-    }
-}
-
-#define IS(status, call) check((call) == (uint32_t)(status), __LINE__)
 
 /* What a call tells through its pointers, all bytes 7. */
 struct told {
@@ -286,6 +275,5 @@ int main(void) {
     a_destroyed_seat_gives_its_turn_back();
     figures_are_told();
     statuses_have_texts();
-    printf("%d passed, %d failed\n", passed, failed);
-    return failed != 0;
+    return checked();
 }

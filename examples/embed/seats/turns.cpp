@@ -1,21 +1,12 @@
 // The classes of metronome_shared.hpp, and what is given back when they go out of scope. Built without exceptions too, and then what
 // throws is left out.
 #include "metronome_shared.hpp"
+#include "../checks.h"
 #include <cstdio>
 #include <thread>
 #include <vector>
 
 using namespace barleynight;
-
-static int passed, failed;
-
-static void check(bool holds, int line) {
-    (holds ? passed : failed)++;
-    if (!holds) std::fprintf(stderr, "failed: line %d\n", line);
-}
-
-#define CHECK(holds) check(holds, __LINE__)
-#define IS(status, call) check((call) == static_cast<std::uint32_t>(status), __LINE__)
 
 static constexpr std::uint32_t THREADS = 4, ROUNDS = 20000;
 
@@ -188,6 +179,5 @@ int main() {
     check_threads(fast);
     check_threads(fair);
     check_throwing();
-    std::printf("%d passed, %d failed\n", passed, failed);
-    return failed != 0;
+    return checked();
 }

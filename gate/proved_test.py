@@ -3,6 +3,7 @@ import os
 import shutil
 import tempfile
 
+from finders import tree
 from kit import rt
 from proved import PARTS, is_built, note
 from proving import Proving
@@ -26,9 +27,7 @@ SAID = "rt: below proved\nrt: above is kept: an earlier run proved the same\nrt:
 
 def write(top, path, text):
     """Writes a file of the copy."""
-    os.makedirs(os.path.dirname(f"{top}/{path}"), exist_ok=True)
-    with open(f"{top}/{path}", "w", encoding="utf-8") as file:
-        file.write(text)
+    tree.write(top, {path: text})
 
 
 def library(top, name, of=None):
@@ -93,8 +92,7 @@ CHANGES = {
 
 def copy(top):
     """Writes a copy of the repository, as it is before a run and behind it."""
-    for path, text in FILES.items():
-        write(top, path, text)
+    tree.write(top, FILES)
     os.makedirs(f"{top}/bin/package")
     shutil.copy(IS_BUILT, f"{top}/bin/package/is-built")
     note(top, f"{top}/noted")
@@ -150,8 +148,7 @@ def given_well(happens, wanted, changes_here=False):
     """Whether just the libraries that are wanted are given to another copy, with their stamps; that may have other files."""
     with tempfile.TemporaryDirectory() as top, tempfile.TemporaryDirectory() as here:
         copy(top)
-        for path, text in FILES.items():
-            write(here, path, text)
+        tree.write(here, FILES)
         if changes_here:
             change(here, "crates/above/src/lib.rt", False)
         happens(top)

@@ -6,6 +6,7 @@ import threading
 import time
 from collections import Counter
 
+import calls
 import copies
 import edits
 import functions
@@ -153,12 +154,25 @@ def made(crates, jobs, anew, is_quick=False, proving=None):
     return run
 
 
+def without_clause(run, crate):
+    """The functions of a crate that others can call and an edit turns, and of which no edit is refused by a clause of a contract, each
+    with the ground of the best refusal."""
+    called, best = calls.called(crate), {}
+    for edit in run.edits[crate.name]:
+        ground = run.grounds.get(edit.name)
+        for path in called.intersection(functions.turned_by(edit)) if ground else ():
+            best[path] = min(best.get(path, ground), ground, key=verdicts.GROUNDS.index)
+    return {path: ground for path, ground in best.items() if ground != verdicts.CLAUSE}
+
+
 def tried(crates, jobs, anew, is_quick=False, proving=None):
     """How many edits of these crates were refused, and how many weren't; it says which."""
     run = made(crates, jobs, anew, is_quick, proving)
     for crate in crates:
         if run.checks[crate.name]:
             print(f"{crate.name}: {len(run.edits[crate.name])} edits, {run.checks[crate.name]} checks, {run.seconds[crate.name]:.0f} s")
+        for path, ground in () if is_quick else without_clause(run, crate).items():
+            print(f"{crate.name}::{path} has no refusal by a clause, but by {ground}")
     grounds = Counter(run.grounds.values())
     print(f"refused by {', '.join(f'{it} {grounds[it]}' for it in verdicts.GROUNDS)}")
     passed = [kind for kind, _ in run.found.values()].count(verdicts.REFUSED)

@@ -9,6 +9,7 @@ import functions
 import kept
 import run
 import trials
+from finders import tree
 from kit import rt
 from verdicts import BAD, BY_HAND, CLAUSE, CONDITION, INVARIANT, NAMES, NOT_REFUSED, REFUSED
 
@@ -198,18 +199,13 @@ SLOW = ("begins_at_one_less_one", "asks_for_none")
 
 def crate_in(room):
     """The crate of this test, written in a folder, with its edits."""
-    for name, text in FILES.items():
-        os.makedirs(os.path.dirname(f"{room}/{name}"), exist_ok=True)
-        with open(f"{room}/{name}", "w", encoding="utf-8") as file:
-            file.write(text)
-    folder = f"{room}/crates/told/{edits.FOLDER}"
-    os.makedirs(f"{room}/crates/told/{edits.SLOW}")
+    texts = dict(FILES)
     for name, old, new, *_ in CASES:
         path = "specs/Limit.antt" if old in SPECS else "src/lib.rt"
-        with open(f"{folder}/{'slow/' * (name in SLOW)}{name}.edit", "w", encoding="utf-8") as file:
-            file.write(f"file: {path}\nold: {old}\nnew: {new}\n")
-            if name in REFUSED_BY:
-                file.write(f"refused by: {REFUSED_BY[name]}\n")
+        said = f"refused by: {REFUSED_BY[name]}\n" if name in REFUSED_BY else ""
+        folder = edits.SLOW if name in SLOW else edits.FOLDER
+        texts[f"crates/told/{folder}/{name}.edit"] = f"file: {path}\nold: {old}\nnew: {new}\n{said}"
+    tree.write(room, texts)
     return rt.rtlib.crates_below(f"{room}/crates")[0]
 
 

@@ -1,8 +1,7 @@
 """A test of the finders: a tree of its own goes in, and what is wrong with it comes out."""
-import os
 import tempfile
 
-from finders import citations, imports, lengths, names, paths, sentences, standing
+from finders import citations, imports, lengths, names, paths, sentences, standing, tree
 
 DOCUMENT = """# A document
 
@@ -119,18 +118,10 @@ WANTED = {
 }
 
 
-def written(top):
-    """Writes the tree into a folder."""
-    for path, text in fake().items():
-        os.makedirs(os.path.dirname(f"{top}/{path}"), exist_ok=True)
-        with open(f"{top}/{path}", "w", encoding="utf-8") as file:
-            file.write(text)
-
-
 def faults():
     """Returns the findings of a finder that are wrong there, and those that are missing."""
     with tempfile.TemporaryDirectory() as top:
-        written(top)
+        tree.write(top, fake())
         for finder, wanted in WANTED.items():
             found = finder.found(top)
             if sorted(found) != sorted(wanted):

@@ -20,6 +20,14 @@ def text_of(top, path):
         return file.read()
 
 
+def write(top, texts):
+    """Writes texts into files below a folder, by their paths in it."""
+    for path, text in texts.items():
+        os.makedirs(os.path.dirname(f"{top}/{path}"), exist_ok=True)
+        with open(f"{top}/{path}", "w", encoding="utf-8") as file:
+            file.write(text)
+
+
 def documents(top):
     """The documents of a tree."""
     return files_below(top, "", ".md")

@@ -5,6 +5,7 @@ import os
 import re
 
 import functions
+from finders import tree
 
 # The text between a function's name and the number of its copy.
 MARK = "_turned"
@@ -26,12 +27,7 @@ def of(path):
 @functools.cache
 def proof_texts(folder):
     """The texts of proofs/ in a crate's folder, by their paths in it."""
-    found = {}
-    for at, _, names in os.walk(f"{folder}/proofs"):
-        for name in names:
-            with open(f"{at}/{name}", encoding="utf-8") as file:
-                found[os.path.relpath(f"{at}/{name}", folder)] = file.read()
-    return found
+    return {path: tree.text_of(folder, path) for path in tree.files_below(folder, "proofs", "")}
 
 
 def texts_of(folder, proofs):
@@ -121,8 +117,7 @@ def place(folder, path, turns):
     original, _ = of(path)
     below = functions.functions_below(folder)
     file, function = next((file, it) for file, them in below.items() for it in them if it.path == original)
-    with open(f"{folder}/{file}", encoding="utf-8") as opened:
-        text = opened.read()
+    text = tree.text_of(folder, file)
     parts = [text[function.start : function.name], path.rpartition("::")[2]]
     at = function.name + len(original.rpartition("::")[2])
     for _, start, end, new in sorted(turns, key=lambda it: it[1]):

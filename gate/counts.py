@@ -27,12 +27,6 @@ def tests(top):
     return [f"{path}: {name}" for path in tree.files_below(top, "crates", ".rt") for name in TEST.findall(tree.text_of(top, path))]
 
 
-def crates(top):
-    """The names of the crates that crates.txt has."""
-    lines = tree.text_of(top, "crates.txt").splitlines()
-    return [re.split("[: ]", it)[0] for it in lines if it and not it.startswith("#")]
-
-
 def cases(top):
     """How many worked cases of each kind a tree has, as `tests/run --count` says it; nothing where a file of cases can't be read,
     which it says."""
@@ -51,7 +45,7 @@ def told(top):
     """Returns the items of a tree, each with its folder."""
     found = {f"wrong body {name}": os.path.dirname(path).split("/", 2)[2] for name, path in edits(top).items()}
     files = tree.files_below(top, "tests/cases", ".story", ".runs")
-    return {**found, **{it: "" for it in [*tests(top), *files, *crates(top)]}}
+    return {**found, **{it: "" for it in [*tests(top), *files, *tree.listed(top)]}}
 
 
 def gone(was, now):

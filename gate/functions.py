@@ -4,6 +4,8 @@ import os
 import re
 from dataclasses import dataclass, replace
 
+from finders import tree
+
 # Text that isn't code: comments, texts and characters.
 HIDDEN = re.compile(
     r'//[^\n]*|/\*.*?\*/|b?r(#*)".*?"\1|b?"(?:\\.|[^"\\])*"|b?\'(?:\\u\{[0-9a-fA-F]+\}|\\x..|\\.|[^\\\'\n])\'', re.S
@@ -113,13 +115,7 @@ def functions_of(text, path):
 
 def texts_of(folder):
     """The texts of src/ in a crate's folder, by their paths in it."""
-    texts = {}
-    for at, _, names in os.walk(f"{folder}/src"):
-        for name in names:
-            if name.endswith(".rt"):
-                with open(f"{at}/{name}", encoding="utf-8") as file:
-                    texts[os.path.relpath(f"{at}/{name}", folder)] = file.read()
-    return texts
+    return {path: tree.text_of(folder, path) for path in tree.files_below(folder, "src", ".rt")}
 
 
 def types_of(texts):

@@ -1,11 +1,8 @@
 """The names in a piece of code: definitions in its contracts, and types."""
 import re
-import sys
 from dataclasses import dataclass, field
 
-from tree import TOP, Scope
-
-sys.path.append(f"{TOP}/gate")
+from tree import Scope
 from functions import body_of, group_end
 
 GHOST = re.compile(r"(?:\b(?:requires|ensures)\b\*?\s*\w*|\bghost\s+(?P<label>\w+)\s*(?P<sign>[:=]))\s*\{")

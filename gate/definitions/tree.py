@@ -1,9 +1,12 @@
 """The definitions that are trusted: each with its place, and how a name finds it from its uses."""
 import os
 import re
+import sys
 from dataclasses import dataclass, field
 
 TOP = os.path.dirname(os.path.dirname(os.path.dirname(os.path.abspath(__file__))))
+sys.path.append(f"{TOP}/gate")
+from finders import tree as files
 
 # A name, or one that is taken from a module by the module's name; not a field behind a dot.
 NAME = re.compile(r"(?<![\w.'])[A-Za-z_][\w'-]*(?:\.[A-Za-z_][\w'-]*)?")
@@ -76,17 +79,7 @@ def imported(words):
         yield alias or name, name
 
 
-def crates():
-    """The crates, lowest first, as crates.txt has them."""
-    with open(f"{TOP}/crates.txt", encoding="utf-8") as file:
-        return [re.split(r"[: ]", line)[0] for line in file if line.strip() and not line.startswith("#")]
-
-
 def files_below(crate, folder, ending):
     """The files of a folder of a crate, each with its path below the crate, without the ending, and its text."""
-    top = f"{TOP}/crates/{crate}"
-    for at, _, names in sorted(os.walk(f"{top}/{folder}")):
-        for name in sorted(names):
-            if name.endswith(ending):
-                with open(f"{at}/{name}", encoding="utf-8") as file:
-                    yield os.path.relpath(f"{at}/{name}", top).removesuffix(ending), file.read()
+    for path in files.files_below(TOP, f"crates/{crate}/{folder}", ending):
+        yield path.split("/", 2)[2].removesuffix(ending), files.text_of(TOP, path)

@@ -1,7 +1,7 @@
 """On which definitions the contracts rest."""
 from declared import public_names, read_code
 from specs import read_specs
-from tree import Place, crates
+from tree import TOP, Place, files
 
 # The calls whose contracts are the headline: for each its crate, its type and its name.
 HEADLINE = [("machine", "Recorded", "new"), ("machine", "Recorded", "run")]
@@ -27,7 +27,7 @@ class Trust:
     """All definitions with those on which each rests, what the files say of themselves, and what public contracts name."""
 
     def __init__(self):
-        self.crates = crates()
+        self.crates = files.listed(TOP)
         self.definitions, self.owners, self.types, self.files = {}, {}, {}, {}
         self.headline, self.core, self.outer, self.others, self.calls = set(), set(), set(), {}, []
         code = {crate: read_code(crate) for crate in self.crates}

@@ -1,5 +1,6 @@
 """The files of a tree: its documents, its crates, and what of them a finder reads."""
 import os
+import re
 
 # The folders that the toolchain, other tools and git make.
 MADE = {".git", "out", "target", "__pycache__"}
@@ -36,6 +37,12 @@ def documents(top):
 def crates(top):
     """The names of a tree's crates."""
     return sorted(os.listdir(f"{top}/crates"))
+
+
+def listed(top):
+    """The names of a tree's crates, lowest first, as crates.txt has them."""
+    lines = text_of(top, "crates.txt").splitlines()
+    return [re.split("[: ]", it)[0] for it in lines if it.strip() and not it.startswith("#")]
 
 
 def crate_of(path):

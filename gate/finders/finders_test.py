@@ -1,7 +1,7 @@
 """A test of the finders: a tree of its own goes in, and what is wrong with it comes out."""
 import tempfile
 
-from finders import citations, imports, lengths, names, paths, sentences, standing, tree
+from finders import citations, imports, lengths, names, paths, sentences, tree
 
 DOCUMENT = """# A document
 
@@ -39,7 +39,7 @@ def fake():
         "README.md": DOCUMENT,
         "crates.txt": "# crates\nheap staticlib: std clap Prim\n",
         "crates/heap/README.md": README,
-        "crates/heap/src/lib.rt": f"pub use heap::Made;\nuse heap::{{Heaped, Read}};\nuse std::io;\n\npub trait Read {{}}\n\npub struct Heap;\n\nimpl Heap {{\n{SHORT}{long}}}\n",
+        "crates/heap/src/lib.rt": f"pub use heap::Made;\nuse heap::{{Heaped, Read}};\nuse std::io;\nuse std::io::Input;\n\npub trait Read {{}}\n\npub struct Heap;\n\nimpl Heap {{\n{SHORT}{long}}}\n",
         "crates/heap/specs/Heap.antt": SPECS,
         "crates/heap/proofs/Lemmas.antt": LEMMAS,
         "crates/heap/proofs/step/Answers.antt": "use Heap.{cited}\n\nreturns : one\nreturns = cited\n",
@@ -48,7 +48,6 @@ def fake():
         "crates/heap/out/made.rt": "fn made_by_a_tool() {}\n" * 500,
         "tests/long": "x\n" * (lengths.MOST_OF_FILE + 1),
         "tests/cases/long.story": "x\n" * (lengths.MOST_OF_FILE + 1),
-        standing.KNOWN: "# known\none\none\ntwo\n",
     }
 
 
@@ -123,11 +122,6 @@ def faults():
     with tempfile.TemporaryDirectory() as top:
         tree.write(top, fake())
         for finder, wanted in WANTED.items():
-            found = finder.found(top)
+            found = list(finder.found(top))
             if sorted(found) != sorted(wanted):
                 yield f"{finder.__name__} finds {found}, and is to find {wanted}"
-        if standing.beside(["one", "three"], standing.known(top)) != (["three"], ["one", "two"]):
-            yield "standing: other findings are new, or gone"
-        standing.without(top, ["one", "two"])
-        if standing.known(top) != ["one"]:
-            yield "standing: what is gone is still known"

@@ -8,6 +8,8 @@ COMMENT = re.compile(r"^\s*(?://|--).*$", re.M)
 TRAIT = re.compile(r"\btrait (\w+)")
 WORD = re.compile(r"[\w#'-]+")
 PLACE = "◌"
+# Traits of the language's library that are imported for their methods.
+OF_OTHERS = {"Input"}
 LISTED = re.compile(r"^(\w+)[^:#\n]*:(.*)$", re.M)
 NAMED = re.compile(r"(\w+)(?:::|\.)")
 
@@ -29,7 +31,7 @@ def stands(name, text):
 
 def unused(texts):
     """The names that each file imports and doesn't use. A trait may be imported for its methods, and `pub use` is for others."""
-    passed = {"", "self", "*", *(name for text in texts.values() for name in TRAIT.findall(text))}
+    passed = {"", "self", "*", *OF_OTHERS, *(name for text in texts.values() for name in TRAIT.findall(text))}
     for path, text in texts.items():
         rest = COMMENT.sub("", USE.sub("", text))
         there = passed | set(WORD.findall(rest))

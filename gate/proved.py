@@ -15,8 +15,8 @@ PARTS = ("format", "toolchain/checked.a", "toolchain/checked.json", "toolchain/m
 
 
 def touched(crate):
-    """Returns a mark that shows whether a file of the crate was changed, even if it was changed back."""
-    return [list(it) for it in rt.touched(crate)]
+    """Returns a mark that shows whether a file of the crate was changed, even if it was changed back, or its line of crates.txt."""
+    return [repr(crate.said), [list(it) for it in rt.touched(crate)]]
 
 
 def is_built(top, *words):
@@ -26,8 +26,10 @@ def is_built(top, *words):
 
 def note(top, file):
     """Notes of each crate what its files are, and of all that a build reads its sum, before a run."""
+    crates = rt.rtlib.crates_below(top)
+    first = {it.name: touched(it) for it in crates}
     with gathered():
-        noted = {it.name: [it.stamp(), touched(it)] for it in rt.rtlib.crates_below(top)}
+        noted = {it.name: [it.stamp(), first[it.name]] for it in crates}
     with open(file, "w", encoding="utf-8") as out:
         json.dump({"crates": noted, "sum": is_built(top, "--sum").stdout.strip()}, out)
 
@@ -72,7 +74,7 @@ class Proved:
         crate = self.crates[name]
         if not self.proves(name):
             return "the run doesn't say that it is proved"
-        if name not in self.noted or [crate.stamp(), touched(crate)] != self.noted[name]:
+        if any(it.name not in self.noted or touched(it) != self.noted[it.name][1] for it in (crate, *crate.below())):
             return "its files, or those below it, aren't those from before the run"
         if crate.is_program:
             return None if os.path.isfile(program(crate)) else "no program"

@@ -1,10 +1,6 @@
 #include "floor.h"
 #include <stdlib.h>
 
-#define LIKELY(test) __builtin_expect(!!(test), 1)
-#define UNLIKELY(test) __builtin_expect(!!(test), 0)
-#define APART __attribute__((noinline))
-
 enum { FORWARD, HEADER, IDENTITY, LINK, CELLS }; /* the words of a block */
 enum { COLOUR = 4 };                             /* the bit of a header */
 
@@ -92,23 +88,28 @@ static inline void record(floor_heap *heap, uint32_t mutator, uint64_t old) {
 
 /* ---- Calls ---- */
 
+/* Word cell i of the object in a slot, or NULL, with the refusal. */
+static inline uint64_t *word_of(floor_heap *heap, uint32_t mutator, uint32_t obj, uint32_t i, metronome_answer *refusal) {
+    if (LIKELY(mutator < MUTATORS && obj < heap->room[mutator] && slots_of(heap, mutator)[obj] != 0)) {
+        uint64_t block = heap->words[slots_of(heap, mutator)[obj] - 1], header = heap->words[block + HEADER];
+        uint64_t *cell = word_cell(heap, block, header, i);
+        if (UNLIKELY(cell == NULL)) *refusal = refuse_cell(header, METRONOME_REF_ARRAY);
+        return cell;
+    }
+    *refusal = refuse_slots(heap, mutator, obj, 0, 0);
+    return NULL;
+}
+
 metronome_answer floor_get(floor_heap *heap, uint32_t mutator, uint32_t obj, uint32_t i) {
-    if (UNLIKELY(mutator >= MUTATORS || obj >= heap->room[mutator])) return refuse_slots(heap, mutator, obj, 0, 0);
-    uint64_t reference = slots_of(heap, mutator)[obj];
-    if (UNLIKELY(reference == 0)) return refuse_slots(heap, mutator, obj, 0, 0);
-    uint64_t block = heap->words[reference - 1], header = heap->words[block + HEADER];
-    uint64_t *cell = word_cell(heap, block, header, i);
-    if (UNLIKELY(cell == NULL)) return refuse_cell(header, METRONOME_REF_ARRAY);
-    return answer(METRONOME_WORD, *cell);
+    metronome_answer refusal;
+    const uint64_t *cell = word_of(heap, mutator, obj, i, &refusal);
+    return cell != NULL ? answer(METRONOME_WORD, *cell) : refusal;
 }
 
 metronome_answer floor_put(floor_heap *heap, uint32_t mutator, uint32_t obj, uint32_t i, uint64_t word) {
-    if (UNLIKELY(mutator >= MUTATORS || obj >= heap->room[mutator])) return refuse_slots(heap, mutator, obj, 0, 0);
-    uint64_t reference = slots_of(heap, mutator)[obj];
-    if (UNLIKELY(reference == 0)) return refuse_slots(heap, mutator, obj, 0, 0);
-    uint64_t block = heap->words[reference - 1], header = heap->words[block + HEADER];
-    uint64_t *cell = word_cell(heap, block, header, i);
-    if (UNLIKELY(cell == NULL)) return refuse_cell(header, METRONOME_REF_ARRAY);
+    metronome_answer refusal;
+    uint64_t *cell = word_of(heap, mutator, obj, i, &refusal);
+    if (UNLIKELY(cell == NULL)) return refusal;
     *cell = word;
     return answer(METRONOME_DONE, 0);
 }

@@ -9,6 +9,10 @@
 
 #include "metronome.h"
 
+#define LIKELY(test) __builtin_expect(!!(test), 1)
+#define UNLIKELY(test) __builtin_expect(!!(test), 0)
+#define APART __attribute__((noinline))
+
 enum { PAGE_WORDS = 2048, MOST_PAGES = 4096, CLASSES = 38, PART_CELLS = 252, SLOTS = 256, MUTATORS = 64, RECORDS = 64 };
 
 /* A bit for each page, and one for each word of them that isn't 0. */

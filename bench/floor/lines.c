@@ -11,10 +11,6 @@
 #include <string.h>
 #include <unistd.h>
 
-#define LIKELY(test) __builtin_expect(!!(test), 1)
-#define UNLIKELY(test) __builtin_expect(!!(test), 0)
-#define APART __attribute__((noinline))
-
 enum { BLOCK = 65536, LINE = 256, REPLY = 32 };
 
 enum command { NEW_PLAIN, NEW_REFS, LOAD, STORE, CAS, GET, PUT, CLEAR };

@@ -1,5 +1,5 @@
-"""The common parts of this folder's scripts: the words they are given, tables that are printed, counts of instructions, and
-times."""
+"""The common parts of what measures: what a run makes, counts of instructions, and times."""
+import functools
 import os
 import re
 import resource
@@ -8,62 +8,64 @@ import subprocess
 import sys
 
 TOP = os.path.dirname(os.path.dirname(os.path.abspath(__file__)))
+BUILT = f"{TOP}/crates/metronome/out/metronome"
 
 
-# ---- Words ----
+class Bench:
+    """A run that measures: the program, a folder for what it makes, whether little is counted, to see that it can be, and a
+    folder that bin/library wrote, if there is one."""
+
+    def __init__(self, program, folder, short=False, library=None):
+        self.program, self.folder, self.short = os.path.realpath(program), folder, short
+        # the pages of heaps; the divisor of counts of calls and of units; and how often quanta are timed
+        self.pages, self.share, self.runs = ((64,), 50, 1) if short else ((64, 512, 4096), 1, 15)
+        if library:
+            self.library = library
+
+    @functools.cached_property
+    def library(self):
+        """The folder of the library for C."""
+        subprocess.run([f"{TOP}/bin/library", f"{self.folder}/library"], check=True)
+        return f"{self.folder}/library"
+
+    def built(self, name, *words, may_fail=False):
+        """A program in C over the library; None where the compiler doesn't make it and may fail."""
+        flags = ["-std=c11", "-O2", "-Wall", "-Wextra", "-pthread", f"-I{self.library}", f"-I{TOP}/bench/embed"]
+        program = [*words, f"{self.library}/libmetronome_c.a", "-o", f"{self.folder}/{name}"]
+        ran = subprocess.run(["cc", *flags, *program], stderr=subprocess.PIPE, text=True, check=False)
+        if ran.returncode and not may_fail:
+            sys.exit(ran.stderr)
+        return None if ran.returncode else f"{self.folder}/{name}"
+
+    @functools.cached_property
+    def calls(self):
+        """The program that measures calls, of the crate of that name, which is proved and built first where it isn't."""
+        folder = f"{TOP}/crates/bench_calls"
+        program, is_built = f"{folder}/out/bench_calls", f"{TOP}/bin/package/is-built"
+        if subprocess.run([is_built, program], check=False).returncode:
+            read = subprocess.run([is_built, "--sum"], stdout=subprocess.PIPE, text=True, check=True).stdout.strip()
+            how = {"stdin": subprocess.DEVNULL, "capture_output": True, "text": True}
+            ran = subprocess.run(["rt", "run"], cwd=folder, check=False, **how)
+            if subprocess.run([is_built, "--mark", program, read], check=False).returncode:
+                sys.exit(f"{ran.stdout}{ran.stderr}\nbench_calls isn't built of the files as they stand")
+        return program
+
+    def written(self, name, lines):
+        """A file with these lines; its path."""
+        with open(f"{self.folder}/{name}", "w", encoding="utf-8") as file:
+            file.writelines(f"{it}\n" for it in lines)
+        return file.name
 
 
-def is_number(word):
-    """Whether a word is a whole number."""
-    return re.fullmatch("[0-9]{1,18}", word) is not None
-
-
-def is_program(word):
-    """Whether a word names a program."""
-    return os.path.isfile(word) and os.access(word, os.X_OK)
-
-
-def is_any(word):
-    """Whether a word isn't empty."""
-    return word != ""
-
-
-def refuse(text):
-    """Tells a script's text as an error, and ends it."""
-    print(text.strip(), file=sys.stderr)
-    sys.exit(2)
-
-
-def given_words(text, least, most, flags=(), kinds=()):
-    """Returns the words of a script besides its flags, of which there must be `least` to `most`, and of these kinds in their
-    order. If help is asked for, it prints the script's text and ends; other words are refused."""
-    given = sys.argv[1:]
-    plain = [it for it in given if it not in flags]
-    if {"-h", "--help"} & set(plain):
-        print(text.strip())
-        sys.exit(0)
-    fits = all(is_kind(it) for it, is_kind in zip(plain, kinds))
-    if not least <= len(plain) <= most or not fits or any(it.startswith("-") for it in plain):
-        refuse(text)
-    return given
-
-
-# ---- Tables, each behind a line that names its place in docs/PERFORMANCE.md, where bench/performance puts it ----
-
-
-def begin(name, heads):
-    """A table for this place, with these heads."""
-    tell(f"<!-- {name} -->\n| {' | '.join(heads)} |\n{len(heads) * '|---'}|")
-
-
-def tell_row(*cells):
-    """A row of a table."""
-    tell(f"| {' | '.join(map(str, cells))} |")
-
-
-def tell(line):
-    """Prints a line."""
-    print(line, flush=True)
+def table(heads, rows):
+    """Prints a table, a row as soon as it is measured; its text."""
+    text = f"| {' | '.join(heads)} |\n{len(heads) * '|---'}|\n"
+    print(text, end="", flush=True)
+    for cells in rows:
+        line = f"| {' | '.join(map(str, cells))} |\n"
+        print(line, end="", flush=True)
+        text += line
+    return text
 
 
 def machine():
@@ -74,35 +76,11 @@ def machine():
     return f"{model}, {os.cpu_count()} processors; mean load of the last 1, 5 and 15 minutes: {load}"
 
 
-# ---- What is built ----
-
-
-def library_in(folder, given=()):
-    """The folder of a library for C: one that is given, or else this one, into which it is written."""
-    if not given:
-        subprocess.run([f"{TOP}/bin/library", folder], check=True)
-    return given[0] if given else folder
-
-
-def bench_calls():
-    """The program that measures calls, of the crate of that name, which is proved and built first where it isn't."""
-    folder = f"{TOP}/crates/bench_calls"
-    program, is_built = f"{folder}/out/bench_calls", f"{TOP}/bin/package/is-built"
-    if subprocess.run([is_built, program], check=False).returncode:
-        read = subprocess.run([is_built, "--sum"], stdout=subprocess.PIPE, text=True, check=True).stdout.strip()
-        ran = subprocess.run(["rt", "run"], cwd=folder, stdin=subprocess.DEVNULL, capture_output=True, text=True, check=False)
-        if subprocess.run([is_built, "--mark", program, read], check=False).returncode:
-            sys.exit(f"{ran.stdout}{ran.stderr}\nbench_calls isn't built of the files as they stand")
-    return program
-
-
-# ---- Instructions and times ----
-
-
-def need_valgrind():
-    """Ends where there is no valgrind."""
-    if not shutil.which("valgrind"):
-        sys.exit("valgrind is not installed")
+def need(*programs):
+    """Ends where one of these programs isn't there."""
+    for it in programs:
+        if not shutil.which(it):
+            sys.exit(f"{it} is not installed")
 
 
 def instructions(words, text=None, only=None):
@@ -128,3 +106,53 @@ def seconds(words, runs=3):
         after = resource.getrusage(resource.RUSAGE_CHILDREN)
         took.append(after.ru_utime + after.ru_stime - before.ru_utime - before.ru_stime)
     return min(took)
+
+
+def numbers(words, text=None):
+    """The measurements of a program: by name, calls or quanta, wrong ones, units, nanoseconds, the longest."""
+    words = [str(it) for it in words]
+    with open(text or os.devnull, "rb") as given:
+        ran = subprocess.run(words, stdin=given, capture_output=True, check=True)
+    rows = [line.split() for line in ran.stdout.decode().splitlines()]
+    found = {row[0]: [int(it) for it in row[1:]] for row in rows}
+    if any(row[1] for row in found.values()):
+        sys.exit(f"{' '.join(words)}: {found}")
+    return found
+
+
+def by_difference(bench, program, kind, pages, count, timed, *more):
+    """Returns instructions and nanoseconds of one call or unit: `count` are counted, twice, and `timed` are timed."""
+    count, timed = max(1, count // bench.share), max(2, timed // bench.share)
+    words = [[program, kind, str(pages), str(times * count), str(2 * count), *more] for times in (1, 2)]
+    once, twice = [instructions(it) for it in words]
+    nanos = min(numbers([program, kind, pages, timed, timed, *more])[kind][3] for _ in range(9))
+    return (twice - once) / count, nanos / timed
+
+
+# ---- Cells of a table ----
+
+
+def figure(value):
+    """A number, with one digit behind the point where it is small and has one."""
+    return f"{value:.1f}".removesuffix(".0") if value < 100 else f"{round(value):,}"
+
+
+def ends(told):
+    """Figures on each number of pages; one where all are the same."""
+    told = [it if isinstance(it, str) else figure(it) for it in told]
+    return told[0] if len(set(told)) == 1 else " / ".join(told)
+
+
+def both(found):
+    """The instructions that were found on each number of pages, and the nanoseconds."""
+    return [ends(it) for it in zip(*found)]
+
+
+def of_goal(goal):
+    """A goal in brackets, where there is one."""
+    return f" ({goal})" if goal else ""
+
+
+def on(pages):
+    """The head of figures on these pages."""
+    return f"on {' / '.join(map(str, pages))} pages"

@@ -137,7 +137,7 @@ static void flush(uint32_t pages) {
     }
 }
 
-/* The lines of the workload of arrays (bench/workloads), of standard input. */
+/* The lines of the workload of arrays (bench/workloads.py), of standard input. */
 static void play(uint32_t pages, uint32_t mutators) {
     char line[100];
     create((int)pages, (int)mutators, 0);

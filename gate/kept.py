@@ -68,8 +68,8 @@ class Kept:
             return None
 
     def keep(self, crate, refused):
-        """Keeps how the prover refused edits of a crate, each with what that rests on, unless a file that it read was changed since
-        the run began."""
+        """Keeps how the prover refused edits of a crate, each with what that rests on, unless a file that it read was changed
+        since the run began."""
         if not refused or not self.is_untouched(crate):
             return
         for edit, told in refused:

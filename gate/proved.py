@@ -1,5 +1,5 @@
-"""Libraries and programs that a run of `rt ci` proved, which are taken for what the crates' files were before it, and for nothing
-else."""
+"""Libraries and programs that a run of `rt ci` proved, which are taken for what the crates' files were before it, and for
+nothing else."""
 import json
 import os
 import re
@@ -15,7 +15,8 @@ PARTS = ("format", "toolchain/checked.a", "toolchain/checked.json", "toolchain/m
 
 
 def touched(crate):
-    """Returns a mark that shows whether a file of the crate was changed, even if it was changed back, or its line of crates.txt."""
+    """Returns a mark that shows whether a file of the crate was changed, even if it was changed back, or its line of
+    crates.txt."""
     return [repr(crate.said), [list(it) for it in rt.touched(crate)]]
 
 
@@ -70,7 +71,8 @@ class Proved:
         return bool(proved.search(said))
 
     def fault(self, name):
-        """Why the library or the program of this name isn't what the run proved of the files that were noted; None where it is."""
+        """Why the library or the program of this name isn't what the run proved of the files that were noted; None where it
+        is."""
         crate = self.crates[name]
         if not self.proves(name):
             return "the run doesn't say that it is proved"

@@ -48,7 +48,8 @@ class Run:
         return left
 
     def proved(self, crate, planned, threads):
-        """Whether the crate is proved, as far as trials ask it; its check leaves the work that they begin with, and its library."""
+        """Whether the crate is proved, as far as trials ask it; its check leaves the work that they begin with, and its
+        library."""
         crate, began = copy.copy(crate), time.time()
         os.makedirs(f"{crate.folder}/out", exist_ok=True)
         with tempfile.TemporaryFile("a+", errors="replace") as crate.out:
@@ -155,8 +156,8 @@ def made(crates, jobs, anew, is_quick=False, proving=None):
 
 
 def without_clause(run, crate):
-    """The functions of a crate that others can call and an edit turns, and of which no edit is refused by a clause of a contract, each
-    with the ground of the best refusal."""
+    """The functions of a crate that others can call and an edit turns, and of which no edit is refused by a clause of a
+    contract, each with the ground of the best refusal."""
     called, best = calls.called(crate), {}
     for edit in run.edits[crate.name]:
         ground = run.grounds.get(edit.name)

@@ -97,8 +97,8 @@ class Listing:
             f"# Definitions of `{crate}`",
             "",
             f"What contracts of public calls rest on in this crate: {counted(len(listed), 'definition')}, of which the headline rests",
-            f"on {len(of_headline)}, in bold. docs/TRUST.md says how they are found. Behind each name stands the value of a constant or",
-            "the parts of a type, and the first sentence above it.",
+            f"on {len(of_headline)}, in bold. docs/TRUST.md says how they are found. Behind each name stands the value of a",
+            "constant or the parts of a type, and the first sentence above it.",
             "",
             *lines_of_crate(crate, self.trust, listed, self.headline),
         ]

@@ -1,8 +1,7 @@
-#!/usr/bin/env python3
-"""workloads FOLDER [LINES [PAGES]]: writes four configurations and traces, NAME.toml and NAME.trace, always the same ones.
+"""Four workloads: configurations and traces, always the same ones.
 
-Each trace has about LINES lines, 100000 where none are said; that of pointers has more where what it begins with is more
-than four fifths of them. Their data fit the pages: PAGES where that is given, else 200, 900, 2048 and 224. The four:
+Each trace has about as many lines as are asked for; that of pointers has more if what it begins with is more than four fifths of
+them. Their data fit the pages. The four:
 small     small objects of all sizes replace one another in the slots, are written once, and refer to a neighbour
 pointers  rows of references, each second cell with an object of its own; then references are loaded, stored,
           compared and exchanged in them, and shared by statics
@@ -10,14 +9,7 @@ arrays    arrays of up to 16000 cells, two fifths of references, are made, dropp
           quanta of 200000 units
 moving    objects of a few sizes come and go, so that pages get sparse, and cycles move blocks off them
 """
-import os
 import random
-import sys
-
-sys.dont_write_bytecode = True
-from measured import given_words, is_any, is_number
-
-OWN_PAGES = {"small": 200, "pointers": 900, "arrays": 2048, "moving": 224}
 
 
 def small(draw, pages):
@@ -120,6 +112,10 @@ def moving(draw, pages):
         yield step + ["begin", "quantum 4000"] * 3
 
 
+# The workloads, each with its own number of pages.
+KINDS = {small: 200, pointers: 900, arrays: 2048, moving: 224}
+
+
 def write(folder, kind, lines, pages):
     """Writes the configuration and the trace of a kind."""
     name = kind.__name__
@@ -138,14 +134,18 @@ def write(folder, kind, lines, pages):
             out.write("".join(f"{line}\n" for line in step))
 
 
-def main():
-    folder, *given = given_words(__doc__, 1, 3, kinds=[is_any, is_number, is_number])
-    os.makedirs(folder, exist_ok=True)
-    lines = int(given[0]) if given else 100000
-    for kind in (small, pointers, arrays, moving):
-        pages = int(given[1]) if len(given) > 1 else OWN_PAGES[kind.__name__]
-        write(folder, kind, lines, pages)
+def lines_of(bench):
+    """About how many lines a trace has."""
+    return 2000 if bench.short else 100000
 
 
-if __name__ == "__main__":
-    sys.exit(main())
+def written(bench, pages):
+    """Writes the workloads, for this many pages if a number is given, else for their own. Returns for each the words that play
+    it, and how many lines it has."""
+    made = {}
+    for kind, own in KINDS.items():
+        name = f"{bench.folder}/{kind.__name__}"
+        write(bench.folder, kind, lines_of(bench), pages or own)
+        with open(f"{name}.trace", "rb") as trace:
+            made[kind.__name__] = ["play", f"{name}.toml", f"{name}.trace"], sum(1 for _ in trace)
+    return made

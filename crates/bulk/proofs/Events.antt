@@ -12,12 +12,12 @@ use Rattle.machine.specs.Plan.{Steps}
 use Rattle.machine.proofs.Events.{command_event}
 use Rattle.bulk.specs.InOrder.{InOrder, with_refusal, events_of}
 
--- no event is left where no reply is
+-- No event is left, if no reply is.
 none_left : (m : ℕ) (cs : List Command) → events_of m cs [] ≡ []
 none_left m [] = refl
 none_left m (c ∷ cs) = refl
 
--- a step of the heap to which a course led
+-- A step of the heap to which a course led is an event of the course.
 step_event : (r : Course) (m : ℕ) (c : Command) (told : Reply) (h after : HeapState) → IsCourse r → r.heap ≡ h → Steps h m c told after
     → (new : Course) × (new.heap ≡ after) × Does r (Command_done m c told) new
 step_event r m c told h after w e s = command_event r m c told after w (subst (λ (x : HeapState). Steps x m c told after) (sym e) s)

@@ -23,13 +23,13 @@ module _ (h mid next : HeapState) (m dst : ℕ) (shape : Shape) (refs words : Li
   one_made : DoesFront h m (commands.New dst shape ∷ []) (record { done = 1; refused = None }) mid
   one_made = one_more h h mid m [] 0 (commands.New dst shape) r (none_done h m) made accepted
 
-  -- a store was refused
+  -- A store was refused.
   pub filled_by_part : (p : Progress) → is_some stored.refused ≡ true → p ≡ record { done = 1 + stored.done; refused = stored.refused } → DoesFront h m (makes dst shape refs words) p next
   filled_by_part p e is = subst (λ (q : Progress). DoesFront h m (makes dst shape refs words) q next) (sym is)
       (more h mid next m (commands.New dst shape ∷ []) 1 (stores dst refs ++ puts dst 0 words) stored (1 + stored.done) one_made
       (stays_refused mid m (stores dst refs) (puts dst 0 words) stored next e does) refl)
 
-  -- none was
+  -- No store was refused.
   pub filled : (after : HeapState) (put p : Progress) → is_some stored.refused ≡ false → DoesFront next m (puts dst 0 words) put after
       → p ≡ record { done = 1 + stored.done + put.done; refused = put.refused } → DoesFront h m (makes dst shape refs words) p after
   filled after put p e v is =

@@ -10,7 +10,7 @@ use Rattle.machine.specs.Plan.{Steps}
 use Rattle.bulk.specs.declared.progress.Progress.{Progress}
 use Rattle.bulk.specs.InOrder.{refusal_in, InOrder, DoesWith, DoesFront, TellsAll}
 
--- a reply with a refusal is that refusal
+-- A reply with a refusal is that refusal.
 pub is_refusal : (r : Reply) (why : Refusal) → refusal_in r ≡ Some why → r ≡ replies.Refused why
 is_refusal (replies.Made id) why e = cc
 is_refusal (replies.Ref id) why e = cc
@@ -23,11 +23,11 @@ is_refusal (replies.Is b) why e = cc
 is_refusal (replies.Described id shape) why e = cc
 is_refusal (replies.Refused given) why e = cc
 
--- what was done, told by a progress that is another one
+-- Progress may be replaced by an equal one.
 pub told_as : (h : HeapState) (m : ℕ) (cs : List Command) (p q : Progress) (after : HeapState) → p ≡ q → DoesFront h m cs q after → DoesFront h m cs p after
 told_as h m cs p q after e w = subst (λ (x : Progress). DoesFront h m cs x after) (sym e) w
 
--- commands of which none was refused, and then others
+-- Commands of which none was refused are followed by others.
 joined : (m : ℕ) (h mid after : HeapState) (cs ds : List Command) (rs ss : List Reply) (refused : Option Refusal)
     → InOrder m h cs rs None mid → InOrder m mid ds ss refused after → InOrder m h (cs ++ ds) (rs ++ ss) refused after
 joined m h mid after [] ds [] ss refused w v = subst (λ (x : HeapState). InOrder m x ds ss refused after) w v
@@ -35,7 +35,7 @@ joined m h mid after [] ds (r ∷ rs) ss refused w v = absurd w
 joined m h mid after (c ∷ cs) ds [] ss refused w v = absurd w
 joined m h mid after (c ∷ cs) ds (r ∷ rs) ss refused w v = (w.0, w.1, w.2, joined m w.0 mid after cs ds rs ss refused w.3 v)
 
--- commands of which none was refused, and then one that was, whatever others follow
+-- Commands of which none was refused are followed by a refused one, whatever comes after it.
 stopped : (m : ℕ) (h mid after : HeapState) (cs ds : List Command) (rs : List Reply) (c : Command) (why : Refusal)
     → InOrder m h cs rs None mid → Steps mid m c (replies.Refused why) after → InOrder m h (cs ++ c ∷ ds) rs (Some why) after
 stopped m h mid after [] ds [] c why w s = subst (λ (x : HeapState). Steps x m c (replies.Refused why) after) w s
@@ -43,7 +43,7 @@ stopped m h mid after [] ds (r ∷ rs) c why w s = absurd w
 stopped m h mid after (b ∷ cs) ds [] c why w s = absurd w
 stopped m h mid after (b ∷ cs) ds (r ∷ rs) c why w s = (w.0, w.1, w.2, stopped m w.0 mid after cs ds rs c why w.3 s)
 
--- commands of which one was refused, whatever others follow
+-- Commands of which one was refused are followed by any others.
 stays : (m : ℕ) (h after : HeapState) (cs ds : List Command) (rs : List Reply) (why : Refusal)
     → InOrder m h cs rs (Some why) after → InOrder m h (cs ++ ds) rs (Some why) after
 stays m h after [] ds [] why w = absurd w
@@ -51,7 +51,7 @@ stays m h after [] ds (r ∷ rs) why w = absurd w
 stays m h after (c ∷ cs) ds [] why w = w
 stays m h after (c ∷ cs) ds (r ∷ rs) why w = (w.0, w.1, w.2, stays m w.0 after cs ds rs why w.3)
 
--- all were done, or fewer
+-- All were done, or fewer.
 counted : (m : ℕ) (h after : HeapState) (cs : List Command) (rs : List Reply) (refused : Option Refusal) (done : ℕ)
     → InOrder m h cs rs refused after → done ≡ length rs → MatchOption refused (done ≡ length cs) (λ why. done < length cs)
 counted m h after [] [] None done w e = e
@@ -69,7 +69,7 @@ within_by : (refused : Option Refusal) (n done : ℕ) → MatchOption refused (d
 within_by None n done e = omega arith
 within_by (Some why) n done l = omega arith
 
--- no more were done than there are
+-- At most as many were done as there are.
 pub done_within : (h : HeapState) (m : ℕ) (cs : List Command) (p : Progress) (after : HeapState) → DoesFront h m cs p after → p.done ≤ length cs
 done_within h m cs p after w = within_by p.refused (length cs) p.done (tells_all h m cs w.0 p after w.1)
 
@@ -95,7 +95,7 @@ module _ (h mid after : HeapState) (m : ℕ) (cs : List Command) (n : ℕ) where
     done = w.done;
   }
 
-  -- the same, whatever was replied
+  -- Two lists follow each other, whatever was replied.
   pub more : (ds : List Command) (p : Progress) (total : ℕ) → DoesFront h m cs (record { done = n; refused = None }) mid → DoesFront mid m ds p after → total ≡ n + p.done
       → DoesFront h m (cs ++ ds) (record { done = total; refused = p.refused }) after
   more ds p total w v e = (w.0 ++ v.0, more_with ds w.0 v.0 p total w.1 v.1 e)
@@ -108,7 +108,7 @@ module _ (h mid after : HeapState) (m : ℕ) (cs : List Command) (n : ℕ) where
       → DoesFront h m (cs ++ c ∷ ds) (record { done = n; refused = Some why }) after
   stops c r why ds w s e = (w.0, stops_with c r why ds w.0 w.1 s e)
 
--- where one was refused, others may follow in the list
+-- If one was refused, others may follow in the list.
 stays_by : (h : HeapState) (m : ℕ) (cs ds : List Command) (done : ℕ) (refused : Option Refusal) (after : HeapState) → is_some refused ≡ true → DoesFront h m cs (record { done = done; refused = refused }) after
     → DoesFront h m (cs ++ ds) (record { done = done; refused = refused }) after
 stays_by h m cs ds done None after e w = cc
@@ -117,7 +117,7 @@ stays_by h m cs ds done (Some why) after e w = (w.0, record { order = stays m h 
 pub stays_refused : (h : HeapState) (m : ℕ) (cs ds : List Command) (p : Progress) (after : HeapState) → is_some p.refused ≡ true → DoesFront h m cs p after → DoesFront h m (cs ++ ds) p after
 stays_refused h m cs ds p after e w = stays_by h m cs ds p.done p.refused after e w
 
--- where none was refused
+-- If none was refused, the progress says so.
 all_by : (h : HeapState) (m : ℕ) (cs : List Command) (done : ℕ) (refused : Option Refusal) (after : HeapState) → is_some refused ≡ false → DoesFront h m cs (record { done = done; refused = refused }) after
     → DoesFront h m cs (record { done = done; refused = None }) after
 all_by h m cs done None after e w = w

@@ -40,7 +40,7 @@ module _ {A : Type 0} (f : ℕ → A) where
       let rest = drop (i + 1) (map f (upto n)) in
       sym (take-append-drop (i + 1) (map f (upto n))) ∙ ap (λ xs. xs ++ rest) (take-map-range_with_len f 0 n (i + 1) (omega arith) ∙ row_more i) ∙ append_assoc (map f (upto i)) (f i ∷ []) rest
 
--- the numbers themselves
+-- The list of the numbers grows by one.
 upto_more : (i : ℕ) → upto (i + 1) ≡ upto i ++ i ∷ []
 upto_more i = sym (map-id (upto (i + 1))) ∙ row_more (λ k. k) i ∙ ap (λ xs. xs ++ i ∷ []) (map-id (upto i))
 

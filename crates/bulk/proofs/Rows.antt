@@ -12,7 +12,7 @@ use Rattle.bulk.specs.Lists.{upto}
 use Rattle.bulk.proofs.InOrder.{one_more, one_more_with, stops, stops_with}
 use Rattle.bulk.proofs.Lists.{row_more, row_cut, rows_more, rows_cut}
 
--- the next of a row, which isn't refused, or is
+-- The next command of a row is done, and is refused or isn't.
 module _ (f : ℕ → Command) (h mid after : HeapState) (m i : ℕ) (c : Command) (r : Reply) (is : c ≡ f i) (s : Steps mid m c r after) where
   step : Steps mid m (f i) r after
   step = subst (λ (x : Command). Steps mid m x r after) is s
@@ -39,11 +39,11 @@ module _ (f : ℕ → Command) (h mid after : HeapState) (m i : ℕ) (c : Comman
 abbrev pub pair : (ℕ → Command) → (ℕ → Command) → ℕ → List Command
 pair a b k = a k ∷ b k ∷ []
 
--- the commands that stand in the list behind the pair of a number
+-- the commands of the list that come after the pair of a number
 abbrev behind : (ℕ → Command) → (ℕ → Command) → ℕ → ℕ → List Command
 behind a b i n = flat_map (pair a b) (drop (i + 1) (map (λ k. k) (upto n)))
 
--- the first of a pair
+-- The first command of a pair is done.
 module _ (a b : ℕ → Command) (h mid after : HeapState) (m i : ℕ) (c : Command) (r : Reply) (is : c ≡ a i) (s : Steps mid m c r after)
     (w : DoesFront h m (flat_map (pair a b) (upto i)) (record { done = 2 * i; refused = None }) mid) where
   first_step : Steps mid m (a i) r after
@@ -56,7 +56,7 @@ module _ (a b : ℕ → Command) (h mid after : HeapState) (m i : ℕ) (c : Comm
   first_ends n why l e = subst (λ (cs : List Command). DoesFront h m cs (record { done = 2 * i; refused = Some why }) after) (sym (rows_cut (pair a b) i n l))
       (stops h mid after m (flat_map (pair a b) (upto i)) (2 * i) (a i) r why (b i ∷ behind a b i n) w first_step e)
 
--- the second
+-- The second command of a pair is done.
 module _ (a b : ℕ → Command) (h mid after : HeapState) (m i : ℕ) (c : Command) (r : Reply) (is : c ≡ b i) (s : Steps mid m c r after)
     (w : DoesFront h m (flat_map (pair a b) (upto i) ++ a i ∷ []) (record { done = 2 * i + 1; refused = None }) mid) where
   second_step : Steps mid m (b i) r after

@@ -1,4 +1,4 @@
--- A row of commands of which some were done, gone on with by a run.
+-- A row of commands of which some were done; a run does the next ones.
 use Rattle.std.proofs.Common.{◌≡◌, ◌∙◌, ℕ, zero, suc, ◌+◌, ◌-◌, ◌^◌, ◌<◌, ◌≤◌, List, [], ◌∷◌, ◌++◌, map, length, take, drop, get_or, refl, sym, ap, subst, arith, append_assoc}
 use Rattle.std.specs.Prelude.{None}
 use Rattle.std.proofs.Math.Seq.{take-append_seam, take-append-add, drop-append-add}
@@ -28,7 +28,7 @@ append_nil : (xs : List ℕ) → xs ++ [] ≡ xs
 append_nil [] = refl
 append_nil (x ∷ xs) = ap (λ ys. x ∷ ys) (append_nil xs)
 
--- the words that a run told
+-- A run read one word more.
 told_more : (front words : List ℕ) (n : ℕ) → n < length words → words_told (front ++ take (suc n) words) ≡ words_told (front ++ take n words) ++ replies.Word (get_or words n 0) ∷ []
 told_more front words n l =
     let more : take (suc n) words ≡ take n words ++ get_or words n 0 ∷ [] = take_more words n l in
@@ -40,7 +40,7 @@ told_more front words n l =
     take_more (x ∷ xs) (suc k) b = ap (λ ys. x ∷ ys) (take_more xs k (omega arith))
 
 module _ (f : ℕ → Command) (h mid : HeapState) (m i : ℕ) (c : ℕ → Command) where
-  -- words are read
+  -- A run reads words.
   pub reads_on : (n : ℕ) (after : HeapState) (front words : List ℕ) → n ≤ length words → ((k : ℕ) → k < n → c k ≡ f (i + k)) → DoesWith h m (map f (upto i)) (words_told front) (record { done = i; refused = None }) mid
       → StepsEach mid m c (λ k. replies.Word (get_or words k 0)) n after → DoesWith h m (map f (upto (i + n))) (words_told (front ++ take n words)) (record { done = i + n; refused = None }) after
   reads_on zero after front words few is w e =
@@ -55,7 +55,7 @@ module _ (f : ℕ → Command) (h mid : HeapState) (m i : ℕ) (c : ℕ → Comm
       (subst (λ (rs : List Reply). DoesWith h m (map f (upto (i + n + 1))) rs (record { done = i + n + 1; refused = None }) after) (sym (told_more front words n (omega arith)))
       (goes_on_with f h next after m (i + n) (c n) (replies.Word (get_or words n 0)) (is n (omega arith)) last (words_told (front ++ take n words)) before refl))
 
-  -- what is done is told so
+  -- A run of commands that are done is told so.
   pub does_on : (n : ℕ) (after : HeapState) → ((k : ℕ) → k < n → c k ≡ f (i + k)) → DoesFront h m (map f (upto i)) (record { done = i; refused = None }) mid
       → StepsEach mid m c (λ k. replies.Done) n after → DoesFront h m (map f (upto (i + n))) (record { done = i + n; refused = None }) after
   does_on zero after is w e =
@@ -66,7 +66,7 @@ module _ (f : ℕ → Command) (h mid : HeapState) (m i : ℕ) (c : ℕ → Comm
       subst (λ k. DoesFront h m (map f (upto k)) (record { done = k; refused = None }) after) sum
       (goes_on f h next after m (i + n) (c n) replies.Done (is n (omega arith)) last (does_on n next (λ k l. is k (omega arith)) w s) refl)
 
--- the slots that the first run cleared
+-- The first run cleared these slots.
 pub first_clears : (h after : HeapState) (m first n : ℕ) → first + n < 2 ^ 32 → StepsEach h m (λ k. commands.Clear (first + k)) (λ k. replies.Done) n after
     → DoesFront h m (map (clear_at first) (upto n)) (record { done = n; refused = None }) after
 first_clears h after m first n few s =
@@ -77,7 +77,7 @@ first_clears h after m first n few s =
     number : (k : ℕ) → k < n → first + k ≡ number_after first (0 + k)
     number k b = omega (arith, few, b)
 
--- a slice of which the words behind the first were given others
+-- A slice whose words from `i` on are replaced.
 module _ (old new : List ℕ) (i : ℕ) (l : i ≤ length old) where
   abbrev whole : List ℕ
   whole = put_mid i (length old - i) old new
@@ -101,7 +101,7 @@ module _ (old new : List ℕ) (i : ℕ) (l : i ≤ length old) where
     rest_stays e =
         ap (drop (i + n)) behind_front ∙ subst (λ k. drop (k + n) (take i old ++ new) ≡ drop n new) front (drop-append-add (take i old) new n) ∙ e ∙ drop-drop n i old
 
--- a word behind some
+-- Word `k` after the first `i` is word `i + k`.
 pub word_behind : (words : List ℕ) (i k : ℕ) → get_or (take (length words - i) (drop i words)) k 0 ≡ get_or words (i + k) 0
 word_behind words i k = ap (λ xs. get_or xs k 0) (take_rest words i) ∙ get_or-drop i words k 0
 

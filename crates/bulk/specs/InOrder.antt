@@ -15,8 +15,8 @@ abbrev pub refusal_in : Reply → Option Refusal
 refusal_in (replies.Refused why) = Some why
 refusal_in _ = None
 
--- Commands of mutator m are done in order, each a step of the heap that the one before left: those that weren't refused,
--- with their replies, and then one that was refused, unless these were all; and the heap after that.
+-- Commands of mutator m are done in order, each a step of the heap that the one before left. They stop at the first that
+-- is refused, if one is. The replies are those of the commands that weren't refused, and `after` is the heap at the end.
 abbrev pub InOrder : ℕ → HeapState → List Command → List Reply → Option Refusal → HeapState → Type 0
 InOrder m h [] [] None after = after ≡ h
 InOrder m h (c ∷ cs) [] (Some why) after = Steps h m c (replies.Refused why) after
@@ -24,29 +24,29 @@ InOrder m h (c ∷ cs) (r ∷ rs) refused after =
     (next : HeapState) × Steps h m c r next × (refusal_in r ≡ None) × InOrder m next cs rs refused after
 InOrder m h cs rs refused after = ⊥
 
--- A list of commands was done in order, as far as the progress tells, with these replies of those that weren't refused.
+-- A list of commands was done in order, as far as the progress says, with these replies of those that weren't refused.
 pub record DoesWith (h : HeapState) (m : ℕ) (cs : List Command) (rs : List Reply) (p : Progress) (after : HeapState)
     : Type 0 where
   pub order : InOrder m h cs rs p.refused after
   pub done : p.done ≡ length rs
 
--- a list of commands was done in order, as far as the progress tells, whatever was replied
+-- A list of commands was done in order, as far as the progress says, whatever was replied.
 abbrev pub DoesFront : HeapState → ℕ → List Command → Progress → HeapState → Type 0
 DoesFront h m cs p after = (rs : List Reply) × DoesWith h m cs rs p after
 
--- the replies that are these words
+-- the replies of reads that found these words
 abbrev pub words_told : List ℕ → List Reply
 words_told = map (λ w. replies.Word w)
 
--- the replies with the refusal behind them, if there was one
+-- the replies, followed by the refusal, if there was one
 abbrev pub with_refusal : List Reply → Option Refusal → List Reply
 with_refusal rs None = rs
 with_refusal rs (Some why) = rs ++ replies.Refused why ∷ []
 
--- the events that a list of commands of mutator m was, by the replies: each command with its own, as far as they go
+-- the events of a list of commands of mutator m: each command with its reply, as far as the replies go
 abbrev pub events_of : ℕ → List Command → List Reply → List Event
 events_of m cs rs = map (λ x. Command_done m x.0 x.1) (zip cs rs)
 
--- all commands of a list of so many were done exactly where none was refused, and else fewer
+-- All of `count` commands were done, if none was refused; else fewer were done.
 abbrev pub TellsAll : ℕ → Progress → Type 0
 TellsAll count p = MatchOption p.refused (p.done ≡ count) (λ why. p.done < count)

@@ -9,38 +9,37 @@ use Rattle.graph_heap.specs.declared.command.Command.TheVariants as commands
 abbrev pub upto : ℕ → List ℕ
 upto n = range_with_len 0 n
 
--- The number i after the first. Where that doesn't fit 32 bits it is the greatest number that does, which no slot and no
--- cell has.
+-- the number i after the first, or 2^32 - 1, if that is less: no slot and no cell has that number
 abbrev pub number_after : ℕ → ℕ → ℕ
 number_after first i = min (first + i) (2 ^ 32 - 1)
 
--- null into each of `count` slots, from the first on
+-- Sets each of `count` slots, from the first on, to null.
 abbrev pub clears : ℕ → ℕ → List Command
 clears first count = map (λ i. commands.Clear (number_after first i)) (upto count)
 
--- What slot src holds goes into slot dst, and then null into src. A slot that is moved into itself keeps what it holds.
+-- Copies slot src into slot dst, and then sets src to null. A slot that is moved into itself keeps its reference.
 abbrev pub moves : ℕ → ℕ → List Command
 moves dst src = commands.Copy dst src ∷ (if dst == src then [] else commands.Clear src ∷ [])
 
--- each of `count` word cells of an object is read, from the first on
+-- Reads each of `count` word cells of an object, from the first on.
 abbrev pub gets : ℕ → ℕ → ℕ → List Command
 gets obj first count = map (λ i. commands.Get obj (number_after first i)) (upto count)
 
--- words go into as many word cells of an object, from the first on
+-- Writes words into as many word cells of an object, from the first on.
 abbrev pub puts : ℕ → ℕ → List ℕ → List Command
 puts obj first words = map (λ i. commands.Put obj (number_after first i) (slice_index words i)) (upto (length words))
 
--- what slots hold goes into the first reference cells of an object, as many as there are slots
+-- Stores the references in these slots in the first reference cells of an object.
 abbrev pub stores : ℕ → List ℕ → List Command
 stores obj slots = map (λ i. commands.Store obj i (slice_index slots i)) (upto (length slots))
 
--- What `count` reference cells of an object hold, from the first on, goes into as many of another object, or of the same,
--- one after the other: each is loaded into a slot, and stored from it.
+-- Copies `count` reference cells of an object, from the first on, into as many of another object, or of the same. Each is
+-- loaded into slot through, and stored from there, one after the other.
 abbrev pub copies : ℕ → ℕ → ℕ → ℕ → ℕ → ℕ → List Command
 copies through from from_first to to_first count = flat_map
     (λ i. commands.Load through from (number_after from_first i) ∷ commands.Store to (number_after to_first i) through ∷ [])
     (upto count)
 
--- an object is made, and its first reference cells and its first word cells get what they hold
+-- Makes an object, and writes its first reference cells and its first word cells.
 abbrev pub makes : ℕ → Shape → List ℕ → List ℕ → List Command
 makes dst shape refs words = commands.New dst shape ∷ (stores dst refs ++ puts dst 0 words)

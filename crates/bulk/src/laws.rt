@@ -7,8 +7,8 @@ ghost use Rattle.heap_model.specs.State.{HeapState};
 ghost use Rattle.bulk.specs.declared.progress.Progress.{Progress};
 ghost use Rattle.bulk.specs.InOrder.{DoesWith, events_of, with_refusal, TellsAll};
 
-/// What a bulk call does to a heap is a list of events, whatever history led to the heap: each command with its reply, and
-/// last the one that was refused, if one was. All commands were done exactly where none was refused.
+/// A bulk call does a list of events to a heap, whatever history led to it. Each command comes with its reply, and last
+/// the refused one, if one was refused. All commands were done exactly if none was refused.
 pub fn bulk_calls_are_events()
     ensures events { (r : Course) (m : ℕ) (cs : List Command) (rs : List Reply) (p : Progress) (after : HeapState)
         → IsCourse r → DoesWith r.heap m cs rs p after

@@ -1,6 +1,6 @@
-//! Calls for what programs do, each a list of commands that are done one after the other: clearing a row of slots, moving
-//! what a slot holds, words in and out, references from one object to another, an object with its first contents. So
-//! each is a list of events of a heap with its history (`bulk_calls_are_events`).
+//! Calls that do several commands in order, up to the first that is refused. They clear a row of slots, move a slot, read
+//! or write words of an object, copy references between objects, or make an object with its first contents. Each call is
+//! a list of events of a heap with its history (`bulk_calls_are_events`).
 #![tactic(auto)]
 
 mod laws;

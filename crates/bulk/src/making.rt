@@ -1,4 +1,4 @@
-//! A new object with its first contents.
+//! Makes a new object with its first contents.
 ghost use Rattle.std.specs.Prelude.{◌+◌, ◌≤◌, length};
 ghost use Rattle.bulk.specs.InOrder.{DoesFront};
 ghost use Rattle.bulk.specs.Lists.{makes};
@@ -9,10 +9,9 @@ use crate::words::fill_words;
 use graph_heap::{PLAIN_CELLS, Shape};
 use machine::Heap;
 
-/// A new object into slot dst; then what the slots `refs` hold into its first reference cells, and the words into its first
-/// word cells, at most 252 together. The other cells stay null and zero. Where dst is among `refs`, the new object is meant,
-/// which it holds by then. Where a store or a put is refused, the object is made and stays in dst, with what was written
-/// before.
+/// Makes a new object in slot dst. Then stores the references in the slots `refs` in its first reference cells, and the
+/// words in its first word cells, at most 252 together. The other cells stay null and zero. If dst is among `refs`, it
+/// holds the new object by then. If a store or a put is refused, the object stays in dst, with the cells written before.
 pub fn new_with(
     heap: &mut Heap,
     mutator: u32,

@@ -1,20 +1,20 @@
-//! How far a list of commands was done.
+//! The progress of a list of commands.
 ghost use Rattle.std.specs.Prelude.{◌≡◌, ◌+◌, ◌<◌, ◌^◌, Some, None};
 ghost use Rattle.bulk.specs.InOrder.{refusal_in};
 
 use graph_heap::{Refusal, Reply};
 
-/// How far a list of commands was done. Its numbers count from the first command on.
+/// How far a list of commands was done, counted from its first command.
 #[derive(Clone, Copy, Debug, PartialEq, Eq)]
 pub struct Progress {
-    /// How many commands were done: those before the first that was refused.
+    /// The number of commands done, before the first that was refused.
     pub done: u32,
-    /// Why the next command was refused. None where all were done.
+    /// Why the next command was refused; None if all were done.
     pub refused: Option<Refusal>,
 }
 
 impl Progress {
-    /// All of a list was done.
+    /// Returns the progress after all `done` commands of a list.
     #[inline(always)]
     pub(crate) fn whole(done: u32) -> Progress
         ensures { result ≡ record { done = done; refused = None } }
@@ -25,7 +25,7 @@ impl Progress {
         }
     }
 
-    /// So much of a list was done, and then a command was refused.
+    /// Returns the progress after `done` commands of a list and a refused one.
     #[inline(always)]
     pub(crate) fn stopped(done: u32, refusal: Refusal) -> Progress
         ensures { result ≡ record { done = done; refused = Some refusal } }
@@ -36,7 +36,7 @@ impl Progress {
         }
     }
 
-    /// The progress of a list, behind commands that were done before it.
+    /// Returns the progress of a longer list, of which `before` commands were done before this list.
     #[inline(always)]
     pub(crate) fn behind(self, before: u32) -> Progress
         requires { before + self.done < 2 ^ 32 }
@@ -49,7 +49,7 @@ impl Progress {
     }
 }
 
-/// The refusal, if a reply is one.
+/// Returns the refusal, if a reply is one.
 #[inline(always)]
 pub(crate) fn refusal_in(reply: Reply) -> Option<Refusal>
     ensures { result ≡ refusal_in reply }

@@ -1,4 +1,4 @@
-//! References of objects, written in a row.
+//! Copies references between objects, and from slots into objects.
 ghost use Rattle.std.specs.Prelude.{◌≤◌, length};
 ghost use Rattle.bulk.specs.InOrder.{DoesFront};
 ghost use Rattle.bulk.specs.Lists.{copies, stores};
@@ -7,11 +7,11 @@ use crate::progress::{Progress, refusal_in};
 use graph_heap::PLAIN_CELLS;
 use machine::Heap;
 
-/// What `count` reference cells of the object in slot from hold, at most 252, from cell `from_first` on, into as many of the
-/// object in slot to, from cell `to_first` on: two commands for each, a load into slot through and a store from there. So slot
-/// through holds what was loaded last. The cells are copied in rising order: where both objects are one and `to_first` lies
-/// among what is copied, what was written before is copied on. The first cell that an object doesn't have is refused as
-/// BadIndex; a number above 32 bits counts as the greatest that these hold, which no cell has.
+/// Copies `count` reference cells, at most 252, of the object in slot from into the object in slot to, from cell
+/// `from_first` and `to_first` on. Each takes two commands: a load into slot through and a store from there, so slot
+/// through holds the last reference at the end. The cells are copied in rising order: if both objects are one, and
+/// `to_first` lies among the cells that are copied, cells written before are copied again. The first cell that an object
+/// doesn't have is refused as BadIndex. A number of 2^32 or more counts as 2^32 - 1, which no cell has.
 pub fn copy_refs(
     heap: &mut Heap,
     mutator: u32,
@@ -38,7 +38,7 @@ pub fn copy_refs(
     Progress::whole(2 * count)
 }
 
-/// What slots hold, at most 252, into the first reference cells of the object in slot obj.
+/// Stores the references in these slots, at most 252, in the first reference cells of the object in slot obj.
 #[inline(always)]
 pub(crate) fn store_slots(heap: &mut Heap, mutator: u32, obj: u32, slots: &[u32]) -> Progress
     requires { length slots.now ≤ PLAIN_CELLS }

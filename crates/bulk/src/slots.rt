@@ -1,4 +1,4 @@
-//! Slots of a mutator, cleared and moved.
+//! Clears and moves slots of a mutator.
 ghost use Rattle.std.specs.Prelude.{◌≤◌, None};
 ghost use Rattle.heap_model.specs.State.{HeapState};
 ghost use Rattle.bulk.specs.InOrder.{DoesFront};
@@ -7,9 +7,9 @@ ghost use Rattle.bulk.specs.Lists.{clears, moves};
 use crate::progress::{Progress, refusal_in};
 use machine::Heap;
 
-/// Null into each of `count` slots, from the first on. Done are the slots that were cleared. The first that the mutator
-/// doesn't have is refused as BadSlot, and so is the first of all where the mutator isn't live, as NotLive; a number above
-/// 32 bits counts as the greatest that these hold, which no slot has.
+/// Sets each of `count` slots, from the first on, to null. The progress counts the slots cleared. The first slot that the
+/// mutator doesn't have is refused as BadSlot; if the mutator isn't live, the first of all is refused as NotLive. A
+/// number of 2^32 or more counts as 2^32 - 1, which no slot has.
 #[inline(always)]
 pub fn clear_slots(heap: &mut Heap, mutator: u32, first: u32, count: u32) -> Progress
     ensures { DoesFront heap.old mutator (clears first count) result heap.new }
@@ -28,7 +28,8 @@ pub fn clear_slots(heap: &mut Heap, mutator: u32, first: u32, count: u32) -> Pro
     }
 }
 
-/// The same of the slots behind the first ones, which a run cleared: it is out of the way of rows that one run clears.
+/// Clears the slots after the first ones, which a run has cleared. It is kept apart from `clear_slots`, where one run
+/// clears most rows.
 #[cold]
 #[inline(never)]
 fn clear_rest(heap: &mut Heap, mutator: u32, first: u32, count: u32, cleared: u32) -> Progress
@@ -46,8 +47,8 @@ fn clear_rest(heap: &mut Heap, mutator: u32, first: u32, count: u32, cleared: u3
     Progress::whole(count)
 }
 
-/// What slot src holds into slot dst, and then null into src: two commands. A slot that is moved into itself keeps what it
-/// holds, by one command.
+/// Copies slot src into slot dst, and then sets src to null: two commands. A slot that is moved into itself keeps its
+/// reference, by one command.
 pub fn move_slot(heap: &mut Heap, mutator: u32, dst: u32, src: u32) -> Progress
     ensures { DoesFront heap.old mutator (moves dst src) result heap.new }
 {

@@ -1,4 +1,4 @@
-//! Words of an object, read and written in a row.
+//! Reads and writes words of an object in a row.
 ghost use Rattle.std.specs.Prelude.{◌≡◌, ◌≤◌, length, take, drop};
 ghost use Rattle.bulk.specs.InOrder.{DoesFront, DoesWith, words_told};
 ghost use Rattle.bulk.specs.Lists.{gets, puts};
@@ -7,9 +7,9 @@ use crate::progress::{Progress, refusal_in};
 use graph_heap::PLAIN_CELLS;
 use machine::Heap;
 
-/// Reads as many word cells of the object in slot obj as the slice has room for, at most 252, from the first on. Done are
-/// the words that were read: they stand at the front of the slice, and the rest of it stays. The first cell that the object
-/// doesn't have is refused as BadIndex; a number above 32 bits counts as the greatest that these hold, which no cell has.
+/// Reads word cells of the object in slot obj, from the first on, until the slice is full: at most 252. The progress
+/// counts the words read. They stand at the front of the slice, and the rest of it stays. The first cell that the object
+/// doesn't have is refused as BadIndex. A number of 2^32 or more counts as 2^32 - 1, which no cell has.
 pub fn get_words(heap: &mut Heap, mutator: u32, obj: u32, first: u32, words: &mut [u64]) -> Progress
     requires { length words.old ≤ PLAIN_CELLS }
     ensures reads { DoesWith heap.old mutator (gets obj first (length words.old))
@@ -28,9 +28,9 @@ pub fn get_words(heap: &mut Heap, mutator: u32, obj: u32, first: u32, words: &mu
     Progress::whole(room)
 }
 
-/// Writes at most 252 words into as many word cells of the object in slot obj, from the first on. Done are the words that
-/// were written. The first cell that the object doesn't have is refused as BadIndex; a number above 32 bits counts as the
-/// greatest that these hold, which no cell has.
+/// Writes at most 252 words into as many word cells of the object in slot obj, from the first on. The progress counts the
+/// words written. The first cell that the object doesn't have is refused as BadIndex. A number of 2^32 or more counts as
+/// 2^32 - 1, which no cell has.
 #[inline(always)]
 pub fn put_words(heap: &mut Heap, mutator: u32, obj: u32, first: u32, words: &[u64]) -> Progress
     requires { length words.now ≤ PLAIN_CELLS }
@@ -48,7 +48,7 @@ pub fn put_words(heap: &mut Heap, mutator: u32, obj: u32, first: u32, words: &[u
     Progress::whole(count)
 }
 
-/// The same, by single commands: for a word or two, of which a run would look up more than it spares.
+/// Writes words by single commands. For one or two words that takes less than a run.
 #[inline(always)]
 pub(crate) fn put_each(
     heap: &mut Heap,
@@ -70,7 +70,7 @@ pub(crate) fn put_each(
     Progress::whole(count)
 }
 
-/// The first words of a new object, whichever way takes less.
+/// Writes the first words of a new object, by single commands or by runs, whichever takes less.
 #[inline(always)]
 pub(crate) fn fill_words(heap: &mut Heap, mutator: u32, obj: u32, words: &[u64]) -> Progress
     requires { length words.now ≤ PLAIN_CELLS }
@@ -82,7 +82,7 @@ pub(crate) fn fill_words(heap: &mut Heap, mutator: u32, obj: u32, words: &[u64])
     put_many(heap, mutator, obj, words)
 }
 
-/// Words of a new object by runs.
+/// Writes the first words of a new object by runs.
 #[inline(never)]
 fn put_many(heap: &mut Heap, mutator: u32, obj: u32, words: &[u64]) -> Progress
     requires { length words.now ≤ PLAIN_CELLS }

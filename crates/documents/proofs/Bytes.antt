@@ -6,11 +6,11 @@ use Rattle.toml.specs.Data.{Members}
 use Rattle.toml.specs.Parse.{parse_document}
 use Rattle.documents.specs.TomlTable.{document_of}
 
--- what TOML reads in a text
+-- A text's document is the one that TOML reads in it.
 pub document_of-text : (bytes : List ℕ) (o : Option Members) → IsUtf8 bytes → parse_document bytes ≡ o → document_of bytes ≡ o
 document_of-text bytes o text e = rw (is_utf8-from_IsUtf8 bytes text) e
 
--- what is no text is no document
+-- Bytes that are no text are no document.
 pub document_of-other : (bytes : List ℕ) → ¬ (IsUtf8 bytes) → document_of bytes ≡ None
 document_of-other bytes other = go (is_utf8 bytes) refl
   where

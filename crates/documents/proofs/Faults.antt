@@ -1,4 +1,4 @@
--- The first fault of a document.
+-- The order of faults in a document.
 use Rattle.std.proofs.Common.{◌≡◌, false, List, [], ◌∷◌, ◌++◌, Option, Some, None, refl}
 use Rattle.size_classes.specs.declared.fault.ConfigFault.{ConfigFault}
 use Rattle.size_classes.specs.Config.{budget_fault}
@@ -6,7 +6,7 @@ use Rattle.toml.specs.Data.{Members}
 use Rattle.documents.specs.ConfigFile.{has_unknown_key, keys_faults, settings_of, document_fault}
 use Rattle.documents.specs.TomlTable.{first_some}
 
--- the first of two lists is the first of one, else of the other
+-- The first of two lists' values is the first of the one, or else the first of the other.
 pub first_some-append : (xs ys : List (Option ConfigFault)) (o : Option ConfigFault) → first_some xs ≡ o → first_some (xs ++ ys) ≡ elim o [ None ↦ first_some ys | Some fault ↦ Some fault ]
 first_some-append [] ys o e = rw (← e) refl
 first_some-append (None ∷ xs) ys o e = first_some-append xs ys o e
@@ -19,7 +19,7 @@ first_some-none xs (Some fault) e = first_some-append xs _ None e
 pub first_some-some : (xs ys : List (Option ConfigFault)) (fault : ConfigFault) → first_some xs ≡ Some fault → first_some (xs ++ ys) ≡ Some fault
 first_some-some xs ys fault e = first_some-append xs ys (Some fault) e
 
--- a document with no key that isn't known has the fault of a key, else the budget's
+-- A document without unknown keys has the fault of a key, or else the fault of the budget.
 pub document_fault-key : (document : Members) (fault : ConfigFault) → has_unknown_key document ≡ false → first_some (keys_faults document) ≡ Some fault → document_fault document ≡ Some fault
 document_fault-key document fault known e = rw known (first_some-some (keys_faults document) _ fault e)
 

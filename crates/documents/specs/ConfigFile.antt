@@ -1,4 +1,4 @@
--- What a configuration file says, and what is wrong with it.
+-- Configurations in files, and their faults.
 use Rattle.std.specs.Prelude.{◌≡◌, ℕ, nat_lt, ℤ, pos, ◌≤ℤ◌, Bool, not, if◌then◌else◌, List, [], ◌∷◌, ◌++◌, map, length, Option, Some, None, is_some, Result, Ok, Err}
 use Rattle.std.specs.Option.{unwrap_or}
 use Rattle.std.specs.List.{list_any}
@@ -18,11 +18,11 @@ use Rattle.documents.specs.declared.toml_table.ReadFault.{ReadFault}
 use Rattle.documents.specs.declared.toml_table.ReadFault.TheVariants.{Refused, NoMemory}
 use Rattle.documents.specs.TomlTable.{document_of, NeedsMemory, any_member, first_some}
 
--- it is the name of a key
+-- whether it is the name of a key
 abbrev pub is_known : List ℕ → Bool
 is_known name = list_any (λ key. bytes_eq (name_of key) name) ALL
 
--- some member's key isn't known
+-- whether a document has a key that isn't known
 abbrev pub has_unknown_key : Members → Bool
 has_unknown_key document = any_member (λ name value. not (is_known name)) document
 
@@ -31,21 +31,21 @@ abbrev pub number_in : ℤ → Key → Option Data → ℤ
 number_in mutators key None = unwrap_or (row_of File mutators key).default (pos 0)
 number_in mutators key (Some value) = unwrap_or (as_integer value) (pos 0)
 
--- the document's number of mutators, or 0 where it has none; the row of this key doesn't ask for it
+-- the document's number of mutators, or 0 if it has none; the row of this key doesn't depend on it
 abbrev pub mutators_of : Members → ℤ
 mutators_of document = number_in (pos 0) keys_of_files.Mutators (get_member (name_of keys_of_files.Mutators) document)
 
--- what is wrong with a whole number at a key, or with what is none
+-- the fault of a whole number at a key, or of a value that is none
 abbrev pub number_fault : ℤ → Key → Option ℤ → Option ConfigFault
 number_fault mutators key None = Some (faults.NotWhole key)
 number_fault mutators key (Some n) = if is_allowed File mutators key n then None else Some (faults.OutOfRange key)
 
--- what is wrong with what stands at a key
+-- the fault of the value at a key, or of a missing one
 abbrev pub value_fault : ℤ → Key → Option Data → Option ConfigFault
 value_fault mutators key None = if is_some (row_of File mutators key).default then None else Some (faults.Missing key)
 value_fault mutators key (Some value) = number_fault mutators key (as_integer value)
 
--- what is wrong with a key of a document
+-- the fault of a key of a document
 abbrev pub key_fault : Members → Key → Option ConfigFault
 key_fault document key = value_fault (mutators_of document) key (get_member (name_of key) document)
 
@@ -53,7 +53,7 @@ key_fault document key = value_fault (mutators_of document) key (get_member (nam
 abbrev pub number_for : Members → Key → ℤ
 number_for document key = number_in (mutators_of document) key (get_member (name_of key) document)
 
--- some number is in the range of a key; of `live`, there is no negative number of mutators
+-- Some number is in the range of a key. For `live`, the number of mutators isn't negative.
 abbrev pub HasRange : Members → Key → Type 0
 HasRange document key = pos (row_of File (mutators_of document) key).least ≤ℤ (row_of File (mutators_of document) key).greatest
 
@@ -73,11 +73,11 @@ settings_of document = record {
   live = number_for document keys_of_files.Live;
 }
 
--- for each key in turn, what is wrong with it
+-- for each key in turn, its fault
 abbrev pub keys_faults : Members → List (Option ConfigFault)
 keys_faults document = map (key_fault document) ALL
 
--- a key of a document isn't known
+-- the fault of a document with a key that isn't known
 abbrev pub unknown_fault : Members → Option ConfigFault
 unknown_fault document = if has_unknown_key document then Some faults.UnknownKey else None
 
@@ -86,7 +86,7 @@ abbrev pub document_fault : Members → Option ConfigFault
 document_fault document =
     first_some (unknown_fault document ∷ keys_faults document ++ budget_fault (settings_of document) ∷ [])
 
--- the first fault of what was read of bytes, which may be no document
+-- the first fault of a parsed document, or that the bytes are none
 abbrev pub fault_in : Option Members → Option ConfigFault
 fault_in None = Some faults.NotToml
 fault_in (Some document) = document_fault document
@@ -95,13 +95,12 @@ fault_in (Some document) = document_fault document
 abbrev pub file_fault : List ℕ → Option ConfigFault
 file_fault bytes = if nat_lt 65536 (length bytes) then Some faults.TooLong else fault_in (document_of bytes)
 
--- the configuration has the numbers of the document
+-- The configuration has the numbers of the document.
 abbrev pub Configures : Option Members → Config → Type 0
 Configures None config = ⊥
 Configures (Some document) config = IsOf (settings_of document) config
 
--- the answer to a file of these bytes: a configuration where it has no fault, or its first fault,
--- or no memory
+-- The answer to a file of these bytes is the configuration, if the file has no fault, or its first fault, or no memory.
 abbrev pub IsRead : List ℕ → Result Config (ReadFault ConfigFault) → Type 0
 IsRead bytes (Ok config) = (file_fault bytes ≡ None) × Configures (document_of bytes) config
 IsRead bytes (Err (Refused fault)) = file_fault bytes ≡ Some fault

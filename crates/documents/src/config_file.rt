@@ -1,4 +1,4 @@
-//! The configuration file.
+//! Reads the configuration file.
 ghost use Rattle.std.specs.Prelude.{◌≡◌, true, None, IfOk};
 ghost use Rattle.std.specs.Result.{result_err};
 ghost use Rattle.size_classes.specs.declared.ranges.Ranges.TheVariants.{File};
@@ -13,10 +13,10 @@ use size_classes::{Config, ConfigFault, Key, Ranges, Settings};
 use std::alloc::Global;
 use toml::Table;
 
-/// The configuration that a file of these bytes gives, checked, or the first fault: the file is too
-/// long, it isn't TOML, it names a key that isn't known; then for each key in turn it is missing, not
-/// a whole number, or out of its range; last the budget of a quantum is out of range. Where memory is
-/// refused before that is known, it is no memory.
+/// Reads the configuration in a file of these bytes, and checks it. Returns its first fault, if it has one. A file may be
+/// too long, or no TOML, or have an unknown key. Then each key in turn may be missing, not a whole number, or out of its
+/// range. Last, the budget of a quantum may be out of range. Returns NoMemory if memory was refused while the document
+/// was read.
 pub fn read_config(alloc: Global, bytes: &[u8]) -> Result<Config, ReadFault<ConfigFault>>
     ensures { IsRead bytes.now result }
 {
@@ -24,7 +24,7 @@ pub fn read_config(alloc: Global, bytes: &[u8]) -> Result<Config, ReadFault<Conf
     config_in(&document).map_err(ReadFault::Refused)
 }
 
-/// The configuration that a document gives, or its first fault.
+/// Returns the configuration that a document gives, or its first fault.
 fn config_in(document: &Table) -> Result<Config, ConfigFault>
     ensures fault { result_err result ≡ document_fault (table_view document.now) }
     ensures values { IfOk result (IsOf (settings_of (table_view document.now))) }
@@ -36,22 +36,21 @@ fn config_in(document: &Table) -> Result<Config, ConfigFault>
     Config::check(&settings)
 }
 
-/// Whether a document has a key that isn't known.
+/// Returns whether a document has an unknown key.
 fn has_unknown_key(document: &Table) -> bool
     ensures { result ≡ has_unknown_key (table_view document.now) }
 {
     any_member(document, |key, _value| !is_known(key))
 }
 
-/// Whether it is the name of a key.
+/// Returns whether this is the name of a key.
 fn is_known(name: &str) -> bool
     ensures { result ≡ is_known name.now }
 {
     Key::ALL.iter().any(|key| key.name() == name)
 }
 
-/// The settings that a document gives, with the defaults filled in, or the fault of the first key that
-/// has one.
+/// Returns the settings that a document gives, with the defaults filled in, or the fault of the first key that has one.
 fn settings_in(document: &Table) -> Result<Settings, ConfigFault>
     ensures fault { result_err result ≡ first_some (keys_faults (table_view document.now)) }
     ensures values { IfOk result (λ s. s ≡ settings_of (table_view document.now)) }
@@ -72,7 +71,7 @@ fn settings_in(document: &Table) -> Result<Settings, ConfigFault>
     })
 }
 
-/// The number of mutators that a document has, or 0 where it has none.
+/// Returns the number of mutators that a document has, or 0 if it has none.
 fn mutators_in(document: &Table) -> i64
     ensures { result ≡ mutators_of (table_view document.now) }
 {
@@ -82,7 +81,7 @@ fn mutators_in(document: &Table) -> i64
     }
 }
 
-/// The number that a document has for a key, else the key's default.
+/// Returns the number that a document has for a key, or else the key's default.
 fn number_at(document: &Table, key: Key) -> Result<i64, ConfigFault>
     ensures fault { result_err result ≡ key_fault (table_view document.now) key }
     ensures value { IfOk result (λ n. n ≡ number_for (table_view document.now) key) }

@@ -1,4 +1,4 @@
-//! The configuration file, a document in TOML.
+//! Reads the configuration file, a document in TOML.
 #![tactic(auto)]
 
 mod config_file;

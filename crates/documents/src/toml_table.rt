@@ -1,4 +1,4 @@
-//! TOML documents: how one is opened, and what is asked of its members.
+//! Opens TOML documents, and searches their members.
 ghost use Rattle.std.specs.Prelude.{◌≡◌, ℕ, Bool, List};
 ghost use Rattle.std.specs.Borrow.{Bor};
 ghost use Rattle.toml.specs.Data.{Data};
@@ -11,14 +11,14 @@ use std::fmt;
 use thiserror::Error;
 use toml::{Table, Value};
 
-/// The most bytes that a document may have.
+/// Limit on the bytes of a document.
 const GREATEST_LENGTH: usize = 65536;
 
-/// Why the bytes of a document give nothing. Its text is what a user reads.
+/// Why the bytes of a document give nothing. Users read its text.
 #[derive(Clone, Copy, Debug, PartialEq, Eq, Error)]
 #[error_bound(F: fmt::Display)]
 pub enum ReadFault<F> {
-    /// The first thing that is wrong with the document.
+    /// The first fault of the document.
     #[error("{0}")]
     Refused(F),
     /// Memory was refused while the document was read.
@@ -26,8 +26,8 @@ pub enum ReadFault<F> {
     NoMemory,
 }
 
-/// The document in these bytes. They are refused with these faults where there are more than 65536, and where they are
-/// no TOML document.
+/// Opens the TOML document in these bytes. Refuses them with `too_long` if there are more than 65536, and with `not_toml`
+/// if they are no TOML document.
 pub fn open_document<F: Copy>(
     alloc: Global,
     bytes: &[u8],
@@ -49,7 +49,7 @@ pub fn open_document<F: Copy>(
     }
 }
 
-/// Whether a table has a member that passes a test of its key and its value.
+/// Returns whether a table has a member that passes a test of its key and its value.
 pub(crate) fn any_member<F: Fn(&str, &Value) -> bool>(table: &Table, test: F) -> bool
     requires { F.IsAlwaysCallable test }
     ensures { (passes : List ℕ → Data → Bool)

@@ -23,7 +23,7 @@ played_settings config n style given old new is p =
     let r = up_to_reaches n style given old new (Ok tt) p in
     runs_settings r.0 old.player.course new.player.course r.1 ∙ is.settings
 
--- where nothing is written no sink is flushed
+-- If nothing is written, no sink is flushed.
 pub not_held : (taken : Taken) (result : Result (Unit {0}) PlayFault) (EndsSo : Result (Unit {0}) PlayFault → Type 0) → OrHeld Nothing taken result EndsSo → EndsSo result
 not_held taken result EndsSo (inl ends) = ends
 not_held taken result EndsSo (inr held) = absurd (held.1 refl)

@@ -1,4 +1,4 @@
--- How many reads and writes failed of a run that ends so.
+-- The number of failed reads and writes in a run that ends so.
 use Rattle.std.proofs.Common.{◌≡◌, ℕ, ◌+◌, Bool, true, false, [], inl, inr, refl, sym, subst, ap, ◌∙◌}
 use Rattle.std.specs.Prelude.{Result, Ok, Err}
 use Rattle.std.specs.Result.{IsErrAnd}
@@ -36,54 +36,54 @@ use Rattle.metronome.specs.declared.answer_job.Question.TheVariants as questions
 use Rattle.metronome.specs.Answered.{EntriesTaken, AnswerOf, IsAnswer}
 use Rattle.metronome.proofs.Finishing.{failed_so}
 
--- a run that ends in a fault counts as the fault
+-- A run that ends in a fault counts as many as the fault.
 reads_so : {A : Type 0} (r : Result A RunFault) (why : RunFault) → IsErrAnd r (λ e. e ≡ why) → failed_reads r ≡ failed_reads {A = A} (Err why)
 reads_so r why h = ap failed_reads (failed_so r why h)
 
 writes_so : {A : Type 0} (r : Result A RunFault) (why : RunFault) → IsErrAnd r (λ e. e ≡ why) → failed_writes r ≡ failed_writes {A = A} (Err why)
 writes_so r why h = ap failed_writes (failed_so r why h)
 
--- a fault is handed on
+-- A fault is handed on.
 pub reads_on : {A : Type 0} (r : Result A RunFault) (fault : RunFault) (old new : ℕ) → IsErrAnd r (λ e. e ≡ fault) → new ≡ old + failed_reads {A = Unit {0}} (Err fault) → new ≡ old + failed_reads r
 reads_on r fault old new h e = e ∙ ap (λ n. old + n) (sym (reads_so r fault h))
 
 pub writes_on : {A : Type 0} (r : Result A RunFault) (fault : RunFault) (old new : ℕ) → IsErrAnd r (λ e. e ≡ fault) → new ≡ old + failed_writes {A = Unit {0}} (Err fault) → new ≡ old + failed_writes r
 writes_on r fault old new h e = e ∙ ap (λ n. old + n) (sym (writes_so r fault h))
 
--- so is that of a text
+-- A fault of a text is handed on.
 pub reads_text : {A : Type 0} (r : Result A RunFault) (fault : PlayFault) (old new : ℕ) → IsErrAnd r (λ e. e ≡ Text fault) → new ≡ old + reads_failed {A = Unit {0}} (Err fault) → new ≡ old + failed_reads r
 reads_text r fault old new h e = reads_on r (Text fault) old new h e
 
 pub writes_text : {A : Type 0} (r : Result A RunFault) (fault : PlayFault) (old new : ℕ) → IsErrAnd r (λ e. e ≡ Text fault) → new ≡ old + writes_failed {A = Unit {0}} (Err fault) → new ≡ old + failed_writes r
 writes_text r fault old new h e = writes_on r (Text fault) old new h e
 
--- and that of a text of which none failed
+-- A fault of a text in which no read failed counts no failed read.
 pub text_unread : {A : Type 0} (r : Result A RunFault) (fault : PlayFault) → IsErrAnd r (λ e. e ≡ Text fault) → reads_failed {A = Unit {0}} (Err fault) ≡ 0 → failed_reads r ≡ 0
 text_unread r fault h none = reads_so r (Text fault) h ∙ none
 
 pub text_unwritten : {A : Type 0} (r : Result A RunFault) (fault : PlayFault) → IsErrAnd r (λ e. e ≡ Text fault) → writes_failed {A = Unit {0}} (Err fault) ≡ 0 → failed_writes r ≡ 0
 text_unwritten r fault h none = writes_so r (Text fault) h ∙ none
 
--- a run that ends in a failed write
+-- A run that ends in a failed write counts one.
 pub one_written : {A : Type 0} (r : Result A RunFault) → IsErrAnd r (λ e. e ≡ Text texts.Write) → failed_writes r ≡ 1
 one_written r h = writes_so r (Text texts.Write) h
 
 pub none_read : {A : Type 0} (r : Result A RunFault) → IsErrAnd r (λ e. e ≡ Text texts.Write) → failed_reads r ≡ 0
 none_read r h = reads_so r (Text texts.Write) h
 
--- one that ends for lack of memory
+-- A run that ends for lack of memory counts no failed read.
 pub memory_unread : {A : Type 0} (r : Result A RunFault) → IsErrAnd r (λ e. e ≡ Text texts.NoMemory) → failed_reads r ≡ 0
 memory_unread r h = reads_so r (Text texts.NoMemory) h
 
 pub memory_unwritten : {A : Type 0} (r : Result A RunFault) → IsErrAnd r (λ e. e ≡ Text texts.NoMemory) → failed_writes r ≡ 0
 memory_unwritten r h = writes_so r (Text texts.NoMemory) h
 
--- one that draws a graph
+-- A run that draws a graph counts no failed read.
 pub drawn_unread : (g : Graph) (most : ℕ) (taken : Taken) (how : Result (Unit {0}) PlayFault) → GraphDrawn g most taken how → reads_failed how ≡ 0
 drawn_unread g most taken (Err texts.Read) h = elim h [ ]
 drawn_unread g most taken how h = refl
 
--- and one of scripts
+-- A run of scripts counts no failed read.
 pub finished_unread : (all : Bool) → failed_reads (finish all) ≡ 0
 finished_unread true = refl
 finished_unread false = refl
@@ -92,7 +92,7 @@ pub finished_unwritten : (all : Bool) → failed_writes (finish all) ≡ 0
 finished_unwritten true = refl
 finished_unwritten false = refl
 
--- what can't be read is no failed write
+-- The fault of a file that can't be read is no failed write.
 unreadable_written : (failed : Bool) (fault : RunFault) → IsUnreadable failed fault → failed_writes {A = Unit {0}} (Err fault) ≡ 0
 unreadable_written failed (Text texts.Write) u = elim u [ ]
 unreadable_written failed fault u = refl
@@ -107,7 +107,7 @@ settings_written settings.NoMemory = refl
 pub settings_unwritten : {A : Type 0} (r : Result A RunFault) (why : ReadFault ConfigFault) → IsErrAnd r (λ e. e ≡ of_settings why) → failed_writes r ≡ 0
 settings_unwritten r why h = writes_so r (of_settings why) h ∙ settings_written why
 
--- no line writes, so that no write fails in going through them
+-- No line writes, so no write fails while lines are read.
 unwritten : {A : Type 0} (how : Result A PlayFault) → (how ≡ Err texts.Write → ⊥) → writes_failed how ≡ 0
 unwritten (Err texts.Write) never = absurd (never refl)
 unwritten how never = refl
@@ -129,7 +129,7 @@ scripts_unwritten given mutators how (inl none) = ap writes_failed none.0
 scripts_unwritten given mutators how (inr w) =
     unwritten how (λ e. (let v = subst (AreScripts given mutators) e w in ends_unwritten (ScriptStops mutators) (λ text g k stops. stops) (reached_by v.over) given.ended tt v.over.ends))
 
--- where nothing is written no write fails
+-- If nothing is written, no write fails.
 nothing_cut : (given : Given) (old new : Session) → Played Nothing given old new (Err texts.Write) → ⊥
 nothing_cut given old new p = ends_unwritten (StopsText Nothing) nothing_fails (reached_by p.over) given.ended new p.over.ends
 
@@ -137,7 +137,7 @@ pub surveyed_unwritten : {F : Type 0} (Tells : (config : Settings) (given : Give
 surveyed_unwritten Tells config given (Err texts.Write) w = absurd (nothing_cut given (session w.0 []) w.1 w.2)
 surveyed_unwritten Tells config given how w = refl
 
--- nor in answering a question
+-- No write fails while a question is answered.
 of_answer : {A : Type 0} (Says : A → Answer → Type 0) (how : Result A PlayFault) (answered : Result Answer PlayFault) → AnswerOf Says how answered → writes_failed how ≡ 0 → writes_failed answered ≡ 0
 of_answer Says how (Ok answer) is none = refl
 of_answer Says (Ok it) (Err why) is none = ap (λ (w : PlayFault). writes_failed {A = Answer} (Err w)) is

@@ -8,12 +8,12 @@ pub failed_so : {A E : Type 0} (r : Result A E) (why : E) → IsErrAnd r (λ e. 
 failed_so (Ok x) why h = elim h [ ]
 failed_so (Err e) why h = ap Err h
 
--- what follows from what holds of an answer that is no error
+-- a consequence for an answer that is no error
 pub ok_so : {A E : Type 0} (r : Result A E) (P Q : Type 0) → (P → Q) → OnOk r P → OnOk r Q
 ok_so (Ok x) P Q f h = f h
 ok_so (Err e) P Q f h = tt
 
--- what follows from what holds of a value
+-- a consequence for a value
 pub value_so : {A E : Type 0} (r : Result A E) (P Q : A → Type 0) → ((x : A) → P x → Q x) → IfOk r P → IfOk r Q
 value_so (Ok x) P Q f h = f x h
 value_so (Err e) P Q f h = tt

@@ -6,7 +6,7 @@ use Rattle.metronome.specs.declared.fault.RunFault.{RunFault}
 use Rattle.metronome.specs.Files.{KnownFiles}
 use Rattle.metronome.specs.Run.{RunDone, Flushes, RunFlushed}
 
--- flushing takes nothing more
+-- A flush takes no more bytes.
 pub run_flushed : (files : KnownFiles) (words : List (List ℕ)) (before mid after : List ℕ) (sent sent' : ℕ) (done how : Result Ending RunFault) → after ≡ mid → RunDone files words (record { before = before; after = mid; sent = sent }) done
     → Flushes sent (record { before = before; after = after; sent = sent' }) done how → RunFlushed files words (record { before = before; after = after; sent = sent' }) how
 run_flushed files words before mid after sent sent' done how same ran ends = (sent, done, subst (λ a. RunDone files words (record { before = before; after = a; sent = sent }) done) (sym same) ran, ends)

@@ -10,18 +10,18 @@ use Rattle.metronome.specs.declared.fault.RunFault.{RunFault}
 use Rattle.metronome.specs.declared.fault.RunFault.TheVariants.{Text}
 use Rattle.metronome.specs.Told.{TextWritten, MadeTextTold, ReportTold}
 
--- how a run ends that wrote a report, or a beginning of it
+-- A run ends so that wrote a report, or a beginning of it.
 pub ended_told : {E : Type 0} (text : List ℕ) (taken : Taken) (written : Result (Unit {0}) E) (result : Result Ending RunFault) → OnOk written (taken.after ≡ taken.before ++ text) → OnErr written (GrowsByPart taken.before taken.after text)
     → OnOk written (result ≡ Ok Done) → OnErr written (result ≡ Err (Text Write)) → TextWritten Done text taken result
 ended_told text taken (Ok u) result all part ok err = subst (TextWritten Done text taken) (sym ok) (refl, all)
 ended_told text taken (Err e) result all part ok err = subst (TextWritten Done text taken) (sym err) (refl, part)
 
--- a report of which a text was written is told
+-- If a report's text was written, the report is.
 pub report_written : (IsReport : List ℕ → Type 0) (text : List ℕ) (taken : Taken) (result : Result Ending RunFault) → IsReport text → TextWritten Done text taken result → ReportTold IsReport taken result
 report_written IsReport text taken (Ok ending) is told = (text, is, told.0, told.1)
 report_written IsReport text taken (Err fault) is told = inl (text, is, told.0, told.1)
 
--- so is one of which the text was made, or memory was refused for it
+-- If a report's text was made, or memory for it was refused, the report is written or refused.
 pub report_told : {E : Type 0} (IsReport : List ℕ → Type 0) (text : Result (String Global) E) (taken : Taken) (result : Result Ending RunFault) → IfOk text (λ t. IsReport (string_bytes t)) → MadeTextTold text taken result → ReportTold IsReport taken result
 report_told IsReport (Ok text) taken result is told = report_written IsReport (string_bytes text) taken result is told
 report_told IsReport (Err refused) taken (Ok ending) is told = elim told [ ]

@@ -1,4 +1,4 @@
--- From the bytes of files to what a request does.
+-- From the bytes of files to a job that is done.
 use Rattle.std.proofs.Common.{◌≡◌, ℕ, ◌+◌, ◌<◌, ◌≤◌, ◌⊎◌, inl, inr, Bool, true, false, List, [], ◌++◌, length, length-take, take, take_all, append-nil, Option, Some, None, ap, ◌∙◌, sym, subst, refl, arith}
 use Rattle.std.specs.Borrow.{Bor}
 use Rattle.std.specs.Io.KnownBytes.{prepend_known}
@@ -26,7 +26,7 @@ use Rattle.metronome.specs.Texts.{IsRest}
 use Rattle.metronome.specs.Done.{JobDone}
 use Rattle.metronome.specs.Run.{other_file, IsGivenOf, JobDoneOn}
 
--- where known bytes stay known, what is a beginning of those is one of these
+-- If known bytes stay known, a beginning of the new ones is a beginning of the old ones.
 pub begins_on : (old new : Option (List ℕ)) (given : List ℕ) (ended : Bool) → Stays old new → IfSome new (λ all. Begins given ended all) → IfSome old (λ all. Begins given ended all)
 begins_on None new given ended s b = tt
 begins_on (Some all) new given ended s b = subst (λ (o : Option (List ℕ)). IfSome o (λ x. Begins given ended x)) s b
@@ -34,7 +34,7 @@ begins_on (Some all) new given ended s b = subst (λ (o : Option (List ℕ)). If
 pub stays_from : {S : Type 0} (new : Option (List ℕ)) (input : S → Option (List ℕ)) (first old : S) → old ≡ first → Stays (input old) new → Stays (input first) new
 stays_from new input first old e h = subst (λ s. Stays (input s) new) e h
 
--- a reader that has given nothing has all that it had
+-- A reader that has given nothing still has all its bytes.
 none_before : (o : Option (List ℕ)) → Stays o (prepend_known [] o)
 none_before None = tt
 none_before (Some all) = refl
@@ -44,7 +44,7 @@ reader_stays remaining reader now given first same =
     subst (λ r. Stays (remaining reader) (prepend_known given (remaining r))) (sym same)
     (subst (λ (bytes : List ℕ). Stays (remaining reader) (prepend_known bytes (remaining reader))) (sym first) (none_before (remaining reader)))
 
--- a document is read up to the byte that shows that it is too long
+-- A document is read up to the byte that shows that it is too long.
 front_is : (n : ℕ) (xs ys : List ℕ) → n ≡ length xs → take n (xs ++ ys) ≡ xs
 front_is n xs ys e = ap (λ k. take k (xs ++ ys)) e ∙ take-append_seam xs ys
 
@@ -60,13 +60,13 @@ document_read (Some all) input given got s first b f =
       | inr full ↦ sym (ap (take 65537) whole ∙ front_is 65537 got begins.rest (same_Some 65537 (length got) full))
     ]
 
--- where it could be read
+-- The bytes of a document that could be read are those of its file.
 pub document_ok : {V : Type 0} (items : V → List ℕ) (known old new : Option (List ℕ)) (given : Given) (r : Result V RunFault) → Stays known old → given.before ≡ [] → (failed_reads r ≡ 0 → Stays old new) → IfSome new (λ all. Begins given.after given.ended all)
     → IfOk r (λ v. IsFront (Some 65537) given (items v)) → IfOk r (λ v. IfSome known (λ all. items v ≡ document_bytes all))
 document_ok items known old new given (Ok v) s first stays begins front = document_read known new given (items v) (stays_on known old new s (stays refl)) first begins front
 document_ok items known old new given (Err fault) s first stays begins front = tt
 
--- all of a source is read where no number of bytes is the most
+-- If there is no limit, all of a source is read.
 pub rest_read : (given : Given) (text : List ℕ) → IsFront None given text → IsRest given text
 rest_read given text f = (
   f.0,
@@ -76,7 +76,7 @@ rest_read given text f = (
   ],
 )
 
--- of a configuration that is too long nothing else is said
+-- A configuration that is too long has no other fault.
 long_fault : (bytes : List ℕ) → 65536 < length bytes → file_fault bytes ≡ Some faults.TooLong
 long_fault bytes long = by_test (nat_lt 65536 (length bytes)) (grind arith)
   where
@@ -84,7 +84,7 @@ long_fault bytes long = by_test (nat_lt 65536 (length bytes)) (grind arith)
     by_test true e = refl
     by_test false e = absurd (cc)
 
--- so a beginning of it that is too long says the same as all its bytes
+-- So a beginning of it that is too long gives the same fault as all its bytes.
 long_read : (all cut : List ℕ) (r : Result Config (ReadFault ConfigFault)) → 65536 < length all → 65536 < length cut → IsRead cut r → IsRead all r
 long_read all cut (Ok config) long few h = absurd (let no : Some faults.TooLong ≡ None = sym (long_fault cut few) ∙ h.0 in cc)
 long_read all cut (Err (Refused fault)) long few h = long_fault all long ∙ sym (long_fault cut few) ∙ h
@@ -106,7 +106,7 @@ known_read (Some all) bytes r e h = read_whole all r (subst (λ b. IsRead b r) e
 pub config_seen : (known : Option (List ℕ)) (bytes seen : List ℕ) (r : Result Config (ReadFault ConfigFault)) → IfSome known (λ all. bytes ≡ document_bytes all) → seen ≡ bytes → IsRead seen r → IfSome known (λ all. IsRead all r)
 config_seen known bytes seen r e same h = known_read known bytes r e (subst (λ b. IsRead b r) same h)
 
--- what can't be read, by whether something failed
+-- A file that can't be read stays so, if more is known to have failed.
 pub unreadable_so : (p q : Bool) (fault : RunFault) → (IsTrue p → IsTrue q) → IsUnreadable p fault → IsUnreadable q fault
 unreadable_so p q (Text texts.Read) f u = f u
 unreadable_so p q (Text texts.NoMemory) f u = tt
@@ -120,17 +120,17 @@ pub or_right : (a b : Bool) → IsTrue b → IsTrue (a || b)
 or_right true b t = refl
 or_right false b t = t
 
--- a job that ends in a failed read is of a source of which one failed
+-- A job that ends in a failed read has a file of which a read failed.
 pub reads_told : {S : Type 0} (file : KnownFile) (failures : S → ℕ) (old new : S) (how : Result Ending RunFault) → failures old ≡ 0 → ((later : S) → 0 < failures later → IsTrue file.failed) → failures new ≡ failures old + failed_reads how → 0 < failed_reads how
     → IsTrue file.failed
 reads_told file failures old new how none fails counts few = fails new (omega (arith, none, counts, few))
 
--- a job from a source is one from the file that its source is of
+-- A job from a source is a job from the file that the source reads.
 pub job_on : (given : Given) (file : KnownFile) (input : Option (List ℕ)) (job : Job) (config : Config) (taken : Taken) (how : Result Ending RunFault) → given.before ≡ [] → Stays file.bytes input → JobDone job config given taken how → IsGivenOf input given how
     → (0 < failed_reads how → IsTrue file.failed) → JobDoneOn file job config taken how
 job_on given file input job config taken how first stays done is reads = (given, first, (λ none. begins_on file.bytes input given.after given.ended stays (is none)), done, reads)
 
--- so it is one from the file of which its source was opened
+-- So it is a job from the file that was opened as its source.
 pub job_from : {S : Type 0} (file : KnownFile) (given : S → List ℕ) (ended : S → Bool) (failures : S → ℕ) (input : S → Option (List ℕ)) (old new : S) (job : Job) (config : Config) (taken : Taken) (how : Result Ending RunFault) → IsOpened given failures input file old
     → JobDone job config (given_by given ended old new) taken how → failures new ≡ failures old + failed_reads how → IsGivenOf (input old) (given_by given ended old new) how → JobDoneOn file job config taken how
 job_from file given ended failures input old new job config taken how opened done counts is =
@@ -140,7 +140,7 @@ pub job_of : (file other : KnownFile) (job : Job) (config : Config) (taken : Tak
 job_of file other job config taken how e done = subst (λ f. JobDoneOn f job config taken how) (sym e) done
 
 module _ (files : KnownFiles) where
-  -- a request's other file is standard input, or that of its name, or it has none
+  -- A job's other file is standard input, or the file of its name; or it has none.
   pub other_input : (file : Option (Bor (List ℕ))) (name : Bor (List ℕ)) → file ≡ Some name → true ≡ bytes_eq name.now (codes "-") → other_file files file ≡ files.input
   other_input file name so e = ap (other_file files) so ∙ ap (λ b. if b then files.input else files.named name.now) (sym e)
 

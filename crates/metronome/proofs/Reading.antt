@@ -7,7 +7,7 @@ use Rattle.trace.specs.Memory.{take_begins}
 use Rattle.trace.specs.Streams.{Begins, Stays}
 use Rattle.metronome.specs.Texts.{ReadsText}
 
--- a source over memory that has given nothing yet gives its bytes from the first on
+-- A source over memory that has given nothing yet gives its bytes from the first one on.
 pub reads_text : (text : List ℕ) (old new : MemorySource) → old.bytes.now ≡ text → old.at ≡ 0 → Stays (Some old.bytes.now) (Some new.bytes.now)
     → ReadsText text (record { before = take old.at old.bytes.now; after = take new.at new.bytes.now; ended = nat_le (length new.bytes.now) new.at })
 reads_text text old new bytes place stays = (
@@ -15,6 +15,6 @@ reads_text text old new bytes place stays = (
   subst (Begins (take new.at new.bytes.now) (nat_le (length new.bytes.now) new.at)) (same_Some new.bytes.now old.bytes.now stays ∙ bytes) (take_begins new.at new.bytes.now),
 )
 
--- a source over memory of which nothing is read yet has given nothing
+-- A source over memory of which nothing is read yet has given nothing.
 pub none_taken : (s : MemorySource) → s.at ≡ 0 → take s.at s.bytes.now ≡ []
 none_taken s place = ap (λ n. take n s.bytes.now) place

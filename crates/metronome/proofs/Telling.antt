@@ -13,13 +13,13 @@ use Rattle.metronome.specs.declared.fault.RunFault.{RunFault}
 use Rattle.metronome.specs.declared.fault.RunFault.TheVariants.{Text}
 use Rattle.metronome.specs.Windows.{IsWindowLine, AllTold, FirstTold}
 
--- what follows from what is said of an error
+-- a consequence for an error
 pub err_so : {A E : Type 0} (r : Result A E) (P Q : E → Type 0) → ((e : E) → P e → Q e) → IsErrAnd r P → IfErr r Q
 err_so (Ok x) P Q f h = tt
 err_so (Err e) P Q f h = f e h
 
 module _ (config : Config) (t : Timetable) (first : List ℕ) (old mid : List ℕ) (so : AllTold config t first old mid) where
-  -- behind these lines memory was refused
+  -- After these lines memory was refused.
   pub told_until : (windows behind : List ℕ) (fault : RunFault) → windows ≡ first ++ behind → fault ≡ Text NoMemory → FirstTold config t windows fault old mid
   told_until windows behind fault whole e = record { first = first; behind = behind; whole = whole; lines = so.lines; each = so.each; written = inl (e, so.written) }
 
@@ -27,7 +27,7 @@ module _ (config : Config) (t : Timetable) (first : List ℕ) (old mid : List �
     each_more : AllZip (IsWindowLine config t) (first ++ window ∷ []) (so.lines ++ line ∷ [])
     each_more = zip_more (IsWindowLine config t) first so.lines window line so.each is
 
-    -- with the next line
+    -- The next line is written, too.
     pub told_more : new ≡ mid ++ line → AllTold config t (first ++ window ∷ []) old new
     told_more e = record {
       lines = so.lines ++ line ∷ [];
@@ -35,7 +35,7 @@ module _ (config : Config) (t : Timetable) (first : List ℕ) (old mid : List �
       written = e ∙ ap (λ x. x ++ line) so.written ∙ append_assoc old (concat so.lines) line ∙ ap (λ x. old ++ x) (sym (concat_more so.lines line));
     }
 
-    -- with a part of it
+    -- A part of the next line is written.
     pub told_part : (windows behind : List ℕ) (fault : RunFault) → windows ≡ (first ++ window ∷ []) ++ behind → fault ≡ Text Write → GrowsByPart mid new line → FirstTold config t windows fault old new
     told_part windows behind fault whole e g = record {
       first = first ++ window ∷ [];
@@ -46,7 +46,7 @@ module _ (config : Config) (t : Timetable) (first : List ℕ) (old mid : List �
       written = inr (e, subst (GrowsByPart old new) (sym (concat_more so.lines line)) (part_after old mid new (concat so.lines) line so.written g));
     }
 
--- what is reported of a timetable doesn't depend on the memory that is reserved
+-- The report of a timetable doesn't depend on the memory that is reserved.
 module _ (config : Config) (t : Timetable) (n : ℕ) (windows taken taken' : List ℕ) where
   pub told_reserved : AllTold config t windows taken taken' → AllTold config (with_reserved t n) windows taken taken'
   told_reserved a = record { lines = a.lines; each = a.each; written = a.written }

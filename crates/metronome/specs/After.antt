@@ -1,4 +1,4 @@
--- What is played before something is reported of the player.
+-- A play before something is reported of the player.
 use Rattle.std.specs.Prelude.{◌≡◌, ℕ, ◌⊎◌, List, Option, Result, Ok, Err}
 use Rattle.size_classes.specs.declared.config.Config.{Config}
 use Rattle.trace.specs.declared.fault.PlayFault.{PlayFault}
@@ -12,8 +12,8 @@ use Rattle.metronome.specs.declared.fault.Ending.{Ending}
 use Rattle.metronome.specs.declared.fault.RunFault.{RunFault}
 use Rattle.metronome.specs.declared.fault.RunFault.TheVariants.{Text}
 
--- A new player played a trace, or its first event lines, without a line written: to the end; or a fault ended the play; or
--- memory was refused before anything was read or written.
+-- A new player played a trace, or its first event lines, and wrote no line: to the end, or until a fault ended the play.
+-- Or memory was refused before anything was read or written.
 abbrev pub PlayerAfter : Option ℕ → Config → Given → Taken → Result PlayerState RunFault → Type 0
 PlayerAfter after config given taken (Ok new) = (old : PlayerState) × IsNew config old
     × PlayedUpTo after Nothing given (session old taken.before) (session new taken.after) (Ok tt)
@@ -22,7 +22,7 @@ PlayerAfter after config given taken (Err fault) =
     ⊎ ((old : PlayerState) × (new : PlayerState) × (why : PlayFault) × IsNew config old
     × PlayedUpTo after Nothing given (session old taken.before) (session new taken.after) (Err why) × (fault ≡ Text why))
 
--- A new player played a trace, or its first event lines, to the end, and then this was reported of it; or the play
+-- A new player played a trace, or its first event lines, to the end, and then `Tells` holds of the player. Or the play
 -- ended in a fault, and nothing was reported.
 abbrev pub AfterPlay : (PlayerState → Taken → Result Ending RunFault → Type 0) → Option ℕ → Config → Given → Taken
     → Result Ending RunFault → Type 0

@@ -1,4 +1,4 @@
--- What is reported of the pages that a trace needs, and how many are enough for the trace itself.
+-- Reports of the pages that a trace needs, and of how many are enough for the trace itself.
 use Rattle.std.specs.Prelude.{◌≡◌, ℕ, ◌+◌, ◌≤◌, ◌⊎◌, nat_le, Bool, true, false, List, ◌++◌, Option, Some, None, Result, Ok, Err}
 use Rattle.size_classes.specs.Config.{IsOnPages}
 use Rattle.size_classes.specs.declared.config.Config.{Config}
@@ -15,54 +15,59 @@ use Rattle.metronome.specs.Faults.{IsUnreadable}
 use Rattle.metronome.specs.Texts.{TextMeasured, IsRest}
 use Rattle.metronome.specs.Told.{ReportTold, ToldOf}
 
--- a configuration has the pages that it must have for what was needed, where that can be stated
+-- whether a configuration has enough pages for these needs; not if they are unknown
 abbrev pub is_enough : Config → Option Needed → Bool
 is_enough c None = false
 is_enough c (Some n) = nat_le (needed_pages c n) c.pages
 
 module _ (config : Config) (text : List ℕ) where
-  -- This many pages, with moving or without, are enough for what the trace of a text needs there, or not: it was measured.
+  -- The trace of a text was measured on this many pages, with moving or without: they are enough for its needs there, or
+  -- not.
   abbrev pub Measures : Bool → ℕ → Bool → Config → Type 0
   Measures moves pages enough c = IsOnPages config pages moves c
       × (m : Measured) × TextMeasured c text (Ok m) × (is_enough c m.needed ≡ enough)
 
-  -- this many pages are too few for that
+  -- This many pages are too few for the trace.
   abbrev pub AreTooFew : Bool → ℕ → Type 0
   AreTooFew moves pages = (c : Config) × Measures moves pages false c
 
-  -- the configuration on which this many pages are enough: without moving, if they are so, else with it
+  -- This many pages are enough in this configuration: without moving, if they are enough so, else with moving. Or they
+  -- are too few either way.
   abbrev pub IsEnoughOn : ℕ → Option Config → Type 0
   IsEnoughOn pages None = AreTooFew false pages × AreTooFew true pages
   IsEnoughOn pages (Some c) = Measures false pages true c ⊎ (AreTooFew false pages × Measures true pages true c)
 
-  -- the one that has enough pages, where one fewer is too few; or as many as a file may ask for are too few
+  -- This configuration has enough pages, and one page fewer is too few. Or as many pages as a file may ask for are too
+  -- few.
   abbrev pub IsFound : Option Config → Type 0
   IsFound None = IsEnoughOn MOST_PAGES None
   IsFound (Some c) = (c.pages ≤ MOST_PAGES) × IsEnoughOn c.pages (Some c)
       × ((fewer : ℕ) → 1 ≤ fewer → fewer + 1 ≡ c.pages → IsEnoughOn fewer None)
 
-  -- measuring it on some number of pages, with moving or without, ended with a fault
+  -- Measuring the trace on some number of pages, with moving or without, ended with this fault.
   abbrev pub FailsBy : PlayFault → Type 0
   FailsBy why = (moves : Bool) × (pages : ℕ) × (c : Config) × IsOnPages config pages moves c × TextMeasured c text (Err why)
 
-  -- it was measured, and then this holds; or that ended with a fault
+  -- The trace was measured, and then this holds; or measuring it ended with a fault.
   abbrev pub OrFault : {A : Type 0} → (A → Type 0) → Result A PlayFault → Type 0
   OrFault Is (Ok it) = Is it
   OrFault Is (Err why) = FailsBy why
 
-  -- Once the trace was measured on the configuration, it is reported what it needs there, and how many pages are enough for it.
+  -- Once the trace was measured on the configuration, the report says what it needs there, and how many pages are enough
+  -- for it.
   abbrev pub RoomTold : Measured → Taken → Result Ending RunFault → Type 0
   RoomTold m taken result = (how : Result (Option Config) PlayFault) × OrFault IsFound how
       × ToldOf (λ found. ReportTold (λ report. report ≡ needed_told config m.needed ++ room_line found)) how taken result
 
-  -- A trace of this text was measured on a new heap, and it was reported what it needs. Where the pages are enough,
-  -- `TraceMeasured` promises room to this run, and to those of which the verdict speaks; on as many as a line gives for a
-  -- way, to those that the line names; and to the run on the configuration that was found.
+  -- A trace of this text was measured on a new heap, and what it needs was reported. If the pages are enough,
+  -- `TraceMeasured` promises room to this run, and to the runs that the report names. On as many pages as a line gives
+  -- for a policy, it promises room to the runs that this line names. It also promises room to the run on the
+  -- configuration that was found.
   abbrev pub NeededTold : Taken → Result Ending RunFault → Type 0
   NeededTold taken result =
       (how : Result Measured PlayFault) × TextMeasured config text how × ToldOf RoomTold how taken result
 
--- A trace was read to its end, and from its text it was reported how many pages it needs; or it could not be read, and
+-- A trace was read to its end, and the pages that it needs were reported from its text. Or it couldn't be read, and
 -- nothing was written.
 abbrev pub DemandTold : Config → Given → Taken → Result Ending RunFault → Type 0
 DemandTold config given taken result =

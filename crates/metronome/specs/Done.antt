@@ -1,4 +1,4 @@
--- What the job of a command line reads and writes.
+-- The files that a job of the command line reads and writes.
 use Rattle.std.specs.Prelude.{Bool, if◌then◌else◌, None, option_map, Result}
 use Rattle.size_classes.specs.declared.config.Config.{Config}
 use Rattle.heap_model.specs.Event.{present_of}
@@ -26,28 +26,27 @@ use Rattle.metronome.specs.Demand.{DemandTold}
 use Rattle.metronome.specs.After.{AfterPlay}
 use Rattle.metronome.specs.Telling.{HeapReported, GraphTold, TellsWhy, WindowsTold}
 
--- what is written of each command
+-- the style in which each command is written
 abbrev pub style_of : Bool → Style
 style_of history = if history then Entries else Replies
 
--- how the figures of cycles are laid out
+-- the layout of the figures of cycles
 abbrev pub layout_of : Bool → Layout
 layout_of csv = if csv then Commas else Columns
 
--- what is done to draw this of a run
+-- A drawing of a run was made.
 abbrev pub DrawingDone : Drawing → Config → Given → Taken → Result Ending RunFault → Type 0
 DrawingDone (drawings.Run form live) config = Answered (questions.Run form live) config
 DrawingDone (drawings.Events after) config = AfterPlay (λ p. TextWritten Done (events_picture p)) after config
 DrawingDone (drawings.Graph after most) config = AfterPlay (λ p. GraphTold most (present_of p.course)) after config
 
--- what is done to tell how many pages suffice
+-- The number of pages that suffice was reported.
 abbrev pub PagesDone : Sizing → Config → Given → Taken → Result Ending RunFault → Type 0
 PagesDone Demand config = DemandTold config
 PagesDone Pace config = Answered questions.Pace config
 PagesDone By_plan config = Answered questions.Plan config
 
--- what a job does: for some, what it reports of the player after its play; a plan reads no other file than the
--- configuration
+-- A job was done, as its kind says. A plan reads no other file than the configuration.
 abbrev pub JobDone : Job → Config → Given → Taken → Result Ending RunFault → Type 0
 JobDone (Play words history) config = TracePlayed (style_of history) config
 JobDone (Check words) config = Answered questions.History config

@@ -8,29 +8,30 @@ use Rattle.trace.specs.LinesProcessed.{reads_failed, writes_failed}
 use Rattle.metronome.specs.declared.fault.RunFault.{RunFault}
 use Rattle.metronome.specs.declared.fault.RunFault.TheVariants.{Words, Config, Text}
 
--- the fault of a run whose settings can't be read
+-- the fault of a run whose configuration can't be read
 abbrev pub of_settings : ReadFault ConfigFault → RunFault
 of_settings (settings.Refused why) = Config why
 of_settings settings.NoMemory = Text NoMemory
 
--- the faults of words that ask for no job
+-- Words that ask for no job end a run in this fault.
 abbrev pub IsOfWords : RunFault → Type 0
 IsOfWords (Words text) = Unit {0}
 IsOfWords (Text NoMemory) = Unit {0}
 IsOfWords fault = ⊥
 
--- the faults of a file that can't be read into memory, by whether opening or reading it failed
+-- A file that can't be read into memory ends a run in this fault: in a failed read only if opening or reading the file
+-- failed.
 abbrev pub IsUnreadable : Bool → RunFault → Type 0
 IsUnreadable failed (Text Read) = IsTrue failed
 IsUnreadable failed (Text NoMemory) = Unit {0}
 IsUnreadable failed fault = ⊥
 
--- how many reads have failed where a run ends so: it ends at the first
+-- the number of failed reads in a run that ends so: it ends at the first
 abbrev pub failed_reads : {A : Type 0} → Result A RunFault → ℕ
 failed_reads (Err (Text why)) = reads_failed {A = Unit {0}} (Err why)
 failed_reads _ = 0
 
--- how many writes have failed where a run ends so: it ends at the first
+-- the number of failed writes in a run that ends so: it ends at the first
 abbrev pub failed_writes : {A : Type 0} → Result A RunFault → ℕ
 failed_writes (Err (Text why)) = writes_failed {A = Unit {0}} (Err why)
 failed_writes _ = 0

@@ -1,4 +1,4 @@
--- What each subcommand reads and writes.
+-- Plays and threads: the bytes that they read and write.
 use Rattle.std.specs.Prelude.{◌≡◌, ℕ, Bool, true, false, ◌⊎◌, ◌++◌, map, replicate, Result, Ok, Err}
 use Rattle.size_classes.specs.declared.config.Config.{Config}
 use Rattle.trace.specs.declared.fault.PlayFault.{PlayFault}
@@ -25,13 +25,13 @@ abbrev pub NotBegun : Given → Taken → Result Ending RunFault → Type 0
 NotBegun given taken result =
     (given.after ≡ given.before) × (taken.after ≡ taken.before) × (result ≡ Err (Text NoMemory))
 
--- a job that is done where its play is
+-- the end of a run whose play ends so
 abbrev pub ends_as : Result (Unit {0}) PlayFault → Result Ending RunFault
 ends_as (Ok all) = Ok Done
 ends_as (Err fault) = Err (Text fault)
 
--- A new player played a trace, and what the style says was written. What the sink has not sent on is of lines that were
--- read at once.
+-- A new player played a trace, and wrote of each command what the style says. If the sink holds bytes back, they are of
+-- lines that were read at once.
 abbrev pub TracePlayed : Style → Config → Given → Taken → Result Ending RunFault → Type 0
 TracePlayed style config given taken result =
     NotBegun given taken result
@@ -39,12 +39,12 @@ TracePlayed style config given taken result =
     × OrHeld style taken how (Played style given (session old taken.before) (session new taken.after))
     × IsSentUpTo style given (session old taken.before) (session new taken.after) taken.sent × (result ≡ ends_as how))
 
--- how a run ends whose scripts and budgets were all done, or not
+-- the end of a run whose scripts and budgets were all done, or not
 abbrev pub finish : Bool → Result Ending RunFault
 finish true = Ok Done
 finish false = Err NotComplete
 
--- The history of a play was written, with the version of the scripts, or a part of it where a write failed.
+-- The history of a play was written, with the version of the scripts; or a part of it, if a write failed.
 abbrev pub HistoryWritten : Version → Outcome → Taken → Result Ending RunFault → Type 0
 HistoryWritten version outcome taken result =
     ((result ≡ finish outcome.all) × (taken.after ≡ taken.before
@@ -52,15 +52,15 @@ HistoryWritten version outcome taken result =
     ⊎ ((result ≡ Err (Text Write)) × GrowsByPart taken.before taken.after
     (text_written Entries version outcome.recorded.course.history))
 
--- Threads ran scripts beside this many quanta of a budget, and the history was written, which is a merge of the scripts
--- where all was done; or memory was refused, and nothing was.
+-- Threads ran scripts beside this many quanta of a budget, and the history was written. It is a merge of the scripts, if
+-- all was done. Or memory was refused, and nothing was written.
 abbrev pub RunAfter : ℕ → ℕ → Config → ReadScripts → Taken → Result Ending RunFault → Type 0
 RunAfter turns budget config read taken result =
     ((result ≡ Err (Text NoMemory)) × (taken.after ≡ taken.before))
     ⊎ ((outcome : Outcome) × IsOutcome (settings_by config) (map (λ s. s.items) read.1.items)
     (replicate turns budget) outcome × HistoryWritten read.0 outcome taken result)
 
--- Scripts were read, run, and their history written.
+-- Scripts were read and run, and their history was written.
 abbrev pub ScriptsRun : ℕ → ℕ → Config → Given → Taken → Result Ending RunFault → Type 0
 ScriptsRun turns budget config given taken result =
     (how : Result ReadScripts PlayFault) × ScriptsRead given config.mutators how

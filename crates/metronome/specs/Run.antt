@@ -1,4 +1,4 @@
--- What a run of the program does, by the job for which its words ask and the bytes of its files.
+-- A run of the program: the job for which its words ask, done on the bytes of its files.
 use Rattle.std.specs.Prelude.{◌≡◌, ℕ, ◌<◌, ◌≤◌, ◌⊎◌, ◌||◌, IsTrue, if◌then◌else◌, List, [], ◌++◌, length, codes, Option, Some, None, IfSome, Result, Ok, Err}
 use Rattle.std.specs.Borrow.{Bor}
 use Rattle.std.specs.Str.{bytes_eq}
@@ -29,8 +29,8 @@ words_line text = codes "metronome: " ++ (text ++ codes "\n")
 abbrev pub NothingDone : RunFault → Taken → Result Ending RunFault → Type 0
 NothingDone fault taken how = (how ≡ Err fault) × (taken.after ≡ taken.before)
 
--- How a run ends that was done so, while its sink had sent on so much: a write had failed, and no other was tried; or the sink
--- was flushed, and all that it took is sent on; or not all could be.
+-- A run was done, while its sink had sent on `sent` bytes, and then ends so. If a write had failed, no other was tried.
+-- Else the sink was flushed: all that it took is sent on, or a write failed before that.
 abbrev pub Flushes : ℕ → Taken → Result Ending RunFault → Result Ending RunFault → Type 0
 Flushes sent taken done how =
     ((0 < failed_writes done) × (how ≡ done) × (taken.sent ≡ sent))
@@ -38,29 +38,27 @@ Flushes sent taken done how =
     × (((how ≡ done) × (taken.sent ≡ length taken.after))
     ⊎ ((how ≡ Err (Text Write)) × (taken.sent < length taken.after))))
 
--- what a run was given is a beginning of these bytes, or all of them where it found their end, if they are known and no
--- read failed
+-- If the bytes are known and no read failed, a run was given a beginning of them, or all, if it found their end.
 abbrev pub IsGivenOf : Option (List ℕ) → Given → Result Ending RunFault → Type 0
 IsGivenOf bytes given how = failed_reads how ≡ 0 → IfSome bytes (λ all. Begins given.after given.ended all)
 
--- a job was done from the beginning of this file on; where it ended in a failed read, one failed of it
+-- A job was done from the beginning of this file. If it ended in a failed read, a read of the file failed.
 abbrev pub JobDoneOn : KnownFile → Job → Config → Taken → Result Ending RunFault → Type 0
 JobDoneOn file job config taken how = (given : Given) × (given.before ≡ []) × IsGivenOf file.bytes given how
     × JobDone job config given taken how × (0 < failed_reads how → IsTrue file.failed)
 
 module _ (files : KnownFiles) where
-  -- what is known of a job's other file: of standard input, or of the file of its name; none, where it has no other
-  -- file
+  -- the job's other file: standard input, or the file of its name; a file without bytes, if it has no other
   abbrev pub other_file : Option (Bor (List ℕ)) → KnownFile
   other_file None = no_file
   other_file (Some name) = if bytes_eq name.now (codes "-") then files.input else files.named name.now
 
-  -- the bytes of a configuration file, where they are known, were read so
+  -- The configuration was read from the bytes of this file, if they are known.
   abbrev pub ConfigRead : List ℕ → Result Config (ReadFault ConfigFault) → Type 0
   ConfigRead name read = IfSome (files.named name).bytes (λ all. IsRead all read)
 
-  -- The configuration that words name was read, and a job done on their other file, or without one; or the configuration was
-  -- refused; or one of the two files couldn't be read.
+  -- The configuration was read, and the job was done on the other file, if it has one. Or the configuration was refused;
+  -- or one of the two files couldn't be read.
   abbrev pub Obeyed : Words → Job → Taken → Result Ending RunFault → Type 0
   Obeyed words job taken how =
       ((config : Config) × ConfigRead words.config.now (Ok config)
@@ -71,7 +69,7 @@ module _ (files : KnownFiles) where
       × IsUnreadable ((files.named words.config.now).failed || (other_file words.file).failed) fault
       × NothingDone fault taken how))
 
-  -- The words ask for a job, which was done; or for help, which was written; or they were refused; or memory was.
+  -- The words ask for a job, which was done; or for help, which was written. Or they were refused; or memory was.
   abbrev pub RunDone : List (List ℕ) → Taken → Result Ending RunFault → Type 0
   RunDone words taken how =
       ((job : Job) × IsAskedForBy words job × Obeyed (words_of job) job taken how)

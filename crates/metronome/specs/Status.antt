@@ -6,12 +6,12 @@ use Rattle.metronome.specs.declared.fault.Ending.TheVariants as endings
 use Rattle.metronome.specs.declared.fault.RunFault.{RunFault}
 use Rattle.metronome.specs.declared.fault.RunFault.TheVariants as faults
 
--- a run that meets no fault
+-- the exit status of a run that meets no fault
 abbrev pub ending_status : Ending → ℕ
 ending_status endings.Done = 0
 ending_status endings.WrongReply = 7
 
--- a run that a fault ends
+-- the exit status of a run that ends in a fault
 abbrev pub fault_status : RunFault → ℕ
 fault_status (faults.Words text) = 2
 fault_status (faults.Config why) = 3

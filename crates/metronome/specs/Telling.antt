@@ -1,4 +1,4 @@
--- What is reported of a player.
+-- Reports on a player.
 use Rattle.std.specs.Prelude.{◌≡◌, ℕ, Bool, IsTrue, ◌↔◌, List, Result, Ok, Err}
 use Rattle.size_classes.specs.declared.config.Config.{Config}
 use Rattle.graph_heap.specs.Graph.{Graph}
@@ -26,32 +26,32 @@ use Rattle.metronome.specs.declared.fault.RunFault.TheVariants.{Text}
 use Rattle.metronome.specs.Told.{ReportTold, TextWritten}
 use Rattle.metronome.specs.Windows.{AllTold, FirstTold}
 
--- a report of a heap is written: page by page, by size class, or by shape
+-- A report of a heap is written: page by page, by size class, or by shape.
 abbrev pub HeapReported : Report → HeapState → Taken → Result Ending RunFault → Type 0
 HeapReported reports.Pages h taken result = TextWritten Done (report_of h) taken result
 HeapReported reports.Sizes h taken result = TextWritten Done (sizes_told h) taken result
 HeapReported reports.Shapes h taken result = ReportTold (ShapesTold h) taken result
 
--- a job that is done where its drawing is
+-- the end of a run whose drawing ends so
 abbrev pub drawn_as : Result (Unit {0}) PlayFault → Result Ending RunFault
 drawn_as (Ok drawn) = Ok Done
 drawn_as (Err fault) = Err (Text fault)
 
--- a graph heap is drawn, with at most this many objects
+-- A graph heap is drawn, with at most this many objects.
 abbrev pub GraphTold : ℕ → Graph → Taken → Result Ending RunFault → Type 0
 GraphTold most g taken result = (how : Result (Unit {0}) PlayFault) × GraphDrawn g most taken how
     × (result ≡ drawn_as how)
 
--- the text that tells why an object is alive in a graph heap, and whether a heap holds a block of it
+-- The text says why an object is alive in a graph heap, and whether a heap holds a block of it.
 abbrev pub TellsWhy : ℕ → HeapState → Graph → List ℕ → Type 0
 TellsWhy id h g text = (allocated : Bool) × (IsTrue allocated ↔ HasBlock h.store id) × PathTold g id allocated text
 
--- a line for each window is written, or for the first of them
+-- A line for each window is written, or for the first of them.
 abbrev pub WindowsTold : Config → Timetable → List ℕ → Taken → Result Ending RunFault → Type 0
 WindowsTold config t windows taken (Ok ending) = (ending ≡ Done) × AllTold config t windows taken.before taken.after
 WindowsTold config t windows taken (Err fault) = FirstTold config t windows fault taken.before taken.after
 
--- what is reported, by its kind
+-- A report of this kind is written.
 abbrev pub Tells : Telling → Config → PlayerState → Taken → Result Ending RunFault → Type 0
 Tells (tellings.Report by) config p taken result = HeapReported by p.course.heap taken result
 Tells tellings.Events config p taken result = TextWritten Done (events_picture p) taken result

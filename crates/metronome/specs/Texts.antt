@@ -6,14 +6,14 @@ use Rattle.trace.specs.Streams.{Given, Begins}
 use Rattle.sizing.specs.declared.measured.Measured.{Measured}
 use Rattle.sizing.specs.Measuring.{TraceMeasured}
 
--- all that a source had still to give is this text
+-- This text is all that a source had still to give.
 abbrev pub IsRest : Given → List ℕ → Type 0
 IsRest given text = (given.after ≡ given.before ++ text) × IsTrue given.ended
 
--- a text, or a beginning of it, was given from its first byte
+-- A text, or a beginning of it, was given from its first byte.
 abbrev pub ReadsText : List ℕ → Given → Type 0
 ReadsText text given = (given.before ≡ []) × Begins given.after given.ended text
 
--- a trace of this text was measured on a new heap
+-- A trace of this text was measured on a new heap.
 abbrev pub TextMeasured : Config → List ℕ → Result Measured PlayFault → Type 0
 TextMeasured config text how = (given : Given) × ReadsText text given × TraceMeasured config given how

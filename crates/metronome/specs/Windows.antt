@@ -1,4 +1,4 @@
--- The lines that tell of windows.
+-- The lines of windows.
 use Rattle.std.specs.Prelude.{◌≡◌, ℕ, ◌*◌, ◌/◌, ◌<◌, max, ◌⊎◌, List, ◌++◌, codes, decimal}
 use Rattle.std.specs.List.{AllZip, concat}
 use Rattle.size_classes.specs.declared.config.Config.{Config}
@@ -9,23 +9,24 @@ use Rattle.trace.specs.Streams.{GrowsByPart}
 use Rattle.metronome.specs.declared.fault.RunFault.{RunFault}
 use Rattle.metronome.specs.declared.fault.RunFault.TheVariants.{Text}
 
--- the ticks that have passed, with those of the last interval
+-- the ticks that have passed, up to the end of the last interval
 abbrev pub span_of : Timetable → ℕ
 span_of t = max t.clock (last_end t.intervals)
 
--- the line of a window that is longer than the time that has passed, or of no tick
+-- the line of a window of no tick, or of one that is longer than the time that has passed
 abbrev pub no_window : ℕ → List ℕ
 no_window window = codes "window " ++ (decimal window ++ codes " none\n")
 
--- the line of a window of which the mutators have at least `least` ticks, with what the schedule promises them, and
--- their share in thousandths
+-- the line of a window in which the mutators have at least `least` ticks, with the ticks that the schedule promises them,
+-- and `least` as a share in thousandths
 abbrev pub window_with : ℕ → ℕ → ℕ → ℕ → List ℕ
 window_with window least bound permille = codes "window "
     ++ (decimal window ++ (codes " least "
     ++ (decimal least ++ (codes " bound "
     ++ (decimal bound ++ (codes " permille " ++ (decimal permille ++ codes "\n")))))))
 
--- the line of a window: what its mutators have at least and what is promised, or that there is no such window
+-- The line of a window says the fewest ticks of its mutators and those that are promised, or that there is no such
+-- window.
 abbrev pub IsWindowLine : Config → Timetable → ℕ → List ℕ → Type 0
 IsWindowLine config t window line =
     (((window ≡ 0) ⊎ (span_of t < window)) × (line ≡ no_window window))

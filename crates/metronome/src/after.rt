@@ -1,4 +1,4 @@
-//! What is reported of a player after a trace.
+//! Reports on a player after a trace.
 ghost use Rattle.std.specs.Prelude.{◌≡◌, ◌+◌, IfOk};
 ghost use Rattle.heap_model.specs.Event.{present_of};
 ghost use Rattle.heap_model.specs.Settings.{settings_of, settings_by};
@@ -25,23 +25,23 @@ use std::alloc::Global;
 use trace::{Player, Sink, Source, Style, play_up_to};
 use windows::tell_windows;
 
-/// What is reported.
+/// A report on a player.
 #[derive(Clone, Copy)]
 pub enum Telling<'a> {
     /// A report of the heap.
     Report(Report),
     /// The quanta that took ticks, as events.
     Events,
-    /// A picture of the objects that can be reached, at most this many, nearest to the roots first.
+    /// A picture of the reachable objects, at most this many, nearest to the roots first.
     Graph(u32),
-    /// A shortest path from a root to an object; or that none leads to it, and whether blocks of it are still
-    /// allocated; or that it was never made.
+    /// The shortest path from a root to this object. If there is none, the report says whether blocks of the object are
+    /// still allocated, or that it was never made.
     Path(u64),
-    /// A line for each window.
+    /// A line for each of these windows, in ticks.
     Windows(&'a [u64]),
 }
 
-/// A new player after a trace, or after its first event lines; nothing was written of them.
+/// Plays a trace, or its first `after` event lines, on a new player, and returns the player. Writes nothing.
 fn player_after<S: Source, K: Sink>(
     alloc: Global,
     config: &Config,
@@ -61,7 +61,7 @@ fn player_after<S: Source, K: Sink>(
     Ok(player)
 }
 
-/// The graph heap to which the history of a player leads.
+/// Returns the graph heap to which the history of a player leads.
 fn graph_after(alloc: Global, config: &Config, player: &Player) -> Result<Reference, NoMemory>
     requires { settings_of player.now.course.heap ≡ settings_by config.now }
     ensures { IfOk result (λ graph. graph ≡ present_of player.now.course) }
@@ -69,7 +69,7 @@ fn graph_after(alloc: Global, config: &Config, player: &Player) -> Result<Refere
     present(alloc, &config.limits(), player.recorded().history())
 }
 
-/// Tells what is asked of a player.
+/// Writes a report on a player.
 fn tell<K: Sink>(
     alloc: Global,
     config: &Config,
@@ -97,7 +97,7 @@ fn tell<K: Sink>(
     }
 }
 
-/// Plays a trace, or its first event lines, on a new player, and then tells of the player.
+/// Plays a trace, or its first `after` event lines, on a new player, and then writes a report on the player.
 pub fn after_play<S: Source, K: Sink>(
     alloc: Global,
     config: &Config,

@@ -1,4 +1,4 @@
-//! Answering a question about an input.
+//! Answers a question about an input.
 ghost use Rattle.std.specs.Prelude.{◌≡◌, ◌+◌, IfOk, string_bytes};
 ghost use Rattle.trace.specs.LinesProcessed.{reads_failed};
 ghost use Rattle.trace.specs.Streams.{given_by, taken_by, Stays};
@@ -21,30 +21,31 @@ use trace::transcripts::{Checked, check_entries};
 use trace::{PlayFault, Sink, Source, survey_run, write_all};
 use viewer::{FOOT, HEAD};
 
-/// What is asked about an input.
+/// A question about an input.
 #[derive(Clone, Copy)]
 pub enum Question {
-    /// How many entries a history has, or which is the first wrong one.
+    /// How many entries does a history have, or which is the first wrong one?
     History,
-    /// Which cycles the run of a trace had: a line for each.
+    /// Which cycles did the run of a trace have? The answer has a line for each.
     Cycles(Layout),
-    /// What pace a trace has, and how many pages suffice for it. Where those of the configuration do, no reply of this run
-    /// was the refusal for lack of space, nor is one of any run at this pace.
+    /// Which pace does a trace have, and how many pages suffice for it? If those of the configuration suffice, no reply
+    /// of this run was the refusal for lack of space, nor is any reply of a run at this pace.
     Pace,
-    /// By which plans a heap paces itself, for the most words of blocks that live objects have in the run of a trace.
+    /// By which plans does a heap pace itself, if live objects have as many words of blocks as they had at most in the
+    /// run of a trace?
     Plan,
-    /// What the run of a trace was like, in this form, with the plans for this many live words.
+    /// How did the run of a trace go? The answer is its data in this form, with the plans for this many live words.
     Run(Form, Option<u64>),
 }
 
-/// A text that is written, and how the run then ends.
+/// A text to write, and how the run then ends.
 #[derive(Drop)]
 pub struct Answer {
     text: String,
     ending: Ending,
 }
 
-/// Checks the entries of a history from the opening graph heap. The first wrong one is noted.
+/// Checks the entries of a history from the opening graph heap, and notes the first wrong one.
 fn check<S: Source>(
     alloc: Global,
     config: &Config,
@@ -63,7 +64,7 @@ fn check<S: Source>(
     checked
 }
 
-/// What is reported of a history that was checked.
+/// Returns the line that reports on a checked history.
 fn history_line(alloc: Global, checked: Checked) -> Result<String, AllocError>
     ensures { IfOk result (λ line. string_bytes line ≡ told_of checked) }
 {
@@ -73,7 +74,7 @@ fn history_line(alloc: Global, checked: Checked) -> Result<String, AllocError>
     }
 }
 
-/// How a run ends that checked a history.
+/// Returns how a run ends that checked a history: done, or in a wrong reply.
 fn ending_of(checked: Checked) -> Ending
     ensures { result ≡ verdict checked }
 {
@@ -83,7 +84,7 @@ fn ending_of(checked: Checked) -> Ending
     }
 }
 
-/// The lines of the pace of a trace.
+/// Returns the lines of the pace of a trace.
 fn pace_text(alloc: Global, config: &Config, measured: &Measured) -> Result<String, AllocError>
     ensures { IfOk result (λ text. TellsPace config.now measured.now (string_bytes text)) }
 {
@@ -91,7 +92,7 @@ fn pace_text(alloc: Global, config: &Config, measured: &Measured) -> Result<Stri
     pace_report(alloc, &slow, &measured.pace)
 }
 
-/// The data of a run in a form: alone, or in the page that shows them.
+/// Returns the data of a run in a form: alone, or in the page that shows them.
 fn in_form(alloc: Global, form: Form, plans: &str, run: &str) -> Result<String, AllocError>
     ensures { IfOk result (λ text. string_bytes text ≡ in_form form plans.now run.now) }
 {
@@ -102,7 +103,7 @@ fn in_form(alloc: Global, form: Form, plans: &str, run: &str) -> Result<String, 
     }
 }
 
-/// The data of a run in a form, with the plans for this many live words.
+/// Returns the data of a run in a form, with the plans for this many live words.
 fn run_text(
     alloc: Global,
     config: &Config,
@@ -116,7 +117,7 @@ fn run_text(
     in_form(alloc, form, plans.as_str(), run)
 }
 
-/// The answer with a text, if there was memory for it.
+/// Returns the answer with this text, or NoMemory if memory for the text was refused.
 fn offer(text: Result<String, AllocError>, ending: Ending) -> Result<Answer, PlayFault>
     ensures { Offers text ending result }
 {

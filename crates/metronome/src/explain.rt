@@ -1,5 +1,5 @@
-//! What is told of a run beside the line of its fault, where its words ask for that. It is told from what the run has read, as far
-//! as memory and the error stream allow.
+//! Writes more lines about the fault of a run, if its words ask for explanations. They are found in what the run has
+//! read, as far as memory and the error stream allow.
 ghost use Rattle.std.specs.Prelude.{◌≡◌, IsNone};
 
 mod config;
@@ -13,7 +13,7 @@ use std::fmt;
 use std::io::{self, Write};
 use trace::{EntryLine, LineFault, PlayFault, Quoted, Refused, TextLine, read_entry, write_reply};
 
-/// The name of the file of a trace, of scripts or of a history, as it is told.
+/// The name of the file of a trace, of scripts or of a history. It is displayed in quotes, or as `standard input`.
 #[derive(Clone, Copy)]
 struct Origin<'a>(&'a str);
 
@@ -27,7 +27,7 @@ impl fmt::Display for Origin<'_> {
     }
 }
 
-/// Tells more of how a run ended, if its words asked for that.
+/// Explains how a run ended, if its words asked for that.
 pub fn explain<E: Write>(
     alloc: Global,
     errors: &mut E,
@@ -59,14 +59,14 @@ pub fn explain<E: Write>(
     }
 }
 
-/// Tells a line, and where it comes from.
+/// Writes a line, its number and its file.
 fn tell_line<E: Write>(errors: &mut E, words: Words, text: TextLine) -> io::Result<()> {
     let (number, origin) = (text.number, Origin(words.file.unwrap_or("-")));
     let line = Quoted(text.bytes);
     writeln!(errors, "metronome: line {number} of {origin} is {line}")
 }
 
-/// Tells a line that is refused, and what is wrong with it.
+/// Writes a refused line, and what is wrong with it.
 fn explain_line<E: Write>(
     errors: &mut E,
     words: Words,
@@ -89,7 +89,7 @@ fn explain_line<E: Write>(
     writeln!(errors, "metronome: {refused}")
 }
 
-/// Tells the first wrong entry of a history, and which reply was due there.
+/// Writes the first wrong entry of a history, and the reply that was due there.
 fn explain_reply<E: Write>(errors: &mut E, words: Words, notes: Notes) -> io::Result<()> {
     let (Some(tail), Some(mut wrong)) = (notes.text, notes.wrong) else {
         return Ok(());
@@ -110,7 +110,8 @@ fn explain_reply<E: Write>(errors: &mut E, words: Words, notes: Notes) -> io::Re
     writeln!(errors, "metronome: the reply that was due is {due}")
 }
 
-/// Tells which file can't be read, and what the system said of it. Where the configuration was read, it is the other one.
+/// Writes which file can't be read, and the system's error. If the configuration was read, the other file is meant. Also
+/// writes that a configuration is never read from standard input, if its name is `-`.
 fn explain_unread<E: Write>(errors: &mut E, words: Words, notes: &Notes) -> io::Result<()> {
     let name = Quoted(words.config.as_bytes());
     if notes.config.is_some() {

@@ -1,4 +1,4 @@
-//! How a run ends.
+//! How a run ends, with its exit status.
 ghost use Rattle.std.specs.Prelude.{◌≡◌};
 ghost use Rattle.trace.specs.declared.fault.PlayFault.TheVariants as texts;
 ghost use Rattle.metronome.specs.declared.fault.RunFault.TheVariants as faults;
@@ -11,17 +11,17 @@ use size_classes::ConfigFault;
 use thiserror::Error;
 use trace::{PlayFault, WriteFailed};
 
-/// How a run ends that meets no fault.
+/// The end of a run that meets no fault.
 #[derive(Clone, Copy, Debug, PartialEq, Eq)]
 pub enum Ending {
     /// All was done.
     Done,
-    /// The history has a wrong reply, and that was written.
+    /// The history has a wrong reply, and the program wrote where.
     WrongReply,
 }
 
 impl Ending {
-    /// The exit status.
+    /// Returns the exit status.
     pub fn status(self) -> u8
         ensures { result ≡ ending_status self }
     {
@@ -32,7 +32,7 @@ impl Ending {
     }
 }
 
-/// Why a run failed. What was written before stands.
+/// Why a run failed. All that it wrote before the fault stands.
 #[derive(Debug, Drop, Error)]
 pub enum RunFault {
     /// The words of the command line are refused.
@@ -50,7 +50,7 @@ pub enum RunFault {
 }
 
 impl RunFault {
-    /// The exit status.
+    /// Returns the exit status.
     pub fn status(&self) -> u8
         ensures { result ≡ fault_status self.now }
     {

@@ -1,4 +1,4 @@
-//! Files by their names.
+//! Opens files by their names, and reads them.
 ghost use Rattle.std.specs.Prelude.{◌≡◌, ◌⊎◌, ◌+◌, ◌<◌, ◌≤◌, ℕ, List, Some, true, IfOk, IfErr, IfSome, IsTrue};
 ghost use Rattle.trace.specs.Streams.{given_by, Stays};
 ghost use Rattle.metronome.specs.Faults.{IsUnreadable, failed_reads};
@@ -11,21 +11,21 @@ use std::fs::{self, Files};
 use std::io;
 use trace::{PlayFault, ReadSource, Source};
 
-/// The most bytes of a configuration that are read: one more than it may have.
+/// Limit on the bytes of a configuration that are read: one more than it may have.
 pub const DOCUMENT_BYTES: usize = 65537;
 
-/// How many bytes of a source are asked for at a time.
+/// The bytes of a source that are asked for at a time.
 const PIECE: usize = 4096;
 
-/// What opens the files that the words name.
+/// Opens the files that the words name.
 pub trait Opener {
     /// A source of a file's bytes.
     type File: Source + Drop;
 
-    /// What is known of the file of each name.
+    /// The bytes and failures that contracts know of the file of each name.
     ghost known: { Self → List ℕ → KnownFile };
 
-    /// A source of the file of this name, from its beginning.
+    /// Opens the file of this name as a source, from its beginning.
     fn open(&self, name: &str) -> io::Result<Self::File>
         ensures opened { IfOk result (IsOpened Self.File.given Self.File.failures Self.File.input
             (known self.now name.now)) }
@@ -41,7 +41,7 @@ pub struct HostFiles<'a, R: Files> {
 impl<'a, R: Files> Opener for HostFiles<'a, R> {
     type File = ReadSource<R::File>;
 
-    // What a file of the machine holds, and whether it can be read, isn't known to any contract.
+    // No contract knows the bytes of a file of the machine, or whether it can be read.
     ghost known = { λ _ _. unknown_file };
 
     fn open(&self, name: &str) -> io::Result<ReadSource<R::File>> {
@@ -49,7 +49,7 @@ impl<'a, R: Files> Opener for HostFiles<'a, R> {
     }
 }
 
-/// A source of the file of this name. Where it can't be opened, what the system says is noted.
+/// Opens the file of this name as a source. If that fails, notes the system's error.
 pub fn open_file<O: Opener>(opener: &O, name: &str, notes: &mut Notes) -> Result<O::File, RunFault>
     ensures opened { IfOk result (IsOpened O.File.given O.File.failures O.File.input
         (O.known opener.now name.now)) }
@@ -64,7 +64,7 @@ pub fn open_file<O: Opener>(opener: &O, name: &str, notes: &mut Notes) -> Result
     }
 }
 
-/// How many bytes are asked for next, where so many were read of a number that is the most.
+/// Returns how many bytes to ask for next, once `read` bytes are read of at most `most` in all.
 fn next_piece(most: Option<usize>, read: usize) -> usize
     ensures piece { result ≤ 4096 }
     ensures within { IfSome most (λ n. read ≤ n → read + result ≤ n) }
@@ -76,7 +76,7 @@ fn next_piece(most: Option<usize>, read: usize) -> usize
     }
 }
 
-/// The bytes that a source has still to give: all, or at most so many.
+/// Reads the rest of a source: all its bytes, or at most `most`.
 pub fn read_bytes<S: Source>(
     alloc: Global,
     source: &mut S,
@@ -103,7 +103,8 @@ pub fn read_bytes<S: Source>(
     }
 }
 
-/// The bytes of a configuration.
+/// Reads the bytes of a configuration, at most `DOCUMENT_BYTES`. Notes the system's error if its file can't be opened or
+/// read.
 pub fn read_document<O: Opener>(
     alloc: Global,
     opener: &O,

@@ -1,4 +1,5 @@
-//! What each subcommand does, from a source to a sink. Each ends in a failed read or write exactly where one failed.
+//! Plays a trace, or runs scripts on threads, from a source to a sink. A job ends in a failed read or write exactly if
+//! one failed.
 ghost use Rattle.std.specs.Prelude.{◌≡◌, ◌+◌, ◌≤◌, ◌++◌, map, replicate, vec_len, IfOk, OnOk, OnErr};
 ghost use Rattle.heap_model.specs.Settings.{settings_by};
 ghost use Rattle.trace.specs.Streams.{failed, GrowsByPart, given_by, taken_by, Stays};
@@ -21,7 +22,7 @@ use trace::{
     write_entry,
 };
 
-/// Plays a trace, and writes what the style says of each command.
+/// Plays a trace on a new player, and writes of each command what the style says.
 pub fn play_job<S: Source, K: Sink>(
     alloc: Global,
     config: &Config,
@@ -40,7 +41,7 @@ pub fn play_job<S: Source, K: Sink>(
     Ok(Ending::Done)
 }
 
-/// A budget, this many times.
+/// Returns a list with `turns` times the same budget.
 fn budgets_of(alloc: Global, turns: u32, budget: u32) -> Result<Vec<u32>, NoMemory>
     ensures { IfOk result (λ budgets. budgets.items ≡ replicate turns budget) }
 {
@@ -51,7 +52,7 @@ fn budgets_of(alloc: Global, turns: u32, budget: u32) -> Result<Vec<u32>, NoMemo
     Ok(budgets)
 }
 
-/// Runs scripts on threads beside this many quanta of a budget.
+/// Runs scripts on threads beside `turns` quanta of a budget.
 fn run_scripts<T: Threads + Wait + Sync>(
     rt: &T,
     alloc: Global,
@@ -68,7 +69,7 @@ fn run_scripts<T: Threads + Wait + Sync>(
     play_threads(rt, alloc, config, scripts, budgets, &OpenGate)
 }
 
-/// Runs scripts on threads beside this many quanta of a budget, and writes the history.
+/// Reads scripts, runs them on threads beside `turns` quanta of a budget, and writes the history.
 pub fn threads_job<S: Source, K: Sink, T: Threads + Wait + Sync>(
     rt: &T,
     alloc: Global,
@@ -90,7 +91,7 @@ pub fn threads_job<S: Source, K: Sink, T: Threads + Wait + Sync>(
     finished(outcome.all)
 }
 
-/// How a run ends whose scripts and budgets were all done, or not.
+/// Returns how a run ends: done if all scripts and budgets were done, else not complete.
 fn finished(all: bool) -> Result<Ending, RunFault>
     ensures { result ≡ finish all }
 {
@@ -101,7 +102,7 @@ fn finished(all: bool) -> Result<Ending, RunFault>
     }
 }
 
-/// Writes a history: the line that tells the version, where one must, and a line for each entry.
+/// Writes a history: the line of its version, if it has one, and a line for each entry.
 fn write_history<K: Sink>(
     sink: &mut K,
     version: Version,
@@ -116,7 +117,7 @@ fn write_history<K: Sink>(
     write_entries(sink, history)
 }
 
-/// Writes the line that tells the second version. No line tells the first.
+/// Writes the line that names the second version; the first version has no line.
 fn write_version<K: Sink>(sink: &mut K, version: Version) -> Result<(), WriteFailed>
     ensures ok { OnOk result (K.taken sink.new ≡ K.taken sink.old ++ written_version version Entries) }
     ensures err { OnErr result (GrowsByPart (K.taken sink.old) (K.taken sink.new) (written_version version Entries)) }

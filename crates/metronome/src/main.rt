@@ -28,7 +28,7 @@ use std::io::{self, ErrorKind, Input};
 use std::process::ExitCode;
 use trace::{BufferedSink, WriteSink};
 
-/// The words of the command line; the first is the program's name.
+/// Returns the words of the command line; the first is the program's name.
 fn words_of(rt: &HostRuntime) -> Result<Vec<String>, RunFault> {
     match env::args(rt) {
         Ok(words) => Ok(words.collect(rt.alloc()).map_err(|_| NoMemory)?),

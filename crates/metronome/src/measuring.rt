@@ -1,4 +1,4 @@
-//! Measuring a trace that was read into memory.
+//! Measures a trace that was read into memory.
 ghost use Rattle.std.specs.Prelude.{◌≡◌};
 ghost use Rattle.trace.specs.LinesProcessed.{reads_failed, writes_failed};
 ghost use Rattle.metronome.specs.Texts.{TextMeasured};
@@ -8,7 +8,7 @@ use sizing::{Measured, Meter};
 use std::alloc::Global;
 use trace::{MemorySource, PlayFault, survey_run};
 
-/// What the trace of a text needs on a new heap.
+/// Measures the trace of a text on a new heap.
 pub fn measure_text(alloc: Global, config: &Config, text: &[u8]) -> Result<Measured, PlayFault>
     ensures measured { TextMeasured config.now text.now result }
     ensures reads { reads_failed result ≡ 0 }

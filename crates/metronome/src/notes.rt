@@ -1,4 +1,4 @@
-//! What a run keeps to explain its fault.
+//! The notes that a run keeps to explain its fault.
 ghost use Rattle.std.specs.Prelude.{◌≡◌, Some, None, true, false, is_some, if◌then◌else◌, IsSome, IsNone};
 
 use crate::tail::Tail;
@@ -11,30 +11,30 @@ use std::io;
 /// The first wrong entry of a history.
 #[derive(Drop)]
 pub struct WrongEntry {
-    /// Its line, counted from 1.
+    /// The number of its line, counted from 1.
     pub number: u64,
-    /// The graph heap as the entries before leave it.
+    /// The graph heap after the entries before it.
     pub before: Reference,
 }
 
-/// What a run keeps of what it read, where its words ask to explain its fault.
+/// The parts of a run's input that may explain its fault. They are kept only if the words ask for explanations.
 #[derive(Drop)]
 pub struct Notes<'a> {
-    /// The words, where they ask for that.
+    /// The words, if they ask for that.
     pub words: Option<Words<'a>>,
-    /// The bytes of its configuration.
+    /// The bytes of the configuration.
     pub document: Option<Vec<u8>>,
-    /// Its configuration.
+    /// The configuration.
     pub config: Option<Config>,
-    /// The end of what it read of the other file.
+    /// The end of what was read of the other file.
     pub text: Option<Tail>,
-    /// What the system said of the file that can't be opened, or of the read that failed.
+    /// The system's error for a file that can't be opened, or for a read that failed.
     pub error: Option<io::Error>,
     pub wrong: Option<WrongEntry>,
 }
 
 impl<'a> Notes<'a> {
-    /// None yet, of a run that isn't asked.
+    /// Returns empty notes, for words that ask for no explanation.
     pub fn new() -> Notes<'a>
         ensures { result.words ≡ None }
     {
@@ -58,7 +58,7 @@ impl<'a> Notes<'a> {
         }
     }
 
-    /// Keeps the bytes of a configuration.
+    /// Keeps the bytes of a configuration, if the words ask for explanations.
     pub fn keep_document(&mut self, bytes: Vec<u8>)
         ensures asked { IsSome self.old.words → self.new ≡ record self.old { document = Some bytes } }
         ensures unasked { IsNone self.old.words → self.new ≡ self.old }
@@ -68,7 +68,7 @@ impl<'a> Notes<'a> {
         }
     }
 
-    /// What is to keep the end of a source's text, where there is memory for it.
+    /// Returns an empty tail for the text of a source, if the words ask for explanations and there is memory for it.
     pub fn tail(&self, alloc: Global) -> Option<Tail>
         ensures asked { IsNone self.now.words → result ≡ None }
     {
@@ -78,7 +78,7 @@ impl<'a> Notes<'a> {
         }
     }
 
-    /// Keeps the end of what a source gave, and why a read of it failed. A text that is kept whole stays.
+    /// Keeps the end of a source's text, and the error of a failed read. A text that is already kept stays.
     pub fn keep_end(&mut self, tail: Option<Tail>, error: Option<io::Error>)
         ensures { self.new ≡ record self.old { error = error; text = if is_some self.old.text then self.old.text else tail } }
     {
@@ -88,7 +88,7 @@ impl<'a> Notes<'a> {
         }
     }
 
-    /// Keeps all of a text.
+    /// Keeps a whole text, if the words ask for explanations.
     pub fn keep_text(&mut self, text: Vec<u8>)
         ensures asked { IsSome self.old.words
             → self.new ≡ record self.old { text = Some (record { bytes = text; before = 0; version = None }) } }
@@ -99,7 +99,7 @@ impl<'a> Notes<'a> {
         }
     }
 
-    /// Keeps the number of the line of a wrong entry, and the graph heap before it.
+    /// Keeps the line number of a wrong entry and the graph heap before it, if the words ask for explanations.
     pub fn keep_wrong(&mut self, number: u64, before: Reference)
         ensures asked { IsSome self.old.words
             → self.new ≡ record self.old { wrong = Some (record { number = number; before = before }) } }

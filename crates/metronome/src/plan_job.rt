@@ -1,4 +1,4 @@
-//! Telling of the plans by which a heap paces itself.
+//! Writes the plans by which a heap paces itself.
 ghost use Rattle.std.specs.Prelude.{◌≡◌, ◌+◌, IfOk, option_map, string_bytes};
 ghost use Rattle.trace.specs.Streams.{taken_by};
 ghost use Rattle.plans.specs.Report.{IsPlansReport};
@@ -13,7 +13,7 @@ use size_classes::{Class, Config};
 use std::alloc::Global;
 use trace::Sink;
 
-/// What is told of the plans for so many live words, and for these size classes, if any are said.
+/// Returns the report of the plans for `live` live words, for these size classes or for all.
 fn plans_text(
     alloc: Global,
     config: &Config,
@@ -26,8 +26,8 @@ fn plans_text(
     Ok(plans_report(alloc, config, live, classes.as_deref())?)
 }
 
-/// Tells of the plans by which a heap paces itself, where so many words are live: on how few pages there is one, and what it
-/// is on some numbers of pages; for these size classes, if any are said.
+/// Writes the plans by which a heap paces itself, if at most `live` words are live. They are the fewest pages with a
+/// plan, and the plan on some numbers of pages, for these size classes or for all.
 pub fn plan_job<K: Sink>(
     alloc: Global,
     config: &Config,

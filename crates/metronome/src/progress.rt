@@ -1,4 +1,4 @@
-//! Telling of a source: how many lines were read, and where it ends.
+//! A source that counts the lines read, and keeps the end of its text.
 ghost use Rattle.std.specs.Prelude.{◌≡◌, ◌*◌, ◌<◌, ◌≤◌, [], true, OnOk};
 ghost use Rattle.std.specs.Io.KnownBytes.{Appends};
 ghost use Rattle.metronome.specs.Progress.{line_ends, progress_line};
@@ -7,7 +7,7 @@ use crate::tail::{Tail, count_line_ends};
 use std::io::{self, Write};
 use trace::{ReadFailed, Source};
 
-/// How many lines the first report takes.
+/// The number of lines at which the first report comes.
 const FIRST_TOLD: u64 = 65536;
 
 /// Reports that this many lines were read.
@@ -17,7 +17,7 @@ fn tell_lines<W: Write>(errors: &mut W, lines: u64) -> io::Result<()>
     writeln!(errors, "metronome: {lines} lines read")
 }
 
-/// Takes the next bytes of a text whose end is kept; that is no more where memory is refused.
+/// Adds the next bytes of a text to its tail. Drops the tail if memory is refused.
 fn keep(tail: &mut Option<Tail>, bytes: &[u8]) {
     let is_lost = match tail {
         Some(tail) => tail.take(bytes).is_err(),
@@ -28,26 +28,26 @@ fn keep(tail: &mut Option<Tail>, bytes: &[u8]) {
     }
 }
 
-/// A source of which more is told on an error stream, where that is asked for. Of progress: its lines are counted, and their
-/// number is reported at 65536 lines, and whenever it has doubled. Of faults: the end of what it gave is kept. A failed write
-/// to that stream, and memory that is refused, change nothing of what it gives.
+/// Gives the bytes of another source. It counts their lines, if `counts` says so, and reports the number on an error
+/// stream, at 65536 lines and at each doubling. It keeps the end of the bytes, if it has a tail. Neither a failed write
+/// to that stream nor refused memory changes the bytes.
 #[derive(Drop)]
 pub struct ToldSource<S: Source + Drop, W: Write + Drop> {
     source: S,
     errors: W,
-    /// Whether its lines are counted.
+    /// Whether lines are counted.
     counts: bool,
-    /// How many line ends it gave, where they are counted.
+    /// The number of line ends given, if they are counted.
     lines: u64,
-    /// Half of the lines that the next report takes.
+    /// Half the number of lines at which the next report comes.
     half: u64,
-    /// The end of what it gave, where that is kept.
+    /// The end of the bytes given, if it is kept.
     tail: Option<Tail>,
     ghost counted: { counts ≡ true → lines ≡ line_ends (S.given source) },
 }
 
 impl<S: Source + Drop, W: Write + Drop> ToldSource<S, W> {
-    /// This source, which has given nothing yet.
+    /// Wraps a source that has given nothing yet.
     pub fn new(source: S, errors: W, counts: bool, tail: Option<Tail>) -> ToldSource<S, W>
         requires { S.given source ≡ [] }
         ensures source { result.source ≡ source }
@@ -66,7 +66,7 @@ impl<S: Source + Drop, W: Write + Drop> ToldSource<S, W> {
         }
     }
 
-    /// Reports how many lines were read, where as many came as the next report takes.
+    /// If the number of lines at which a report is due was read, reports that number and doubles it.
     fn tell(&mut self) -> io::Result<()>
         ensures source { self.new.source ≡ self.old.source }
         ensures early { self.old.lines < self.old.half * 2 → self.new ≡ self.old }
@@ -82,7 +82,7 @@ impl<S: Source + Drop, W: Write + Drop> ToldSource<S, W> {
         tell_lines(&mut self.errors, self.half)
     }
 
-    /// The end of what it gave, where that is kept.
+    /// Returns the end of the bytes given, if it was kept.
     pub fn into_tail(self) -> Option<Tail>
         ensures { result ≡ self.tail }
     {

@@ -1,4 +1,4 @@
-//! How many pages are enough for a trace itself: it is measured on some numbers of them.
+//! Finds how many pages are enough for a trace itself, by measuring it on some numbers of pages.
 ghost use Rattle.std.specs.Prelude.{◌≡◌, ◌≤◌, Some};
 ghost use Rattle.size_classes.specs.declared.config.TheConstants.{MOST_PAGES};
 ghost use Rattle.trace.specs.LinesProcessed.{reads_failed, writes_failed};
@@ -11,7 +11,7 @@ use sizing::Needed;
 use std::alloc::Global;
 use trace::PlayFault;
 
-/// Whether a configuration has the pages that it must have for what was needed, where that can be stated.
+/// Returns whether a configuration has enough pages for these needs; false if they are unknown.
 fn is_enough(config: &Config, needed: &Option<Needed>) -> bool
     ensures { result ≡ is_enough config.now needed.now }
 {
@@ -21,13 +21,13 @@ fn is_enough(config: &Config, needed: &Option<Needed>) -> bool
     }
 }
 
-/// A trace that was measured on a configuration.
+/// A trace measured on a configuration.
 #[derive(Clone, Copy)]
 struct Trial {
     config: Config,
-    /// Whether its pages are as many as it must have for what the trace needed there.
+    /// Whether the pages suffice for what the trace needed there.
     enough: bool,
-    /// The fewest pages for what it needed there, of those that a file may ask for: these may be tried next.
+    /// The fewest pages for what it needed there, at most those that a file may ask for. They may be tried next.
     fewest: u32,
 }
 
@@ -54,7 +54,7 @@ fn trial_of(
     })
 }
 
-/// Measures it without moving, and where these pages are too few so, with moving.
+/// Measures the trace without moving; if these pages are too few for that, with moving.
 fn trial_on(alloc: Global, config: &Config, text: &[u8], pages: u32) -> Result<Trial, PlayFault>
     requires { (1 ≤ pages) × (pages ≤ MOST_PAGES) }
     ensures trial { OrFault config.now text.now (λ trial. IsEnoughOn config.now text.now pages (enough_of trial)) result }
@@ -68,14 +68,14 @@ fn trial_on(alloc: Global, config: &Config, text: &[u8], pages: u32) -> Result<T
     trial_of(alloc, config, text, true, pages)
 }
 
-/// A trial on enough pages, and a number of them that is too few, or 0.
+/// A trial on enough pages, and a number of pages that is too few, or 0.
 #[derive(Clone, Copy)]
 struct Bounds {
     below: u32,
     found: Trial,
 }
 
-/// Bounds that are found from a number of pages on, at twice as many each time; None where the most are too few.
+/// Finds bounds: tries `from` pages, then twice as many each time. Returns None if the most pages are too few.
 fn widen(
     alloc: Global,
     config: &Config,
@@ -99,9 +99,9 @@ fn widen(
     Ok(None)
 }
 
-/// The configuration within bounds that has enough pages, where one fewer is too few. The fewest for what was needed last
-/// are tried; but below what is enough at a distance that doubles each time, or at a greater one, and above what is too few
-/// half of what is left, or more.
+/// Returns a configuration within bounds that has enough pages, so that one page fewer is too few. Each trial takes the
+/// fewest pages for what the last one needed. After a trial on enough pages, the next goes down by at least a step, which
+/// doubles each time. After one on too few, the next goes up by at least half the pages that are left.
 fn narrow(alloc: Global, config: &Config, text: &[u8], bounds: Bounds) -> Result<Config, PlayFault>
     requires { AreBounds config.now text.now bounds }
     ensures found { OrFault config.now text.now (λ found. IsFound config.now text.now (Some found)) result }
@@ -128,7 +128,7 @@ fn narrow(alloc: Global, config: &Config, text: &[u8], bounds: Bounds) -> Result
     Ok(found.config)
 }
 
-/// The fewest pages for what was needed, of those that a file may ask for.
+/// Returns the fewest pages for these needs, at most those that a file may ask for; these, if the needs are unknown.
 fn fewest_of(needed: &Option<Needed>) -> u32
     ensures { (1 ≤ result) × (result ≤ MOST_PAGES) }
 {
@@ -138,8 +138,9 @@ fn fewest_of(needed: &Option<Needed>) -> u32
     }
 }
 
-/// The configuration that has enough pages for the trace of a text, where one fewer is too few: without moving, if they are
-/// enough so, or else with moving after each sweep. None where as many as a file may ask for are too few.
+/// Returns the configuration that has enough pages for the trace of a text, so that one page fewer is too few. It doesn't
+/// move blocks, if its pages are enough so, or else it moves after each sweep. Returns None if the most pages that a file
+/// may ask for are too few.
 pub fn find_room(
     alloc: Global,
     config: &Config,

@@ -1,4 +1,4 @@
-//! A run of the program.
+//! Runs the program.
 ghost use Rattle.std.specs.Prelude.{◌≡◌, ◌+◌, [], map, Result, OnOk};
 ghost use Rattle.std.specs.Io.KnownBytes.{Appends};
 ghost use Rattle.metronome.specs.declared.fault.Ending.{Ending};
@@ -31,7 +31,7 @@ use std::sync::Wait;
 use std::thread::Threads;
 use trace::{MemorySource, PlayFault, ReadSource, Sink, Source, Style, write_all};
 
-/// What a run has of the machine: threads, memory, and files by their names.
+/// The parts of the machine that a run uses: threads, memory, and files by their names.
 #[derive(Clone, Copy, Drop)]
 struct Host<'a, O: Opener, T: Threads + Wait + Sync> {
     rt: &'a T,
@@ -39,9 +39,9 @@ struct Host<'a, O: Opener, T: Threads + Wait + Sync> {
     opener: &'a O,
 }
 
-/// Runs the program: does what the words ask for, after the first, which is the program's name, has the sink send on what
-/// waits in it, writes the fault to the error stream if there is one, and answers the exit status. A failed write to the error stream changes
-/// no status, nor does what is told there beside the fault, where the words ask for that. `input` is standard input.
+/// Runs the program and returns its exit status. Does what the words ask for (the first is the program's name), flushes
+/// the sink, and writes the fault, if there is one, to the error stream. Then explains it there, if the words ask for
+/// that. A failed write to the error stream changes no status, nor does an explanation. `input` is standard input.
 pub fn run<S, O, R, K, E, T>(
     rt: &T,
     alloc: Global,
@@ -73,7 +73,7 @@ where
     status_of(&how)
 }
 
-/// How a run ends once all that waits in its sink is sent on. After a failed write nothing is tried any more.
+/// Flushes the sink of a run, unless a write failed before. Returns how the run ends: as before, or in a failed write.
 fn flushed<K: Sink>(how: Result<Ending, RunFault>, sink: &mut K) -> Result<Ending, RunFault>
     ensures taken { K.taken sink.new ≡ K.taken sink.old }
     ensures ends { Flushes (K.sent sink.old) (taken_by K.taken K.sent sink.old sink.new) how result }
@@ -88,7 +88,7 @@ fn flushed<K: Sink>(how: Result<Ending, RunFault>, sink: &mut K) -> Result<Endin
     }
 }
 
-/// The exit status of a run.
+/// Returns the exit status of a run.
 fn status_of(how: &Result<Ending, RunFault>) -> u8
     ensures { result ≡ status_of how.now }
 {
@@ -106,14 +106,14 @@ pub fn tell<E: Write>(errors: &mut E, fault: &RunFault) {
     };
 }
 
-/// Writes why words are refused, as a line, or as lines where the text has several.
+/// Writes why words are refused, in as many lines as the text has.
 fn tell_words<E: Write>(errors: &mut E, text: &str) -> io::Result<()>
     ensures { OnOk result (Appends (E.contents errors.old) (E.contents errors.new) (words_line text.now)) }
 {
     writeln!(errors, "metronome: {text}")
 }
 
-/// Does what the words ask for. Where they ask for progress, the lines that are read are reported on the error stream.
+/// Reads the words, and writes the help or does the job that they ask for.
 fn perform<'a, S, O, R, K, E, T>(
     host: &Host<O, T>,
     words: &'a [S],
@@ -147,7 +147,7 @@ where
     obey(host, asked, &job, input, sink, errors, notes)
 }
 
-/// Does a job, with the files that these words name.
+/// Does a job with the files that these words name.
 fn obey<O: Opener, R: Read + Drop, K: Sink, E: Write, T: Threads + Wait + Sync>(
     host: &Host<O, T>,
     words: Words,
@@ -178,8 +178,8 @@ fn obey<O: Opener, R: Read + Drop, K: Sink, E: Write, T: Threads + Wait + Sync>(
     serve(host, job, &config, file, sink, errors, notes)
 }
 
-/// Does a job, from the source of the other file. Where progress is asked for, the lines that are read are reported on the
-/// error stream; where explanations are, the end of what was read is noted. Nothing else depends on that.
+/// Does a job on the source of the other file. With `--progress`, the lines read are reported on the error stream; with
+/// `--explain`, the end of the bytes read is noted. Nothing else depends on these two.
 fn serve<S: Source + Drop, K: Sink, E: Write, O: Opener, T: Threads + Wait + Sync>(
     host: &Host<O, T>,
     job: &Job,
@@ -204,7 +204,7 @@ fn serve<S: Source + Drop, K: Sink, E: Write, O: Opener, T: Threads + Wait + Syn
     how
 }
 
-/// Does a job, from the source of the other file.
+/// Does a job on the source of the other file.
 fn work<S: Source, K: Sink, O: Opener, T: Threads + Wait + Sync>(
     host: &Host<O, T>,
     job: &Job,
@@ -246,7 +246,7 @@ fn work<S: Source, K: Sink, O: Opener, T: Threads + Wait + Sync>(
     }
 }
 
-/// What is written of each command.
+/// Returns the style that a play writes: entries of the history, or replies.
 fn style_of(history: bool) -> Style
     ensures { result ≡ style_of history }
 {
@@ -257,14 +257,14 @@ fn style_of(history: bool) -> Style
     }
 }
 
-/// How the figures of cycles are laid out.
+/// Returns the layout of the figures of cycles: with commas, or in columns.
 fn layout_of(csv: bool) -> Layout
     ensures { result ≡ layout_of csv }
 {
     if csv { Layout::Commas } else { Layout::Columns }
 }
 
-/// Draws the run of a trace.
+/// Draws the run of a trace: its data, its events or its graph.
 fn draw_job<S: Source, K: Sink>(
     alloc: Global,
     config: &Config,
@@ -293,7 +293,7 @@ fn draw_job<S: Source, K: Sink>(
     }
 }
 
-/// Tells how many pages suffice for a trace.
+/// Writes how many pages suffice for a trace: for its demand, for its pace, or with a plan.
 fn pages_job<S: Source, K: Sink>(
     alloc: Global,
     config: &Config,

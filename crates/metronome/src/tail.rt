@@ -6,35 +6,35 @@ use std::alloc::{AllocError, Global};
 use trace::line_reader::CAPACITY;
 use trace::{TextLine, Version, tells_version};
 
-/// For how many bytes memory is taken.
+/// The bytes for which memory is reserved.
 const ROOM: usize = 2 * CAPACITY;
 
-/// How many lines end in these bytes.
+/// Counts the lines that end in these bytes.
 pub fn count_line_ends(bytes: &[u8]) -> u64
     ensures { result ≡ line_ends bytes.now }
 {
     bytes.iter().filter(|byte| **byte == b'\n').count() as u64
 }
 
-/// The end of a text that comes in pieces: at least as many of its bytes as a reader of lines has at once, so that the line
-/// that it handed out last is among them, or the one that it refused.
+/// Keeps the end of a text that comes in pieces: at least as many bytes as a reader of lines holds at once. So the last
+/// line that the reader returned or refused is among them.
 #[derive(Drop)]
 pub struct Tail {
     bytes: Vec<u8>,
-    /// How many lines end before these bytes.
+    /// The number of lines that end before these bytes.
     before: u64,
-    /// The version of the lines after the first, where the text doesn't begin with these bytes.
+    /// The version of the lines after the first, if the text doesn't begin with these bytes.
     version: Option<Version>,
 }
 
 impl Tail {
-    /// That of a text of which nothing has come yet, if there is memory for it.
+    /// Returns the tail of a text of which nothing has come yet, if there is memory for it.
     pub fn new(alloc: Global) -> Option<Tail> {
         let bytes = Vec::with_capacity(alloc, ROOM).ok()?;
         Some(Tail::whole(bytes))
     }
 
-    /// All of a text.
+    /// Returns the tail that keeps all of a text.
     pub fn whole(bytes: Vec<u8>) -> Tail
         ensures { result ≡ record { bytes = bytes; before = 0; version = None } }
     {
@@ -45,7 +45,7 @@ impl Tail {
         }
     }
 
-    /// Takes the next bytes of the text.
+    /// Adds the next bytes of the text.
     pub fn take(&mut self, piece: &[u8]) -> Result<(), AllocError>
         // The bytes that are kept end with these.
         ensures { OnOk result ((front : List ℕ) × (self.new.bytes.items ≡ front ++ piece.now)) }
@@ -56,7 +56,7 @@ impl Tail {
         self.bytes.extend_from_slice(piece)
     }
 
-    /// Forgets all bytes but the last ones, as many as a reader of lines has at once.
+    /// Drops all bytes except the last ones, as many as a reader of lines holds at once.
     fn forget(&mut self) {
         self.version = Some(self.version_behind());
         let end = self.bytes.len();
@@ -67,7 +67,7 @@ impl Tail {
         self.bytes.truncate(end - start);
     }
 
-    /// The version of the lines after the first.
+    /// Returns the version of the lines after the first.
     fn version_behind(&self) -> Version {
         if let Some(version) = self.version {
             return version;
@@ -79,7 +79,8 @@ impl Tail {
         }
     }
 
-    /// The line of this number, from 1, as far as it has come, if its beginning is among these bytes.
+    /// Returns the line of this number, counted from 1, as far as it has come; None if its beginning isn't among these
+    /// bytes.
     pub fn line(&self, number: u64) -> Option<TextLine<'_>> {
         let place = number.checked_sub(self.before)?.checked_sub(1)?;
         let mut lines = self.bytes.split(|byte| *byte == b'\n');

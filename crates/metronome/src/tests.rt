@@ -1,4 +1,4 @@
-//! Runs of the program with texts in memory.
+//! Runs the program on texts in memory.
 mod rows;
 
 use crate::files::Opener;
@@ -12,7 +12,7 @@ use std::sync::Wait;
 use std::thread::Threads;
 use trace::{MemorySink, MemorySource};
 
-/// Texts as files: each by its name.
+/// Texts as files, each with its name.
 #[derive(Clone, Copy, Drop)]
 struct Texts<'a> {
     files: &'a [(&'a str, &'a str)],
@@ -35,7 +35,7 @@ impl<'a> Opener for Texts<'a> {
     }
 }
 
-/// Runs a row with its texts, and looks at its status and at what it writes.
+/// Runs a row on its texts, and compares its status and what it writes.
 fn run_row<R>(rt: &R, row: &Row) -> Result<(), NoMemory>
 where
     R: Threads + Wait + Sync + Abort + AllocGlobal,

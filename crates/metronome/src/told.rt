@@ -1,4 +1,4 @@
-//! Reports that are written, of which some are made as a text first.
+//! Writes reports, of which some are made as a text first.
 ghost use Rattle.std.specs.Prelude.{◌≡◌, ◌+◌, Ok, Err, OnOk, OnErr};
 ghost use Rattle.trace.specs.Streams.{failed, taken_by};
 ghost use Rattle.trace.specs.declared.fault.PlayFault.TheVariants as texts;
@@ -10,7 +10,7 @@ ghost use Rattle.metronome.specs.Told.{MadeTextTold};
 use crate::fault::{Ending, RunFault};
 use trace::{PlayFault, Sink, write_all};
 
-/// How a run ends that wrote a report.
+/// Returns how a run ends that wrote a report: done, or in a failed write.
 pub fn ended<E: Drop>(written: Result<(), E>) -> Result<Ending, RunFault>
     ensures ok { OnOk written (result ≡ Ok endings.Done) }
     ensures err { OnErr written (result ≡ Err (faults.Text texts.Write)) }
@@ -23,7 +23,7 @@ pub fn ended<E: Drop>(written: Result<(), E>) -> Result<Ending, RunFault>
     }
 }
 
-/// Writes the text of a report; nothing where memory was refused for it.
+/// Writes the text of a report. Returns NoMemory and writes nothing, if memory for the text was refused.
 pub fn tell_text<E: Drop, K: Sink>(
     text: Result<String, E>,
     sink: &mut K,

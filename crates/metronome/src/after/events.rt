@@ -1,4 +1,4 @@
-//! The events of a player.
+//! Writes the events of a player.
 ghost use Rattle.std.specs.Prelude.{◌≡◌, ◌+◌};
 ghost use Rattle.trace.specs.Streams.{taken_by};
 ghost use Rattle.pictures.specs.Events.{events_picture};

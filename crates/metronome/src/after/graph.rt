@@ -1,4 +1,4 @@
-//! A picture of the objects that can be reached.
+//! Draws the reachable objects.
 ghost use Rattle.std.specs.Prelude.{◌≡◌, ◌+◌};
 ghost use Rattle.trace.specs.Streams.{taken_by};
 ghost use Rattle.metronome.specs.Faults.{failed_reads, failed_writes};
@@ -10,7 +10,7 @@ use pictures::graph::draw_graph;
 use std::alloc::Global;
 use trace::Sink;
 
-/// Draws the objects of a graph heap that can be reached, at most `most`, nearest to the roots first.
+/// Draws the reachable objects of a graph heap, at most `most`, nearest to the roots first.
 pub(crate) fn tell_graph<K: Sink>(
     alloc: Global,
     graph: &Reference,

@@ -1,4 +1,4 @@
-//! Why an object is alive.
+//! Writes why an object is alive.
 ghost use Rattle.std.specs.Prelude.{◌≡◌, ◌+◌, IfOk, string_bytes};
 ghost use Rattle.trace.specs.Streams.{taken_by};
 ghost use Rattle.metronome.specs.Faults.{failed_reads, failed_writes};
@@ -13,15 +13,16 @@ use pictures::path_text;
 use std::alloc::Global;
 use trace::Sink;
 
-/// What tells why an object is alive in a graph heap, or that it isn't, and whether a heap holds a block of it.
+/// Returns the text that says why an object is alive in a graph heap, or that it isn't, and whether a heap holds a block
+/// of it.
 fn path_report(alloc: Global, heap: &Heap, graph: &Reference, id: u64) -> Result<String, NoMemory>
     ensures { IfOk result (λ text. TellsWhy id heap.now graph.now (string_bytes text)) }
 {
     path_text(alloc, graph, id, heap.holds(id))
 }
 
-/// Writes a shortest path from a root to an object; or that none leads to it, and whether a heap still holds blocks of
-/// it; or that it was never made.
+/// Writes the shortest path from a root to an object. If there is none, writes whether a heap still holds blocks of the
+/// object, or that it was never made.
 pub(crate) fn tell_path<K: Sink>(
     alloc: Global,
     heap: &Heap,

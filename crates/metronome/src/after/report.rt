@@ -1,4 +1,4 @@
-//! A report of the heap.
+//! Writes a report of the heap.
 ghost use Rattle.std.specs.Prelude.{◌≡◌, ◌+◌, IfOk, string_bytes};
 ghost use Rattle.trace.specs.Streams.{taken_by};
 ghost use Rattle.inspector.specs.Shapes.{ShapesTold};
@@ -15,7 +15,7 @@ use machine::Heap;
 use std::alloc::Global;
 use trace::{Player, Sink};
 
-/// The text of a report by shape.
+/// Returns the text of a report by shape.
 fn shapes_report(alloc: Global, heap: &Heap) -> Result<String, NoMemory>
     ensures { IfOk result (λ text. ShapesTold heap.now (string_bytes text)) }
 {

@@ -1,4 +1,4 @@
-//! A line for each window.
+//! Writes a line for each window.
 ghost use Rattle.std.specs.Prelude.{◌≡◌, ◌+◌, IfOk, IfErr, OnOk, string_bytes};
 ghost use Rattle.trace.specs.Streams.{taken_by};
 ghost use Rattle.metronome.specs.Faults.{failed_reads, failed_writes};
@@ -13,7 +13,7 @@ use size_classes::Config;
 use std::alloc::Global;
 use trace::{Player, Sink, write_all};
 
-/// Writes a line for each window of the schedule of a player.
+/// Writes a line for each window of a player's schedule.
 pub(crate) fn tell_windows<K: Sink>(
     alloc: Global,
     config: &Config,
@@ -51,8 +51,9 @@ fn write_windows<K: Sink>(
     Ok(())
 }
 
-/// What is reported of a window: the least that the mutators had of any, what the schedule promises, and the
-/// share in thousandths; or none, where no window of that many ticks has passed.
+/// Returns the line of a window. It has the fewest ticks that the mutators had in any such window, the ticks that the
+/// schedule promises, and the fewest as a share in thousandths. It says `none`, if the window has no tick or is longer
+/// than the time that has passed.
 fn window_line(
     alloc: Global,
     config: &Config,

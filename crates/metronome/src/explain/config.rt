@@ -1,4 +1,4 @@
-//! What is wrong with a configuration.
+//! Writes what is wrong with a configuration.
 use crate::files::DOCUMENT_BYTES;
 use documents::open_document;
 use size_classes::{ConfigFault, Key, LEAST_BUDGET, MOST_BUDGET, Ranges};
@@ -8,7 +8,7 @@ use std::io::{self, Write};
 use toml::{Table, Value};
 use trace::Quoted;
 
-/// A value as it is told.
+/// A value, displayed as in a fault.
 #[derive(Clone, Copy)]
 struct Told<'a>(&'a Value);
 
@@ -29,7 +29,7 @@ impl fmt::Display for Told<'_> {
     }
 }
 
-/// Tells what is wrong with the bytes of a configuration that is refused.
+/// Writes what is wrong with the bytes of a refused configuration.
 pub(crate) fn explain_config<E: Write>(
     alloc: Global,
     errors: &mut E,
@@ -54,7 +54,7 @@ pub(crate) fn explain_config<E: Write>(
     }
 }
 
-/// Tells why bytes aren't TOML, in the words of its reader.
+/// Writes why bytes aren't TOML, in the words of their reader.
 fn tell_not_toml<E: Write>(
     alloc: Global,
     errors: &mut E,
@@ -85,7 +85,7 @@ fn tell_not_toml<E: Write>(
     writeln!(errors, "")
 }
 
-/// Tells what is wrong with the keys of a configuration.
+/// Writes what is wrong with the keys of a configuration.
 fn tell_key<E: Write>(
     errors: &mut E,
     name: Quoted,
@@ -102,7 +102,7 @@ fn tell_key<E: Write>(
     }
 }
 
-/// Tells of the first key that isn't known, in the order of names, and which there are.
+/// Writes the first unknown key, in the order of names, and all known keys.
 fn tell_unknown<E: Write>(errors: &mut E, name: Quoted, table: &Table) -> io::Result<()> {
     for (key, _value) in table.iter() {
         if !Key::ALL.iter().any(|known| known.name() == key.as_str()) {
@@ -123,7 +123,7 @@ fn tell_unknown<E: Write>(errors: &mut E, name: Quoted, table: &Table) -> io::Re
     writeln!(errors, "")
 }
 
-/// The number that stands at a key, or the key's default, or 0.
+/// Returns the number at a key, or the key's default if no value is there; 0 if there is neither.
 fn number_at(table: &Table, key: Key) -> i64 {
     match table.get(key.name()) {
         Some(value) => value.as_integer().unwrap_or(0),
@@ -131,7 +131,7 @@ fn number_at(table: &Table, key: Key) -> i64 {
     }
 }
 
-/// Tells what stands at a key, and its range.
+/// Writes the value at a key, and the key's range.
 fn tell_range<E: Write>(errors: &mut E, name: Quoted, table: &Table, key: Key) -> io::Result<()> {
     let row = key.row(Ranges::File, number_at(table, Key::Mutators));
     let (least, greatest) = (row.least, row.greatest);
@@ -152,7 +152,7 @@ fn tell_range<E: Write>(errors: &mut E, name: Quoted, table: &Table, key: Key) -
     }
 }
 
-/// Tells what budget a quantum would have, and its range.
+/// Writes the budget that a quantum would have, and its range.
 fn tell_budget<E: Write>(errors: &mut E, name: Quoted, table: &Table) -> io::Result<()> {
     let ticks = number_at(table, Key::CollectorTicks);
     let rate = number_at(table, Key::Rate);

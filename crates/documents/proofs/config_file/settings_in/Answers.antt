@@ -11,7 +11,7 @@ use Rattle.documents.specs.ConfigFile.{mutators_of, number_for, HasRange}
 use Rattle.documents.proofs.Values.{mutators_same, some_live}
 use Rattle.documents.proofs.config_file.settings_in.Goals as goal
 
--- settings, each of which is in its range, where that has a number
+-- Each setting is in its range, if the range has a number.
 settings_within : (document : Members) (s : Settings) → s.mutators ≡ number_for document Mutators
     → (HasRange document Pages → is_allowed File (mutators_of document) Pages s.pages ≡ true)
     → (HasRange document Mutators → is_allowed File (mutators_of document) Mutators s.mutators ≡ true)

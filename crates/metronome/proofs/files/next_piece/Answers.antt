@@ -1,7 +1,7 @@
 use Rattle.std.proofs.Common.{◌≡◌, ◌⊎◌, ◌<◌, ◌≤◌, ◌-◌, ℕ, min, inl, inr, arith}
 use Rattle.metronome.proofs.files.next_piece.Goals as goal
 
--- a piece is empty only where no more is asked for
+-- A piece is empty only if no more bytes are asked for.
 full : (most read next left : ℕ) → left ≡ most - read → next ≡ min 4096 left → (0 < next) ⊎ (most ≤ read)
 full most read next left l n = grind arith
 

@@ -3,7 +3,8 @@ use Rattle.std.specs.Prelude.{IfSome}
 use Rattle.trace.specs.Streams.{Stays}
 use Rattle.metronome.proofs.files.read_bytes.Given as goal
 
--- the bytes are what the source gave, and no more than are the most; what is known of its input stays, and no read has failed
+-- The bytes are those that the source gave, at most as many as asked for. The known input stays known, and no read has
+-- failed.
 abbrev pub invariant-loop-count : goal.invariant-loop-count
 invariant-loop-count g l = record {
   bytes : g.S.Source.given l.source ≡ g.S.Source.given l.fn.source ++ l.bytes.items;

@@ -1,6 +1,6 @@
 use Rattle.std.proofs.Common.{◌≡◌, replicate}
 use Rattle.metronome.proofs.jobs.budgets_of.Given as goal
 
--- the budgets so far
+-- The list has the budgets so far.
 abbrev pub invariant-loop : goal.invariant-loop
 invariant-loop l = l.budgets.items ≡ replicate l.counter l.budget

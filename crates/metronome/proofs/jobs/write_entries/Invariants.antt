@@ -3,7 +3,7 @@ use Rattle.trace.specs.declared.player.style.Style.TheVariants.{Entries}
 use Rattle.trace.specs.Playing.{written_of}
 use Rattle.metronome.proofs.jobs.write_entries.Given as goal
 
--- the lines of the entries so far, and no write has failed
+-- The lines of the entries so far are written, and no write has failed.
 abbrev pub invariant-loop-entry : goal.invariant-loop-entry
 invariant-loop-entry g l = record {
   text : g.K.Sink.taken l.sink ≡ g.K.Sink.taken l.fn.sink ++ written_of Entries (take l.entry-index l.history);

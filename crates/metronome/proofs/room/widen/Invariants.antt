@@ -3,7 +3,7 @@ use Rattle.size_classes.specs.declared.config.TheConstants.{MOST_PAGES}
 use Rattle.metronome.specs.Demand.{IsEnoughOn}
 use Rattle.metronome.proofs.room.widen.Given as goal
 
--- fewer pages than are tried next are too few, or the most are
+-- `below` pages, fewer than are tried next, are too few; or `below` is the most.
 abbrev pub invariant-loop-below : goal.invariant-loop-below
 invariant-loop-below l = (1 ≤ l.pages) × (l.pages ≤ MOST_PAGES) × ((l.below < l.pages) ⊎ (l.below ≡ MOST_PAGES)) × (1 ≤ l.below → IsEnoughOn l.config l.text l.below None)
 

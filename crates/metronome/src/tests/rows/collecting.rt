@@ -1,4 +1,4 @@
-//! What a heap and its collector do.
+//! A heap and its collector at work.
 use super::{A, B, C, D, E, Row};
 
 /// The rows.
@@ -60,7 +60,7 @@ pub const ROWS: &[Row] = &[
         errors: "",
         status: 0,
     },
-    // The largest object.
+    // The largest object fits.
     Row {
         words: &["metronome", "play", "config", "text"],
         config: "pages = 32\nmutators = 2\nslots = 4\nstatics = 1\n",
@@ -112,7 +112,7 @@ pub const ROWS: &[Row] = &[
         errors: "",
         status: 0,
     },
-    // What it spent.
+    // The report says what the cycle spent.
     Row {
         words: &["metronome", "inspect", "config", "text"],
         config: B,
@@ -239,7 +239,7 @@ pub const ROWS: &[Row] = &[
         errors: "",
         status: 0,
     },
-    // The same in five quanta.
+    // The move is spread over five quanta.
     Row {
         words: &["metronome", "play", "config", "text"],
         config: E,

@@ -28,7 +28,7 @@ pub const ROWS: &[Row] = &[
         errors: "",
         status: 0,
     },
-    // A line that doesn't end.
+    // A line has no end.
     Row {
         words: &["metronome", "play", "config", "text"],
         config: A,
@@ -46,7 +46,7 @@ pub const ROWS: &[Row] = &[
         errors: "metronome: line 2: not an event\n",
         status: 4,
     },
-    // From standard input.
+    // The trace comes from standard input.
     Row {
         words: &["metronome", "play", "config", "-"],
         config: A,
@@ -55,7 +55,7 @@ pub const ROWS: &[Row] = &[
         errors: "",
         status: 0,
     },
-    // A history.
+    // A history is right.
     Row {
         words: &["metronome", "check", "config", "text"],
         config: A,
@@ -65,7 +65,7 @@ pub const ROWS: &[Row] = &[
         errors: "",
         status: 0,
     },
-    // A wrong one.
+    // A history has a wrong reply.
     Row {
         words: &["metronome", "check", "config", "text"],
         config: A,
@@ -75,7 +75,7 @@ pub const ROWS: &[Row] = &[
         errors: "",
         status: 7,
     },
-    // No pages.
+    // A configuration of 0 pages is refused.
     Row {
         words: &["metronome", "play", "config", "text"],
         config: "pages = 0\n",
@@ -93,7 +93,7 @@ pub const ROWS: &[Row] = &[
         errors: "metronome: config: budget out of range\n",
         status: 3,
     },
-    // The report before the first line.
+    // The report comes before the first line.
     Row {
         words: &["metronome", "inspect", "config", "text", "--after", "0"],
         config: A,

@@ -2,7 +2,7 @@ use Rattle.std.proofs.Common.{◌≡◌, take}
 use Rattle.metronome.specs.Windows.{AllTold}
 use Rattle.metronome.proofs.after.windows.write_windows.Given as goal
 
--- the lines of the windows so far, and no write has failed
+-- The lines of the windows so far are written, and no write has failed.
 abbrev pub invariant-loop-window : goal.invariant-loop-window
 invariant-loop-window g l = record {
   told : AllTold l.config l.schedule (take l.window-index l.windows) (g.K.Sink.taken l.fn.sink) (g.K.Sink.taken l.sink);

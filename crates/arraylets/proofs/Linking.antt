@@ -183,7 +183,7 @@ none_made old shape colour id spines = record {
   allocated = λ b h. h;
 }
 
--- one part more
+-- The object has one part more.
 module _ (old s t : Store) (shape : Shape) (colour : Bool) (id : ℕ) (spines spines' : List ℕ) (part address : ℕ) (f : fits shape ≡ true) (below : part < parts_in (cells_of shape)) (m : Made old shape colour id spines part s) where
   -- the spine that refers to the part stands
   pub spine_stands : 0 < part → (is_allocated s (get_or spines (spine_of (cells_of shape) part) 0) ≡ true)

@@ -85,7 +85,7 @@ piece_high : (n i : ℕ) → spines_of n ≤ part_in n i
 unfolding part_in
 piece_high n i = omega arith
 
--- the same part and the same place in it: the same cell
+-- Cells of the same part, at the same place in it, are the same cell.
 same_cell : (n i j : ℕ) → part_in n j ≡ part_in n i → column_in j ≡ column_in i → j ≡ i
 unfolding part_in column_in
 same_cell n i j p c = omega (arith, p, c)

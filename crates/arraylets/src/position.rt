@@ -17,8 +17,8 @@ pub struct CellPosition {
     pub cell: usize,
 }
 
-/// In which part cell i of a kind stands, of an object with this many cells, and at which place among
-/// the part's cells of that kind.
+/// Returns the part in which cell i of a kind is, for an object with this many cells, and its place among the part's
+/// cells of that kind.
 #[inline(always)]
 #[tactic(auto, unfolding(size_classes::specs::Parts::part_in, size_classes::specs::Parts::column_in))]
 fn position_of(cells: u32, i: u32) -> CellPosition
@@ -34,7 +34,7 @@ fn position_of(cells: u32, i: u32) -> CellPosition
     far_cut(cells, i)
 }
 
-/// The same of an array of more cells than a part has.
+/// Returns the position of cell i in an array of more cells than a part has.
 #[inline(never)]
 #[tactic(auto, unfolding(size_classes::specs::Parts::part_in, size_classes::specs::Parts::column_in))]
 fn far_cut(cells: u32, i: u32) -> CellPosition
@@ -84,7 +84,7 @@ pub fn word_position(shape: Shape, i: u32) -> Result<CellPosition, Refusal>
     }
 }
 
-/// How many cells an object of a shape has.
+/// Returns how many cells an object of a shape has.
 fn cells_in(shape: Shape) -> u32
     requires { fits shape ≡ true }
     ensures { result ≡ cells_of shape }
@@ -95,7 +95,7 @@ fn cells_in(shape: Shape) -> u32
     }
 }
 
-/// The block to which a cell of a spine refers, by way of the forwarding word.
+/// Returns the block to which a cell of a spine refers, by way of the forwarding word.
 fn follow_cell(nodes: &Nodes, block: usize, cell: usize) -> usize
     requires { Refers nodes.now block cell }
     ensures { result ≡ step_to nodes.now block cell }
@@ -122,7 +122,7 @@ pub fn part_block(nodes: &Nodes, shape: Shape, block: usize, part: u32) -> usize
     far_block(nodes, cells_in(shape), block, part)
 }
 
-/// The same of a part other than part 0, of an object with this many cells.
+/// Returns the block of a part other than part 0, for an object with this many cells.
 #[inline(never)]
 fn far_block(nodes: &Nodes, cells: u32, block: usize, part: u32) -> usize
     requires few { cells ≤ ARRAY_CELLS }

@@ -40,7 +40,7 @@ pub(crate) fn fill_half(heap: &mut Heap, pages: u32) -> Option<()> {
     must(heap, Command::Clear { dst: 255 })
 }
 
-/// 130 objects of 4 references and 4 words in the slots from 0, the references all to object 128.
+/// Makes 130 objects of 4 references and 4 words in the slots from 0. All their references name object 128.
 pub(crate) fn make_objects(heap: &mut Heap) -> Option<()> {
     for dst in 0..130 {
         must(heap, plain(dst, 4, 4))?;
@@ -66,7 +66,7 @@ pub(crate) fn make_arrays(heap: &mut Heap) -> Option<()> {
     Some(())
 }
 
-/// An array of 252 references, each to an object of its own.
+/// Makes an array of 252 references, each to an object of its own.
 fn fill_array(heap: &mut Heap, obj: u32) -> Option<()> {
     let shape = Shape::RefArray(252);
     must(heap, Command::New { dst: obj, shape })?;
@@ -77,7 +77,7 @@ fn fill_array(heap: &mut Heap, obj: u32) -> Option<()> {
     Some(())
 }
 
-/// 40 such arrays, in the slots from 0.
+/// Makes 40 such arrays, in the slots from 0.
 pub(crate) fn make_references(heap: &mut Heap) -> Option<()> {
     for obj in 0..40 {
         fill_array(heap, obj)?;
@@ -85,7 +85,7 @@ pub(crate) fn make_references(heap: &mut Heap) -> Option<()> {
     must(heap, Command::Clear { dst: 255 })
 }
 
-/// One object of a mutator, which all its slots name.
+/// Makes one object of a mutator, and stores it in all its slots.
 fn fill_slots(heap: &mut Heap, mutator: u32) {
     let shape = Shape::Plain { refs: 0, words: 0 };
     let _made = heap.step(mutator, Command::New { dst: 0, shape });
@@ -94,7 +94,7 @@ fn fill_slots(heap: &mut Heap, mutator: u32) {
     }
 }
 
-/// The same of each of 64 mutators.
+/// Fills the slots of each of 64 mutators with one object.
 pub(crate) fn fill_all_slots(heap: &mut Heap) {
     for mutator in 0..64 {
         fill_slots(heap, mutator);

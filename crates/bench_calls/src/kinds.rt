@@ -45,7 +45,7 @@ pub(crate) trait Step {
     fn command(turn: u32) -> (u32, Command);
 }
 
-/// The calls of a kind. Each kind has a loop of its own, whose registers no other has a part in.
+/// Repeats the calls of a kind. Each kind has a loop of its own, so that it shares no registers with another.
 #[inline(never)]
 fn repeat<C: Call>(job: &Job, heap: &mut Heap) -> Option<Measured> {
     let start = Instant::now(job.rt).ok()?;
@@ -70,7 +70,7 @@ fn repeat_steps<C: Step>(job: &Job, heap: &mut Heap) -> Option<Measured> {
     Some(told.measured(job.count, nanos))
 }
 
-/// The calls of a kind on a heap.
+/// Repeats the calls of a kind on a heap.
 pub(crate) fn calls<C: Call>(job: &Job, heap: Option<Heap>) -> Option<Measured> {
     repeat::<C>(job, &mut heap?)
 }

@@ -42,21 +42,21 @@ impl Job<'_> {
         Some(heap)
     }
 
-    /// A heap with objects to be read and written.
+    /// Makes a heap with objects to read and write.
     fn objects(&self) -> Option<Heap> {
         let mut heap = self.half_full(1)?;
         make_objects(&mut heap)?;
         Some(heap)
     }
 
-    /// A heap with long arrays.
+    /// Makes a heap with long arrays.
     fn arrays(&self) -> Option<Heap> {
         let mut heap = new_heap(self.rt, self.pages, 1)?;
         make_arrays(&mut heap)?;
         Some(heap)
     }
 
-    /// A heap with objects, each referred to by one cell alone.
+    /// Makes a heap with objects, each referred to by one cell alone.
     fn references(&self, in_a_cycle: bool) -> Option<Heap> {
         let mut heap = self.half_full(1)?;
         make_references(&mut heap)?;
@@ -66,7 +66,7 @@ impl Job<'_> {
         Some(heap)
     }
 
-    /// A heap of 64 mutators whose slots all hold an object.
+    /// Makes a heap of 64 mutators, whose slots all hold an object.
     fn slots(&self) -> Option<Heap> {
         let mut heap = self.half_full(64)?;
         fill_all_slots(&mut heap);

@@ -16,7 +16,8 @@ fn next(seed: u32) -> u32 {
     (u64::from(seed) * 16807 % 2147483647) as u32
 }
 
-/// A command that a number draws: a third make plain objects of 8 cells, a third write references and words, a third read.
+/// Returns the command that a number draws: a third make plain objects of 8 cells, a third write references and words, a
+/// third read.
 fn command(seed: u32) -> Command {
     let (obj, dst, i) = (seed / 64 % SLOTS, seed / 4096 % SLOTS, seed / 262144 % 4);
     match seed / 8 % 6 {

@@ -56,7 +56,7 @@ const REPLIES: &str =
     "refused 1\nrefused 1\nrefused 2\nmade 1\nrefused 4\nrefused 3\nrefused 8\nrefused 5\n\
     made 2\ndone\nkeptword 18446744073709551615\nstored\nword 6\nrefused 6\nrefused 4\nkept 0\nstored\nref 1\n";
 
-/// The configuration of settings.
+/// Returns the configuration of settings.
 fn config_of(rt: &impl Abort, settings: &Settings) -> Config {
     let Ok(config) = Config::check(settings) else {
         panic!(rt; "the settings are good");
@@ -70,7 +70,7 @@ fn plain(dst: u32, refs: u32, words: u32) -> Command {
     Command::New { dst, shape }
 }
 
-/// A request for an array of words.
+/// Returns a request for an array of words.
 fn words(dst: u32, cells: u32) -> Command {
     Command::New {
         dst,

@@ -9,7 +9,7 @@ use crate::words::refused;
 use size_classes::{Class, class_of};
 use std::alloc::Global;
 
-/// The size class whose blocks have this many words.
+/// Returns the size class whose blocks have this many words.
 fn class_of_size(alloc: Global, size: u32) -> Result<Class, Refusal>
     ensures { IfOk result (λ class. size_of class ≡ size) }
 {
@@ -24,7 +24,7 @@ fn class_of_size(alloc: Global, size: u32) -> Result<Class, Refusal>
     Err(refused(alloc, why))
 }
 
-/// The size class of each of some sizes.
+/// Returns the size class of each of some sizes.
 fn classes_of(alloc: Global, sizes: &[&str]) -> Result<Vec<Class>, Refusal>
     ensures { IfOk result (λ classes. AllZip IsClassOf (map (λ size. size.now) sizes.now) classes.items) }
 {
@@ -42,7 +42,7 @@ fn classes_of(alloc: Global, sizes: &[&str]) -> Result<Vec<Class>, Refusal>
     Ok(classes)
 }
 
-/// The size classes of the sizes that are said, if any are.
+/// Returns the size classes of these sizes, if any are given.
 pub(crate) fn classes_said(
     alloc: Global,
     sizes: Option<&[&str]>,

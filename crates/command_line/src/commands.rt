@@ -7,7 +7,7 @@ ghost use Rattle.command_line.specs.Program.{IsArgument, IsSubcommand, metronome
 use clap::{Arg, ArgAction, Command, value_parser};
 use std::alloc::{AllocError, Global};
 
-/// The program, with its subcommands in the order of help.
+/// Returns the program, with its subcommands in the order of help.
 pub fn program<'a>(alloc: Global) -> Result<Command<'a>, AllocError>
     ensures { IfOk result (λ command. app_of command ≡ metronome) }
 {
@@ -125,7 +125,7 @@ fn plan<'a>(alloc: Global) -> Result<Command<'a>, AllocError>
         .arg(figures(alloc, "classes", "S", sizes))
 }
 
-/// A subcommand that works on a trace.
+/// Returns a subcommand that works on a trace.
 fn on_trace<'a>(alloc: Global, name: &'a str, about: &'a str) -> Result<Command<'a>, AllocError>
     ensures { IfOk result (IsSubcommand (words.on_trace name.now [])) }
 {
@@ -133,7 +133,7 @@ fn on_trace<'a>(alloc: Global, name: &'a str, about: &'a str) -> Result<Command<
     on_file(alloc, name, about, trace)
 }
 
-/// A subcommand with its configuration and its file.
+/// Returns a subcommand with its configuration and its file.
 fn on_file<'a>(
     alloc: Global,
     name: &'a str,
@@ -146,7 +146,7 @@ fn on_file<'a>(
     on_config(alloc, name, about)?.arg(file)
 }
 
-/// A subcommand with its configuration, and whether its progress is reported and its fault explained.
+/// Returns a subcommand with its configuration, and with the flags for progress and explanations.
 fn on_config<'a>(alloc: Global, name: &'a str, about: &'a str) -> Result<Command<'a>, AllocError>
     ensures { IfOk result (IsSubcommand (words.on_config name.now [])) }
 {
@@ -159,28 +159,28 @@ fn on_config<'a>(alloc: Global, name: &'a str, about: &'a str) -> Result<Command
         .arg(flag(alloc, "explain", explain))
 }
 
-/// How many event lines are played, if not all.
+/// Returns the argument for the number of event lines to play, if not all.
 fn after<'a>(alloc: Global) -> Arg<'a>
     ensures { IsArgument (words.figure (codes "after")) result }
 {
     figure(alloc, "after", "N", "Play the first N event lines only")
 }
 
-/// A word in its place, which is needed.
+/// Returns a required word in its place.
 fn place<'a>(alloc: Global, name: &'a str, help: &'a str) -> Arg<'a>
     ensures { IsArgument (words.place name.now) result }
 {
     needed(Arg::new(alloc, name).help(help))
 }
 
-/// A number in its place, which is needed.
+/// Returns a required number in its place.
 fn number<'a>(alloc: Global, name: &'a str, help: &'a str) -> Arg<'a>
     ensures { IsArgument (words.number name.now) result }
 {
     place(alloc, name, help).value_parser(value_parser!(u64))
 }
 
-/// An argument that is needed.
+/// Returns the argument as a required one.
 fn needed<'a>(arg: Arg<'a>) -> Arg<'a>
     requires { arg.global ≡ false }
     ensures { IsArgument (words.needed (rule_of arg.entry)) result }
@@ -188,7 +188,7 @@ fn needed<'a>(arg: Arg<'a>) -> Arg<'a>
     arg.required(true)
 }
 
-/// An argument that is this if it isn't given.
+/// Returns the argument with this value as its default.
 fn by_default<'a>(arg: Arg<'a>, value: &'a str) -> Arg<'a>
     requires { arg.global ≡ false }
     ensures { IsArgument (words.by_default value.now (rule_of arg.entry)) result }
@@ -206,7 +206,7 @@ fn flag<'a>(alloc: Global, name: &'a str, help: &'a str) -> Arg<'a>
         .action(ArgAction::SetTrue)
 }
 
-/// The name and a word, which help calls by another name.
+/// Returns the argument of a name and a word, which has another name in help.
 fn word<'a>(alloc: Global, name: &'a str, value: &'a str, help: &'a str) -> Arg<'a>
     ensures { IsArgument (words.word name.now) result }
 {
@@ -216,21 +216,21 @@ fn word<'a>(alloc: Global, name: &'a str, value: &'a str, help: &'a str) -> Arg<
         .value_name(value)
 }
 
-/// The name and a number, which help calls by another name.
+/// Returns the argument of a name and a number, which has another name in help.
 fn figure<'a>(alloc: Global, name: &'a str, value: &'a str, help: &'a str) -> Arg<'a>
     ensures { IsArgument (words.figure name.now) result }
 {
     word(alloc, name, value, help).value_parser(value_parser!(u32))
 }
 
-/// The name and a number of 64 bits, which help calls by another name.
+/// Returns the argument of a name and a number of 64 bits, which has another name in help.
 fn long_figure<'a>(alloc: Global, name: &'a str, value: &'a str, help: &'a str) -> Arg<'a>
     ensures { IsArgument (words.long_figure name.now) result }
 {
     word(alloc, name, value, help).value_parser(value_parser!(u64))
 }
 
-/// The name and one number or more, each of which help calls by another name.
+/// Returns the argument of a name and one number or more, which have another name in help.
 fn figures<'a>(alloc: Global, name: &'a str, value: &'a str, help: &'a str) -> Arg<'a>
     ensures { IsArgument (words.figures name.now) result }
 {

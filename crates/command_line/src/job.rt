@@ -119,7 +119,7 @@ pub enum Job<'a> {
 }
 
 impl<'a> Job<'a> {
-    /// The words that every subcommand has.
+    /// Returns the words that every subcommand has.
     pub fn words(&self) -> Words<'a>
         ensures { result ≡ words_of self.now }
     {

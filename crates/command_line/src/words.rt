@@ -362,7 +362,7 @@ fn word<'a>(found: &ArgMatches<'a>, name: &str) -> Option<&'a str>
     found.get_str(name)
 }
 
-/// Whether a flag is set.
+/// Returns whether a flag is set.
 fn flag(found: &ArgMatches, name: &str) -> bool
     ensures { IsFlag (one_of name.now (rows_of (found_of found.now))) result }
 {

@@ -38,7 +38,7 @@ module _ (h : HeapState) (w : IsHeap h) (p : Page) (m : MovesNext h p) where
       let less : m.next * size_of p.class < 2048 = below_end m.next (size_of p.class) (size_some p is) within in
       page_of_place m.page (from + 1 - 1) (omega arith) (omega arith)
 
-  -- and moving hasn't gone past it
+  -- Moving hasn't gone past the page.
   not_past : is_left h.store.pages was (from + 1) ≡ false
   not_past =
       let here : ((from + 1 - 1) / 2048 == m.page) ≡ true = at_number ((from + 1 - 1) / 2048) m.page page_is in

@@ -120,7 +120,7 @@ pub fn choose_one(
     }
 }
 
-/// The candidate after looks at the pages from one up to another.
+/// Returns the candidate after looks at the pages from one up to another.
 fn look_on(
     nodes: &Nodes,
     class: Class,
@@ -154,7 +154,7 @@ fn consider(nodes: &Nodes, class: Class, page: u32, best: Option<Candidate>) -> 
     Some(emptier(best, Candidate { page, allocated }))
 }
 
-/// The one with fewer allocated blocks, the first on a tie.
+/// Returns the candidate with fewer allocated blocks, the first on a tie.
 fn emptier(best: Option<Candidate>, candidate: Candidate) -> Candidate
     ensures { Some result ≡ emptier best candidate }
 {
@@ -164,7 +164,7 @@ fn emptier(best: Option<Candidate>, candidate: Candidate) -> Candidate
     }
 }
 
-/// Whether the blocks of a candidate find a place on the class's other pages.
+/// Returns whether the blocks of a candidate find a place on the class's other pages.
 fn is_chosen(nodes: &Nodes, class: Class, candidate: Candidate) -> bool
     ensures { result ≡ is_chosen nodes.now.pages class (Some candidate) }
 {

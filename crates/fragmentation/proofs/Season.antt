@@ -164,7 +164,7 @@ counted_begins r new s live w k lives b = record {
     snapshot : snapshot_of new ≡ present_of r
     snapshot = ap (after (opening new.heap.limits)) (ap (λ z. take z new.history) (b.place ∙ ap length (sym b.history)) ∙ take-length new.history) ∙ present
 
--- a quantum
+-- A quantum keeps blocks at their proper places.
 chain_tidy : (h after : HeapState) (spent : ℕ) (present snapshot : Graph) → Represents h present snapshot → Chain h spent after → IsTidy h.store present.objects → IsTidy after.store present.objects
 chain_tidy h after spent g s st Nothing_done w = w
 chain_tidy h after spent g s st (Then u cost j k linked chain links action) w =
@@ -202,7 +202,7 @@ counted_quantum r new budget units phase s live w k q = by_phase (awaits_sweep_e
     on : awaits_sweep_end phase ≡ true → s.awaiting_sweep_end ≡ true → IsCounted new s live
     on e t = counted s refl (t ∙ sym e) refl refl k.swept k.rested (has_only r new shapes _ _ (λ n ids l o. chain_only r.heap new.heap units n ids q.turn.chain (out_phase ∙ e) o) k.based)
 
-    -- in idle and in moving
+    -- In idle and in moving, no sweep's end is awaited.
     off : (z : Season) → z.graph ≡ s.graph → z.awaiting_sweep_end ≡ false → z.last ≡ s.last → z.cycles ≡ s.cycles → z.base ≡ s.last → z.number ≡ s.cycles → z.swept ≤ length (present_of r).objects → awaits_sweep_end phase ≡ false → IsCounted new z live
     off z graph t l c b n swept e = counted z graph (t ∙ sym e) l c swept (λ y. (b ∙ sym l, n ∙ sym c)) (subst (λ y. HasOnly new z.base (live y)) (sym n) (record {
       origin = snapshot_of r;
@@ -263,7 +263,7 @@ command_room h g m (commands.New dst shape) room =
     (has_room h.store.pages (needed shape)) (room (needed shape))
 command_room h g m _ room = (tt, refl)
 
--- from an opening heap
+-- The season begins in an opening heap.
 module _ (h : HeapState) (o : IsOpening h) (some : 0 < length h.store.pages) where
   pub none_allocated : (b : ℕ) → is_allocated h.store b ≡ true → ⊥
   none_allocated b l = let q = allocated_block h.store b l in let z : None ≡ Some q.0 = sym (ap (λ y. page_at y (b / 2048)) o.pages ∙ page_none (length h.store.pages) (b / 2048)) ∙ q.2.page in cc

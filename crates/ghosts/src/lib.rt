@@ -21,7 +21,7 @@ impl<T> Model for Ghost<T> {
 unsafe impl<T> Send for Ghost<T> {}
 
 impl<T> Ghost<T> {
-    /// The value that the proof of the caller picks.
+    /// Returns the value that the proof of the caller picks.
     #[inline(always)]
     pub fn new() -> Ghost<T>
         ghost value: { T }

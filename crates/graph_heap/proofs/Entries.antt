@@ -41,7 +41,7 @@ module _ {K : Type 0} (R : K → K → Ordering) (o : IsTotalOrder R) where
   lookup_place (e ∷ es) (suc j) k s h =
       lookup_tail (is_at (R k)) e es (apart e.0 k (keys_of es) j (sorted_head R e.0 (keys_of es) s) h) ∙ lookup_place es j k (sorted_tail R e.0 (keys_of es) s) h
 
-  -- another value for it
+  -- Another value is stored at the key.
   pub set_place : {X : Type 0} (es : List (K × X)) (i : ℕ) (k : K) (w : X) → IsStrictlySortedBy R (keys_of es) → slice_get (keys_of es) i ≡ Some k
       → values_of (set_value (is_at (R k)) es w) ≡ slice_set (values_of es) i w
   set_place [] i k w s h = absurd (cc)

@@ -67,7 +67,7 @@ module _ {X : Type 0} where
             ∙ ap (slice_get (values_of (e ∷ es))) (sym next))
       ]
 
-  -- another value for it
+  -- Another value is stored at the number.
   set_from : (n q : ℕ) (es : List (ℕ × X)) (w : X) → AreFrom n es → n ≤ q → values_of (set_value (is_at (nat_cmp q)) es w) ≡ slice_set (values_of es) (q - n) w
   set_from n q [] w h l = refl
   set_from n q (e ∷ es) w h l =
@@ -154,6 +154,6 @@ module _ (es : List (ℕ × StoredObject)) (h : AreFrom 1 es) where
           past (x ∷ xs) zero e = absurd (cc)
           past (x ∷ xs) (suc i) e = let l = past xs i e in omega (arith, l)
 
-  -- one more
+  -- One object more is added.
   pub add_entry : (q : ℕ) (v : StoredObject) → q ≡ 1 + length es → seen (insert_entry nat_cmp es q v) ≡ seen es ++ object_in v ∷ []
   add_entry q v e = ap seen (insert_next 1 q es v h e) ∙ ap (map object_in) (map-append (λ (x : ℕ × StoredObject). x.1) es ((q, v) ∷ [])) ∙ map-append object_in (values_of es) (v ∷ [])

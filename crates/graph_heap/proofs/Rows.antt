@@ -21,7 +21,7 @@ slot_known l m s i e = (grind (arith, e), grind (arith, e), grind (arith, e))
 pub static_known : (l : Limits) (k i : ℕ) → Ok i ≡ static_at l k → (k < l.statics) × (i ≡ l.mutators * l.slots + k)
 static_known l k i e = (grind (arith, e), grind (arith, e))
 
--- at first all hold null
+-- At first all cells hold null.
 pub null_row : (l : Limits) → values_of (null_slots (slots_below l.mutators l.slots)) ++ replicate {A = ℕ} l.statics 0 ≡ replicate {A = ℕ} (root_cells l) 0
 null_row l =
     let names = slots_below l.mutators l.slots in

@@ -87,7 +87,7 @@ before_own m s =
 before_next : (m n s : ℕ) → AreBefore m s (slots_below m n ++ slots_of m s)
 before_next m n s = all_both (λ name. slot_order (m, s) name ≡ Greater) (slots_below m n) (slots_of m s) (before_lower m s m n (omega arith)) (before_own m s)
 
--- a slot more
+-- A mutator has one slot more.
 more_slots : (m n s : ℕ) → slots_below m n ++ slots_of m (s + 1) ≡ (slots_below m n ++ slots_of m s) ++ (m, s) ∷ []
 more_slots m n s = ap (λ xs. slots_below m n ++ xs) (map-range_with_len_more (λ j. (m, j)) 0 s s (omega arith)) ∙ sym (append_assoc (slots_below m n) (slots_of m s) ((m, s) ∷ []))
 
@@ -113,7 +113,7 @@ pub null_values : (names : List (ℕ × ℕ)) → values_of (null_slots names) �
 null_values [] = refl
 null_values (x ∷ names) = ap (λ xs. 0 ∷ xs) (null_values names)
 
--- one more
+-- One slot more holds null.
 pub next_slot : (m n s : ℕ) → insert_entry slot_order (null_slots (slots_below m n ++ slots_of m s)) (m, s) 0 ≡ null_slots (slots_below m n ++ slots_of m (s + 1))
 next_slot m n s =
     let names = slots_below m n ++ slots_of m s in

@@ -7,7 +7,7 @@ use crate::command::{Limits, Refusal};
 use crate::no_memory::NoMemory;
 use std::alloc::Global;
 
-/// The row of a heap that opens: true for each mutator below `live`, false for the others.
+/// Returns the row of a heap that opens: true for each mutator below `live`, false for the others.
 pub fn live_row(alloc: Global, limits: &Limits) -> Result<Vec<bool>, NoMemory>
     ensures { IfOk result (λ row. row.items ≡ live_first limits.now) }
 {

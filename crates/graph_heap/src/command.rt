@@ -139,7 +139,7 @@ impl Command {
     ghost use Rattle.std.specs.Prelude.{◌≡◌};
     ghost use Rattle.graph_heap.specs.Effect as effect;
 
-    /// Whether the command is Join, which alone is for a mutator that isn't live.
+    /// Returns whether the command is Join, which alone is for a mutator that isn't live.
     pub fn is_join(&self) -> bool
         ensures { result ≡ effect.is_join self.now }
     {
@@ -179,7 +179,7 @@ impl Refusal {
     ghost use Rattle.std.specs.Prelude.{◌≡◌};
     ghost use Rattle.graph_heap.specs.Refusal.{refusal_number};
 
-    /// The number by which replies and histories name the refusal.
+    /// Returns the number by which replies and histories name the refusal.
     pub fn number(self) -> u8
         ensures { result ≡ refusal_number self }
     {

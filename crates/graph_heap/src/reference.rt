@@ -122,7 +122,7 @@ impl Reference {
         dispatch!(Reference, self, mutator, *command, room)
     }
 
-    /// The reply, and what changes.
+    /// Returns the reply and the change of a command.
     #[tactic(auto, unfolding(crate::specs::Effect::reply_of, crate::specs::Effect::next_of))]
     fn reply_and_change(&self, room: bool, mutator: u32, command: &Command) -> (Reply, Change)
         ensures settled { result ≡ settled (effect_of room self.now mutator command.now) }
@@ -289,7 +289,7 @@ impl Reference {
     }
 }
 
-/// Whether there was room, by a reply.
+/// Returns whether there was room, by a reply.
 pub(crate) fn had_room_of(reply: &Reply) -> bool
     ensures { result ≡ history.had_room reply.now }
 {
@@ -312,7 +312,7 @@ impl Reference {
         })
     }
 
-    /// The reply of the graph heap, which has room.
+    /// Does a command on the graph heap, which has room, and returns the reply.
     pub fn reply(&mut self, mutator: u32, command: &Command) -> Result<Reply, NoMemory>
         ensures reply { IfOk result (λ r. r ≡ reply_of true self.old mutator command.now) }
         ensures ok { OnOk result (self.new ≡ next_of true self.old mutator command.now) }

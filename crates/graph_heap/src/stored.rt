@@ -36,7 +36,7 @@ pub fn takes_words(shape: Shape) -> bool
     }
 }
 
-/// How many cells of an object of a shape hold references.
+/// Returns how many cells of an object of a shape hold references.
 fn ref_cells(shape: Shape) -> u32
     ensures { result ≡ shapes.ref_cells shape }
 {
@@ -47,7 +47,7 @@ fn ref_cells(shape: Shape) -> u32
     }
 }
 
-/// How many cells of an object of a shape hold words.
+/// Returns how many cells of an object of a shape hold words.
 fn word_cells(shape: Shape) -> u32
     ensures { result ≡ shapes.word_cells shape }
 {
@@ -58,7 +58,7 @@ fn word_cells(shape: Shape) -> u32
     }
 }
 
-/// A new object, with null references and zero words.
+/// Returns a new object, with null references and zero words.
 pub fn made_of(alloc: Global, shape: Shape) -> Result<StoredObject, NoMemory>
     ensures { IfOk result (λ o. object_in o ≡ new_object shape) }
 {

@@ -33,7 +33,7 @@ impl Arena {
     ghost use Rattle.std.specs.Borrow.{sem};
     ghost use Rattle.headers.specs.Lending.{LendsWords};
 
-    /// Memory for this many pages of 2048 words, none of which was touched. Refused only for lack of memory.
+    /// Returns memory for this many pages of 2048 words, none of which was touched. Refuses only for lack of memory.
     pub fn new(alloc: Global, pages: u32) -> Result<Arena, NoMemory>
         ensures { IfOk result (λ a. a ≡ record { words = []; pages = pages }) }
     {
@@ -55,14 +55,14 @@ impl Arena {
         }
     }
 
-    /// How many pages were touched: the first ones, this many of them.
+    /// Returns how many pages were touched. They are the first ones.
     pub fn pages_touched(&self) -> usize
         ensures { result ≡ length self.now.words / 2048 }
     {
         self.words.len() / 2048
     }
 
-    /// The words of the pages that were touched, for what reads many blocks.
+    /// Returns the words of the pages that were touched, for code that reads many blocks.
     #[inline(always)]
     pub fn words(&self) -> &[u64]
         ensures { result.now ≡ self.now.words }
@@ -79,7 +79,7 @@ impl Arena {
         self.words.as_mut_slice()
     }
 
-    /// The address to which a block forwards: its own, or that of the copy that was moved.
+    /// Returns the address to which a block forwards: its own, or that of the copy that was moved.
     pub fn forward_of(&self, block: usize) -> u64
         requires { block < length self.now.words }
         ensures { result ≡ slice_index self.now.words block }
@@ -96,7 +96,7 @@ impl Arena {
         self.words[block] = to;
     }
 
-    /// The shape of the whole object of which a block holds a part.
+    /// Returns the shape of the whole object of which a block holds a part.
     pub fn shape(&self, block: usize) -> Shape
         requires { block + 1 < length self.now.words }
         ensures says { result ≡ (header_in (slice_index self.now.words (block + 1))).shape }
@@ -105,7 +105,7 @@ impl Arena {
         shape_of(self.words[block + 1])
     }
 
-    /// The number of the part that a block holds, from 0.
+    /// Returns the number of the part that a block holds, from 0.
     pub fn part(&self, block: usize) -> u32
         requires { block + 1 < length self.now.words }
         ensures says { result ≡ (header_in (slice_index self.now.words (block + 1))).part }
@@ -122,7 +122,7 @@ impl Arena {
         colour_of(self.words[block + 1])
     }
 
-    /// Whether a block has a colour.
+    /// Returns whether a block has a colour.
     pub fn has_colour(&self, block: usize, colour: bool) -> bool
         requires { block + 1 < length self.now.words }
         ensures { result ≡ same_colour colour (header_in (slice_index self.now.words (block + 1))).colour }
@@ -140,7 +140,7 @@ impl Arena {
         self.words[block + 1] = recolour(word, colour);
     }
 
-    /// The identity of the object of which a block holds a part.
+    /// Returns the identity of the object of which a block holds a part.
     pub fn identity(&self, block: usize) -> u64
         requires { block + 2 < length self.now.words }
         ensures { result ≡ slice_index self.now.words (block + 2) }
@@ -148,7 +148,7 @@ impl Arena {
         self.words[block + 2]
     }
 
-    /// The link of a block in a list of blocks.
+    /// Returns the link of a block in a list of blocks.
     pub fn link(&self, block: usize) -> u64
         requires { block + 3 < length self.now.words }
         ensures { result ≡ slice_index self.now.words (block + 3) }

@@ -5,7 +5,7 @@ ghost use Rattle.heap_model.specs.State.{same_colour};
 
 use crate::header;
 
-/// The address to which a block forwards: its own, or that of the copy that was moved.
+/// Returns the address to which a block forwards: its own, or that of the copy that was moved.
 #[inline(always)]
 pub fn forward_of(words: &[u64], block: usize) -> u64
     requires { block < length words.now }
@@ -23,7 +23,7 @@ pub fn set_forward(words: &mut [u64], block: usize, to: u64)
     words[block] = to;
 }
 
-/// Whether a block has a colour.
+/// Returns whether a block has a colour.
 #[inline(always)]
 pub fn has_colour(words: &[u64], block: usize, colour: bool) -> bool
     requires { block + 1 < length words.now }

@@ -47,7 +47,7 @@ impl Field {
         word >> self.low & ((1 << self.bits) - 1)
     }
 
-    /// The word that has a value in the field, and 0 elsewhere.
+    /// Returns the word that has a value in the field, and 0 elsewhere.
     #[inline(always)]
     fn put(self, value: u64) -> u64
         requires low { self.low < 64 }
@@ -75,21 +75,21 @@ pub fn pack(shape: Shape, part: u32, colour: bool) -> u64
     shape + bit(colour) + PART.put(part as u64)
 }
 
-/// The bit of a colour, in its place.
+/// Returns the bit of a colour, in its place.
 fn bit(colour: bool) -> u64
     ensures { result ≡ 4 * bit_of colour }
 {
     COLOUR.put(colour as u64)
 }
 
-/// The bit of the colour that a word says, in its place.
+/// Returns the bit of the colour that a word says, in its place.
 fn bit_in(word: u64) -> u64
     ensures { result ≡ 4 * (word / 4 % 2) }
 {
     COLOUR.put(COLOUR.of(word))
 }
 
-/// The shape that a word says.
+/// Returns the shape that a word says.
 #[inline(always)]
 pub fn shape_of(word: u64) -> Shape
     ensures says { result ≡ shape_in word }
@@ -105,7 +105,7 @@ pub fn shape_of(word: u64) -> Shape
     }
 }
 
-/// The part's number that a word says.
+/// Returns the part's number that a word says.
 pub fn part_of(word: u64) -> u32
     ensures says { result ≡ (header_in word).part }
     ensures within { result < 65536 }
@@ -113,14 +113,14 @@ pub fn part_of(word: u64) -> u32
     PART.of(word) as u32
 }
 
-/// The colour that a word says.
+/// Returns the colour that a word says.
 pub fn colour_of(word: u64) -> bool
     ensures { result ≡ (header_in word).colour }
 {
     COLOUR.of(word) == 1
 }
 
-/// Whether a word says a colour.
+/// Returns whether a word says a colour.
 pub fn has_colour(word: u64, colour: bool) -> bool
     ensures { result ≡ same_colour colour (header_in word).colour }
 {

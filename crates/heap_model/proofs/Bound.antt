@@ -28,7 +28,7 @@ chain_limit h after spent (Then u cost j k linked chain links action) =
     let d = action_rest i k cost action in
     same_limit i k d.2 (action_count i k cost action) (ap (λ (s : HeapSettings). s.defrag_pages) d.0) ∙ same_limit j i refl (relinked_count j linked links) refl ∙ chain_limit h j u chain
 
--- what n quanta spend, each at least d
+-- Quanta that each spend at least d units spend n * d together.
 pub spent_more : (n d before after spent : ℕ) → n * d ≤ before → after ≡ before + spent → d ≤ spent → (n + 1) * d ≤ after
 spent_more n d before after spent l e m = let s : (n + 1) * d ≡ n * d + d = grind arith in omega arith
 
@@ -55,7 +55,7 @@ module _ (h : HeapState) (k count : ℕ) (quanta : ℕ → Quantum) (w : AreQuan
   at_first : ((before 0).units ≡ 0) × (cycle_limit (before 0) ≡ cycle_limit h)
   at_first = (w.first.units, w.first.limit)
 
-  -- a quantum that doesn't end in idle
+  -- A quantum ends in idle, or spends its budget except at most 255 units.
   after_turn : (i : ℕ) → i < count → ((after i).phase ≡ phases.Idle) ⊎ ((k - 255 ≤ spent i) × ((after i).units ≡ (before i).units + spent i))
   after_turn i l =
       let s = (w.each i l).represents in

@@ -31,7 +31,7 @@ making_allocated old shape colour id at k new (Part_made part s t u making w non
     let x = adds_allocated s t (at part) b w.free w.same (making_allocated old shape colour id at part s making b allocated) in
     elim (eq-zero-or-pos part) [ inl e ↦ subst (λ z. is_allocated z b ≡ true) (sym (none e)) x | inr l ↦ allocated_pages t u b (some l).pages ∙ x ]
 
--- behind the barrier, and after a write of a cell
+-- The cycle is left as it was by the barrier, and by a write of a cell after it.
 written_left : (h k : HeapState) (new : Store) (roots : List ℕ) → Stays h k → new.pages ≡ k.store.pages → length roots ≡ length k.roots → LeavesCycle h (record k { store = new; roots = roots })
 written_left h k new roots s e r = record {
   phase = s.phase;
@@ -54,7 +54,7 @@ same_left h new e = record {
   grey = λ x g. g;
 }
 
--- one after the other
+-- The cycle is left as it was by one after the other.
 left_then : (h j k : HeapState) → LeavesCycle h j → LeavesCycle j k → LeavesCycle h k
 left_then h j k a b = record {
   phase = b.phase ∙ a.phase;

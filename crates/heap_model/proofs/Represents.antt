@@ -55,7 +55,7 @@ represents_opening h o l = record {
     within_none : (u l : ℕ) → u ≡ 0 → u ≤ l
     within_none u l e = omega arith
 
--- at the change out of sweeping
+-- An action ends the sweep.
 pub sweep_change : (h after : HeapState) (cost : ℕ) (present snapshot : Graph) → Represents h present snapshot → Action h cost after → is_sweeping h.phase ≡ true → is_sweeping after.phase ≡ false
     → IsSwept after present snapshot × ((k : ℕ) → HasNoMark (page_at after.store.pages k))
 sweep_change h after cost p s w (Scans_root next k e l sh) on off = absurd (let z : true ≡ false = sym on ∙ ap is_sweeping e in cc)

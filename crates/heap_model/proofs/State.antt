@@ -22,7 +22,7 @@ node_kept f old new a n w b l e = by_here (b == a) refl
     by_here true q = let same : b ≡ a = grind arith in ap (λ z. f (record_of new z)) same ∙ ap f w.here ∙ e same ∙ ap (λ z. f (record_of old z)) (sym same)
     by_here false q = let ne : b ≢ a = grind arith in ap f (w.others b l ne)
 
--- the same by reference
+-- The same field stays, by reference.
 pub field_kept : {A : Type 0} (none : A) (f : BlockRecord → A) (old new : Store) (a : ℕ) (n : BlockRecord) → Writes old new a n → (x : ℕ) → (if x == 0 then true else is_allocated old (x - 1)) ≡ true → (x ≡ a + 1 → f n ≡ f (record_of old a))
     → (if x == 0 then none else f (record_of new (x - 1))) ≡ (if x == 0 then none else f (record_of old (x - 1)))
 field_kept none f old new a n w x l e = by_null (x == 0) refl l

@@ -26,7 +26,7 @@ cycled v old course begun ended quanta spent is one e q s =
     ∙ (ap (λ (n : ℕ). record v { course = course; begun = v.begun + 1; quanta = n; spent = spent }) q
     ∙ (ap (λ (n : ℕ). record v { course = course; begun = v.begun + 1; spent = n }) s ∙ ap (λ (w : LockedView). record w { course = course; begun = w.begun + 1 }) is)))
 
--- the pacer, with a cycle more
+-- The pacer has begun one cycle more.
 pub cycled_pacer : (b e q s begun ended quanta spent : ℕ) (old : PacerView) → record { begun = b; ended = e; quanta = q; spent = s } ≡ old → begun ≡ b + 1 → ended ≡ e → quanta ≡ q → spent ≡ s
     → record { begun = begun; ended = ended; quanta = quanta; spent = spent } ≡ record old { begun = old.begun + 1 }
 cycled_pacer b e q s begun ended quanta spent old is one e_is q_is s_is =

@@ -18,7 +18,7 @@ pub enum ServerFault {
 }
 
 impl ServerFault {
-    /// The number of the refusal.
+    /// Returns the number of the refusal.
     pub fn number(self) -> u8
         ensures { result ≡ fault_number self }
     {

@@ -46,14 +46,14 @@ impl<N: Naming> Model for Seat<N> {
 }
 
 impl<N: Naming> Seat<N> {
-    /// The number of the mutator whose commands are called from this seat.
+    /// Returns the number of the mutator whose commands are called from this seat.
     pub fn mutator(&self) -> u32
         ensures { result ≡ self.now.mutator }
     {
         self.mutator
     }
 
-    /// How many calls were made from this seat. A refused call isn't counted.
+    /// Returns how many calls were made from this seat. A refused call isn't counted.
     pub fn made(&self) -> u64
         ensures { result ≡ self.now.calls }
     {
@@ -119,7 +119,7 @@ impl<N: Naming> Model for Locked<N> {
 impl<N: Naming> Locked<N> {
     ghost use Rattle.heap_server.specs.Kept.{IsKept};
 
-    /// The heap with its history.
+    /// Returns the heap with its history.
     pub fn recorded(&self) -> &Recorded
         ensures recorded { result.now.course ≡ self.now.course }
         ensures kept { IsKept N.names.settings self.now }
@@ -259,7 +259,7 @@ fn next_entry(recorded: &Recorded, mutator: u32, command: Command) -> Entry
     }
 }
 
-/// How many cycles are running in a phase: 0 in idle, else 1.
+/// Returns how many cycles are running in a phase: 0 in idle, else 1.
 fn cycles_on(phase: Phase) -> u64
     ensures { result ≡ cycles_on phase }
 {

@@ -104,7 +104,7 @@ pub struct Opening {
 }
 
 impl Opening {
-    /// Blank ledgers and a blank place word for a heap of this configuration.
+    /// Makes blank ledgers and a blank place word for a heap of this configuration.
     pub fn new(config: &Config) -> Opening
         ensures { result.config ≡ config.now }
     {

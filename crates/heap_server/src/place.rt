@@ -93,7 +93,7 @@ pub struct Opened {
 }
 
 impl Opened {
-    /// A word that is 0.
+    /// Returns a word that is 0.
     pub fn new() -> Opened {
         let (seen, mut pens) = Seen::open_row::<u64, EmptyLog>(&0, Start::alone(), 1);
         let mut pen = pens.take();
@@ -103,7 +103,7 @@ impl Opened {
         }
     }
 
-    /// The word under a name, and a front that has seen nothing.
+    /// Returns the word under a name, and a front that has seen nothing.
     pub fn named<N: Naming>(self) -> (HistoryLength<N>, Front<N>)
         requires { self.seen.book ≡ N.names.book }
         ensures { result.1 ≡ [] }
@@ -167,7 +167,7 @@ impl<N: Naming> Front<N> {
         self.seen.learn(&other.seen);
     }
 
-    /// One load: the length of the log, which is then seen.
+    /// Loads the length of the log, which is then seen.
     pub fn observe(&mut self, place: &HistoryLength<N>) -> u64
         ensures found { result ≡ length self.new }
         ensures grows { IsPrefix self.old self.new }
@@ -180,7 +180,7 @@ impl<N: Naming> Front<N> {
             .load::<LoadStep, NoGain>(&mut self.seen, &mut offer)
     }
 
-    /// One exchange, which adds the entry if the log has the length given, and answers the length found.
+    /// Adds the entry by one exchange, if the log has the length given, and returns the length found.
     pub(crate) fn add(&mut self, place: &HistoryLength<N>, at: u64, next: &Entry) -> u64
         requires room { at + 1 < 2 ^ 64 }
         requires known { at ≤ length self.old }
@@ -203,8 +203,8 @@ impl<N: Naming> Front<N> {
             )
     }
 
-    /// One exchange, which adds the entry if this front, of the length given, is the whole log. Both fronts then
-    /// know the log; or the log is longer, and the other front knows it.
+    /// Adds the entry by one exchange, if this front, of the length given, is the whole log. Both fronts then know the
+    /// log; or the log is longer, and the other front knows it.
     pub(crate) fn commit(
         &mut self,
         place: &HistoryLength<N>,

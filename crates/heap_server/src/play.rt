@@ -146,7 +146,7 @@ fn settled<N: Naming>(
     }
 }
 
-/// Whether all was done.
+/// Returns whether all was done.
 fn is_all(torn: bool, whole: bool, used: usize, budgets: usize) -> bool
     ensures { result ≡ true ↔ (torn ≡ false) × (whole ≡ true) × (used ≡ budgets) }
 {
@@ -166,7 +166,7 @@ fn count_calls<N: Naming>(seats: &[Seat<N>], count: usize, done: &mut Vec<u64>)
     }
 }
 
-/// Whether each script was done whole.
+/// Returns whether each script was done whole.
 fn is_whole(scripts: &[Vec<Command>], done: &[u64]) -> bool
     requires { length scripts.now ≡ length done.now }
     ensures { result ≡ true ↔ (done.now ≡ map vec_len scripts.now) }

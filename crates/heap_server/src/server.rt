@@ -33,8 +33,7 @@ pub struct Server<N: Naming> {
 }
 
 impl<N: Naming> Server<N> {
-    /// A new heap without history, a seat for each mutator in rising order, and the pacer. It waits for
-    /// nobody.
+    /// Returns a new heap without history, a seat for each mutator in rising order, and the pacer. It waits for nobody.
     pub fn new(
         alloc: Global,
         opening: Opening,
@@ -103,8 +102,8 @@ impl<N: Naming> Server<N> {
         locked.transact(&self.place, seat, command)
     }
 
-    /// The length of the running history now, and all that the seat saw before is a beginning of it. It waits for
-    /// nobody.
+    /// Returns the length of the running history now. All that the seat saw before is a beginning of the history. It
+    /// waits for nobody.
     pub fn place_now(&self, seat: &mut Seat<N>) -> u64
         ensures found { result ≡ length seat.new.seen }
         ensures grows { IsPrefix seat.old.seen seat.new.seen }
@@ -165,7 +164,8 @@ impl<N: Naming> Server<N> {
     }
 }
 
-/// A seat for each mutator, in rising order, with its part of the ledger of calls. It has seen what the front has.
+/// Returns a seat for each mutator, in rising order, with its part of the ledger of calls. It has seen what the front
+/// has.
 fn seated<N: Naming>(
     alloc: Global,
     config: &Config,
@@ -190,7 +190,7 @@ fn seated<N: Naming>(
     Ok(seats)
 }
 
-/// The parts of all seats in one share. The front then knows all that they have seen.
+/// Returns the parts of all seats in one share. The front then knows all that they have seen.
 fn gathered<N: Naming>(mut seats: Vec<Seat<N>>, front: &mut Front<N>) -> Share<Calls<N>>
     requires { 0 < vec_len seats }
     ensures parts { result.parts ≡ vec_len seats }
@@ -208,7 +208,7 @@ fn gathered<N: Naming>(mut seats: Vec<Seat<N>>, front: &mut Front<N>) -> Share<C
     calls
 }
 
-/// The part of a seat. The front then knows what it has seen.
+/// Returns the part of a seat. The front then knows what it has seen.
 fn given<N: Naming>(seat: Seat<N>, front: &mut Front<N>) -> Share<Calls<N>>
     ensures parts { result.parts ≡ 1 }
     ensures amount { result.amount ≡ seat.calls }

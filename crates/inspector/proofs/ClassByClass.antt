@@ -55,7 +55,7 @@ module _ (s : Store) where
           e ∙ ap (λ t. t ++ text_of (class_lines class f)) written ∙ ap (λ t. (old ++ before n) ++ t) lines_are
           ∙ append_assoc old (before n) (here n) ∙ ap (λ t. old ++ t) (sym (next_text n))
 
-      -- with a part of it
+      -- A part of the class's lines is written.
       pub class_part : (all : ℕ) → n < all → GrowsByPart mid new (text_of (class_lines class f)) → GrowsByPart old new (text_of (classes_lines s all))
       class_part all l g =
           let r = rest_of (n + 1) (all - (n + 1)) in

@@ -34,7 +34,7 @@ module _ (old mid new : List ℕ) (pages : List (Option Page)) (k : ℕ) (l : k 
     rest = so.rest ∙ ap (λ t. so.lines ++ t) (next_lines pages k l) ∙ sym (append_assoc so.lines (lines_on k (view_of (page_at pages k))) (page_lines (k + 1) (drop (k + 1) pages)));
   }
 
-  -- with a part of them
+  -- A part of the page's lines is written.
   pub part_more : GrowsByPart mid new (text_of (lines_on k (view_of (page_at pages k)))) → GrowsByPart old new (text_of (page_lines 0 pages))
   part_more g =
       let here = lines_on k (view_of (page_at pages k)) in

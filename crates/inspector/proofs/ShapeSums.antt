@@ -69,20 +69,20 @@ module _ (each : ℕ → Held) where
   summed_next n = rw add-one refl
 
 module _ (these : Shape → Bool) (s : Store) where
-  -- before the first block
+  -- Nothing is held before the first block.
   pub before_first : held_before these s 0 0 ≡ nothing
   before_first =
       ap (λ h. both h (summed (held_at these s 0) 0)) (summed_none (held_on these s)) ∙ ap (both nothing) (summed_none (held_at these s 0))
       ∙ both_none nothing
 
   module _ (k : ℕ) where
-    -- with the next block
+    -- The next block is added.
     pub before_next : (index : ℕ) → held_before these s k (index + 1) ≡ both (held_before these s k index) (held_at these s k index)
     before_next index =
         ap (both (summed (held_on these s) k)) (summed_next (held_at these s k) index)
         ∙ both_assoc (summed (held_on these s) k) (summed (held_at these s k) index) (held_at these s k index)
 
-    -- with the last one of a page
+    -- The last block of a page is added.
     pub before_page : (index : ℕ) → index ≡ places_on (page_at s.pages k) → held_before these s k index ≡ held_before these s (k + 1) 0
     before_page index last =
         ap (λ n. both (summed (held_on these s) k) (summed (held_at these s k) n)) last
@@ -120,7 +120,7 @@ module _ (these : Shape → Bool) (s : Store) where
 pub of_first : (these : Shape → Bool) (s : Store) (m : ℕ) → IsOfBlocks (held_before these s 0 0) m
 of_first these s m = subst (λ h. IsOfBlocks h m) (sym (before_first these s)) (of_none m)
 
--- no part, nothing of it
+-- A sum without parts is nothing.
 pub nothing_held : (h : Held) (m : ℕ) → IsOfBlocks h m → h.parts ≡ 0 → nothing ≡ h
 nothing_held h m w e = same nothing h (omega (arith, w.objects, e)) (omega (arith, e)) (omega (arith, w.words, e))
 

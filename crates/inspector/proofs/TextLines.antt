@@ -22,7 +22,7 @@ pub four_lines : (a b d e a1 b1 d1 e1 : List ℕ) → a ≡ a1 → b ≡ b1 → 
 four_lines a b d e a1 b1 d1 e1 p q r s =
     ap (λ z. z ++ (b ++ (d ++ (e ++ [])))) p ∙ ap (λ z. a1 ++ (z ++ (d ++ (e ++ [])))) q ∙ ap (λ z. a1 ++ (b1 ++ (z ++ (e ++ [])))) r ∙ ap (λ z. a1 ++ (b1 ++ (d1 ++ z))) (append-nil e ∙ s)
 
--- the same, from the first one on
+-- Four texts join in turn, from the first one on.
 pub four_in_turn : (a b d e a1 b1 d1 e1 : List ℕ) → a ≡ a1 → b ≡ b1 → d ≡ d1 → e ≡ e1 → a ++ (b ++ (d ++ (e ++ []))) ≡ ((a1 ++ b1) ++ d1) ++ e1
 four_in_turn a b d e a1 b1 d1 e1 p q r s =
     four_lines a b d e a1 b1 d1 e1 p q r s ∙ sym (append_assoc (a1 ++ b1) d1 e1 ∙ append_assoc a1 b1 (d1 ++ e1))

@@ -8,7 +8,7 @@ ghost use Rattle.inspector.specs.ClassLines.{class_lines};
 use size_classes::{CLASSES, Class};
 use std::alloc::{AllocError, Global};
 
-/// The lines of all classes; a class may have none.
+/// Returns the lines of all classes; a class may have none.
 pub(crate) fn class_lines<F: Fn(Class) -> Result<String, AllocError>>(
     alloc: Global,
     line: F,

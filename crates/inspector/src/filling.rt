@@ -36,7 +36,7 @@ pub(crate) fn nothing() -> Filling
     }
 }
 
-/// That of a page of a class with this many allocated blocks, and this many words wasted inside them.
+/// Returns the filling of a page of a class with this many allocated blocks, and this many words wasted inside them.
 fn page_filling(class: Class, allocated: u64, inside: u64) -> Filling
     requires allocated { allocated ≤ 512 }
     requires inside { inside ≤ 131072 }
@@ -57,7 +57,7 @@ fn page_filling(class: Class, allocated: u64, inside: u64) -> Filling
     }
 }
 
-/// That of a page, if it has the class.
+/// Returns the filling of a page, if it has the class; else an empty one.
 fn filling_on(heap: &Heap, class: Class, number: usize) -> Filling
     ensures filling { result ≡ filling_on heap.now.store class number }
     ensures within { IsWithin result 131072 }
@@ -75,7 +75,7 @@ fn filling_on(heap: &Heap, class: Class, number: usize) -> Filling
     )
 }
 
-/// That of some pages and of some others.
+/// Returns the filling of some pages and of some others.
 pub(crate) fn both(some: Filling, others: Filling) -> Filling
     requires some { IsWithin some 8796093022208 }
     requires others { IsWithin others 8796093022208 }
@@ -91,7 +91,7 @@ pub(crate) fn both(some: Filling, others: Filling) -> Filling
     }
 }
 
-/// That of all pages of a class.
+/// Returns the filling of all pages of a class.
 pub(crate) fn filling_of(heap: &Heap, class: Class) -> Filling
     ensures filling { result ≡ filling_of heap.now.store class }
     ensures within { IsWithin result 137438953472 }

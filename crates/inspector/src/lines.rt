@@ -13,7 +13,7 @@ use nodes::Copies;
 use pages::PageView;
 use trace::{Sink, WriteFailed, end_line, put, put_named};
 
-/// The name of a phase.
+/// Returns the name of a phase.
 fn name(phase: Phase) -> &'static [u8]
     ensures name { result.now ≡ phase_name phase }
     ensures short { length result.now ≤ 8 }

@@ -113,7 +113,7 @@ more_scanned a b k part cell to at n m first rest =
     subst (λ u. Chain (state_of a) (n + m) (state_of (scanning k to at u))) (let e : a.units + n + m ≡ a.units + (n + m) = omega arith in e)
     (then_chain (state_of a) (state_of (scanning b part cell (a.units + n))) (state_of (scanning k to at (a.units + n + m))) n m first (rest (a.units + n)))
 
--- and the end of marking after them
+-- Marking ends after these scans.
 pub ended : (a b k : HeapFields) (part cell n : ℕ) (h : HeapState) → Chain (state_of a) n h → k.units ≡ a.units → Action h 1 (goes_to (state_of (scanning k part cell (a.units + n))) 1 (phases.Sweeping 0 0)) → b ≡ record k { phase = phases.Sweeping 0 0; units = k.units + (n + 1) }
     → Chain (state_of a) (n + 1) (state_of b)
 ended a b k part cell n h first same last is =

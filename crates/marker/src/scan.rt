@@ -286,7 +286,7 @@ fn scan_cell(heap: &mut HeapFields, part: u64, cell: usize)
     shade(heap, main);
 }
 
-/// How many cells of a block, from one on and at most `most`, are null before the first that isn't.
+/// Returns how many cells of a block, from one on and at most `most`, are null before the first that isn't.
 #[inline(always)]
 fn nulls_from(nodes: &Nodes, block: usize, from: usize, most: usize) -> usize
     requires allocated { is_allocated nodes.now block ≡ true }

@@ -39,7 +39,7 @@ step_inside b r o o' n n' e f g = let P : Bool → Type 0 = λ b. o' + n' ≡ o 
 step_outside : (b r : Bool) (o o' n n' : ℕ) → b ≡ false → o' ≡ o → n' ≡ n + cond r 1 0 → o' + n' ≡ o + n + cond (b || r) 1 0
 step_outside b r o o' n n' e f g = let P : Bool → Type 0 = λ b. o' + n' ≡ o + n + cond (b || r) 1 0 in subst P (sym e) (omega (arith, f, g))
 
--- one place further
+-- One tick more is covered or not.
 pub covered-more : (x from : ℕ) (is : List Interval) → IsRisingFrom from is → covered is (x + 1) ≡ covered is x + cond (list_any (has_tick x) is) 1 0
 covered-more x from [] h = refl
 covered-more x from (i ∷ is) h =

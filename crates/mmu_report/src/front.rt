@@ -15,7 +15,7 @@ pub struct Front<'a> {
 }
 
 impl<'a> Front<'a> {
-    /// A front before all intervals.
+    /// Returns a front before all intervals.
     pub fn new(intervals: &'a [Interval]) -> Front<'a>
         ensures ahead { result.ahead.now ≡ intervals.now }
         ensures passed { result.passed ≡ 0 }
@@ -26,7 +26,7 @@ impl<'a> Front<'a> {
         }
     }
 
-    /// How many ticks below a place lie in an interval, in a front that goes up to that place.
+    /// Returns how many ticks below a place lie in an interval, in a front that goes up to that place.
     pub fn covered_below(&mut self, place: u64) -> u64
         requires rising { IsRising self.old.ahead.now }
         requires fits { self.old.passed + covered self.old.ahead.now place < 2 ^ 64 }

@@ -18,7 +18,7 @@ pub fn bound(collector_ticks: u32, mutator_ticks: u32, window: u64) -> u64
     mutator * periods + rest.saturating_sub(collector)
 }
 
-/// The mutators' share of a window in thousandths, rounded down.
+/// Returns the mutators' share of a window in thousandths, rounded down.
 pub fn permille(least: u64, window: u64) -> u64
     requires some { 0 < window }
     requires part { least ≤ window }

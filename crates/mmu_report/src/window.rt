@@ -25,7 +25,7 @@ pub fn least_mutator(intervals: &[Interval], span: u64, window: u64) -> Option<u
     Some(least_within(intervals, span - window, window))
 }
 
-/// The least over the windows that start at `last` or before.
+/// Returns the least share of the windows that start at `last` or before.
 fn least_within(intervals: &[Interval], last: u64, window: u64) -> u64
     requires rising { IsRising intervals.now }
     requires fits { last + window < 2 ^ 64 }

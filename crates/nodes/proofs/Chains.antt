@@ -21,15 +21,15 @@ use Rattle.nodes.proofs.Representing.{still}
 pub relinked_action : (h after : HeapState) (s : Store) (cost : ℕ) → Relinks h.store s → Action (record h { store = s }) cost after → Chain h cost after
 relinked_action h after s cost links action = subst (λ n. Chain h n after) (let e : 0 + cost ≡ cost = omega arith in e) (Then 0 cost h after s Nothing_done links action)
 
--- one action
+-- One action is a chain.
 pub one_action : (h after : HeapState) (cost : ℕ) → Action h cost after → Chain h cost after
 one_action h after cost action = relinked_action h after h.store cost still action
 
--- another action
+-- A chain goes on by one action.
 pub then_action : (h j after : HeapState) (u cost : ℕ) → Chain h u j → Action j cost after → Chain h (u + cost) after
 then_action h j after u cost chain action = Then u cost j after j.store chain still action
 
--- a chain after a chain
+-- A chain follows a chain.
 pub then_chain : (h j after : HeapState) (u v : ℕ) → Chain h u j → Chain j v after → Chain h (u + v) after
 then_chain h j after u v first Nothing_done = subst (λ n. Chain h n j) (let e : u ≡ u + 0 = omega arith in e) first
 then_chain h j after u v first (Then w cost k l linked chain links action) =
@@ -55,7 +55,7 @@ heap_after_chain a b w units chain count linked = record {
   empty = rests_chain (state_of a) (state_of b) units chain w.empty;
 }
 
--- one action within the room
+-- One action fits the room.
 pub runs_once : (a b : HeapFields) (room cost : ℕ) → AreHeapFields a → Action (state_of a) cost (state_of b) → cost ≤ room → Acts a room b
 runs_once a b room cost w action within = (cost, one_action (state_of a) (state_of b) cost action, (action_cost (state_of a) (state_of b) cost w.heap.represents.pages action).0, within)
 

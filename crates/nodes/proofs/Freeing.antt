@@ -51,7 +51,7 @@ page_within pages k p e = elim (below_or k (length pages)) [
     below_or : (a b : ℕ) → (a < b) ⊎ (b ≤ a)
     below_or a b = grind arith
 
--- another page in the place of one
+-- Another page replaces one.
 module _ (s : Store) (k : ℕ) (q : Option Page) (within : k < length s.pages) where
   pub page_here : page_at (set s.pages k q) k ≡ q
   page_here = get_or-set_same s.pages k q None within

@@ -103,13 +103,13 @@ linked_more s new g m x within linked stays last end unused grey = record {
     count : length (items ++ x ∷ []) ≡ length items + 1
     count = length-append items (x ∷ [])
 
-    -- the record that came last
+    -- The record that came last has no next one.
     at_end : (i : ℕ) → i ≡ length items → get_or new.words (get_or (items ++ x ∷ []) i 0 - 1 + 3) 0 ≡ get_or (items ++ x ∷ []) (i + 1) 0
     at_end i e =
         let here : get_or (items ++ x ∷ []) i 0 ≡ x = ap (λ j. get_or (items ++ x ∷ []) j 0) e ∙ get_or-append_seam items x [] 0 in
         ap (λ y. get_or new.words (y - 1 + 3) 0) here ∙ end ∙ sym (get_or_past (items ++ x ∷ []) (i + 1) 0 (omega (arith, e, count)))
 
-    -- and those before it
+    -- Each record before it links to the next one.
     before : (i : ℕ) → i < length items → get_or new.words (get_or (items ++ x ∷ []) i 0 - 1 + 3) 0 ≡ get_or (items ++ x ∷ []) (i + 1) 0
     before i below =
         ap (λ y. get_or new.words (y - 1 + 3) 0) (get_or_append_left items (x ∷ []) 0 i below)

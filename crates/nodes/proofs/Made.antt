@@ -160,7 +160,7 @@ module _ (rows : List (Option PageRow)) (words : List ℕ) (t : Store) (is : joi
         word_after (pages_in after mid) mid new whole_mid address (size_of block.row.class) block.size now_allocated write b still ne 3 (allocated_place (joined after mid) b whole_mid still).size
         ∙ word_kept (pages_in rows words) words mid kept b was 3 (omega (arith, low))
 
-    -- and that of the block itself
+    -- The link of the block itself is 0.
     link_fresh : (b : ℕ) → is_allocated (joined rows words) b ≡ false → is_allocated (joined after new) b ≡ true → link_of (joined after new) b ≡ 0
     link_fresh b was now = elim (cases_eq b address) [
       | inl e ↦ ap (λ n. get_or new (n + 3) 0) e ∙ ap (λ w. get_or w (address + 3) 0) begun

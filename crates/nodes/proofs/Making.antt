@@ -62,7 +62,7 @@ and_false : (b : Bool) → (b && false) ≡ false
 and_false true = refl
 and_false false = refl
 
--- the page with one block more, at each other offset
+-- The page has one block more, and the same at each other offset.
 more_allocated : (class i o : ℕ) (q : Option Page) → Chosen class q → (o ≡ i * size_of class → ⊥) → allocated_in (Some (with_allocated (page_of_class class q) i true)) o ≡ allocated_in q o
 more_allocated class i o q (WasFree e) ne =
     subst (λ x. allocated_in (Some (with_allocated (page_of_class class x) i true)) o ≡ allocated_in x o) (sym e)

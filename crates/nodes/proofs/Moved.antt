@@ -109,7 +109,7 @@ module _ (rows : List (Option PageRow)) (words : List ℕ) (t : Store) (is : joi
           pages_mid : pages_in after mid ≡ pages_then
           pages_mid = subst (λ o. IfSome o (λ q. pages_in after mid ≡ set (pages_in rows words) to (Some (record (with_allocated q place true) { is_target = true })))) can.into given
 
-          -- the old copy
+          -- The old copy stays allocated.
           source_allocated_then : is_allocated (joined after mid) a ≡ true
           unfolding is_allocated
           source_allocated_then =
@@ -134,7 +134,7 @@ module _ (rows : List (Option PageRow)) (words : List ℕ) (t : Store) (is : joi
           together_first : Together after first
           together_first = still_together after mid first together a source_block forwards
 
-          -- the copy
+          -- The copy is allocated.
           target_allocated_then : is_allocated (joined after first) b ≡ true
           unfolding is_allocated
           target_allocated_then =
@@ -180,7 +180,7 @@ module _ (rows : List (Option PageRow)) (words : List ℕ) (t : Store) (is : joi
               subst (λ w. P (record { pages = pages_in after second; words = w })) (sym words_are)
               (subst (λ g. P (record { pages = g; words = words_then })) (sym pages_second) p)
 
-          -- word 1 of each block
+          -- Word 1 of each block is a header.
           header_then : (x : ℕ) → is_allocated (joined rows words) x ≡ true → IsHeader (get_or mid (x + 1) 0)
           header_then x was =
               let low = (allocated_place (joined rows words) x are.whole was).size in
@@ -255,7 +255,7 @@ module _ (rows : List (Option PageRow)) (words : List ℕ) (t : Store) (is : joi
               word_after (pages_in after first) first second sound b (size_of target_block.row.class) target_block.size target_allocated_then copies x still (λ e. ne (e ∙ target_is)) 3 (allocated_place (joined after first) x sound still).size
               ∙ link_first x was
 
-          -- and of the copy
+          -- The link of the copy is that of the old copy.
           link_copied : get_or second (b + 3) 0 ≡ get_or words (a + 3) 0
           unfolding is_allocated
           link_copied =

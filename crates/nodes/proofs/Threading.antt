@@ -223,7 +223,7 @@ module _ (s : Store) (g : GreySet) where
     unfolding grey_in
     same_buffer = ap (λ xs. sorted (linked ++ xs)) (q.after (buffer_of g m) ∙ sym q.now)
 
-    -- with another record between those before it and those after it
+    -- Another record stands between some records and the others.
     buffered_between : (before after : List ℕ) (x : ℕ) → grey_in s (with_buffer g m (before ++ x ∷ after)) ≡ inserted x (grey_in s (with_buffer g m (before ++ after)))
     unfolding grey_in
     buffered_between before after x =
@@ -238,11 +238,11 @@ module _ (s : Store) (g : GreySet) where
             ap (λ xs. linked ++ (q.front ++ xs)) (append_assoc before ys q.back)
             ∙ sym (append_assoc linked q.front (before ++ (ys ++ q.back))) ∙ sym (append_assoc (linked ++ q.front) before (ys ++ q.back))
 
-    -- with another record after the last
+    -- Another record stands after the last.
     pub buffered : (items : List ℕ) (x : ℕ) → grey_in s (with_buffer g m (items ++ x ∷ [])) ≡ inserted x (grey_in s (with_buffer g m items))
     buffered items x = buffered_between items [] x ∙ ap (λ xs. inserted x (grey_in s (with_buffer g m xs))) (append-nil items)
 
-    -- and before the first
+    -- Another record stands before the first.
     pub buffered_first : (x : ℕ) (items : List ℕ) → grey_in s (with_buffer g m (x ∷ items)) ≡ inserted x (grey_in s (with_buffer g m items))
     buffered_first x items = buffered_between [] items x
 

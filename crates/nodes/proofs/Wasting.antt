@@ -14,7 +14,7 @@ use Rattle.nodes.specs.Wasted.{words_in, wasted_in, wasted_of}
 use Rattle.nodes.proofs.Freeing.{page_within}
 use Rattle.nodes.proofs.Counting.{not_true, flag_within}
 
--- a sum with the next number
+-- A sum goes on by the next number.
 pub total_next : (f : ℕ → ℕ) (n : ℕ) → total f (n + 1) ≡ total f n + f n
 unfolding total
 total_next f n = rw add-one refl
@@ -64,7 +64,7 @@ module _ (s : Store) (k : ℕ) where
       let free : get_or p.allocated i false ≡ false = not_true (get_or p.allocated i false) (λ h. never (slice_get-get_or p.allocated i false (flag_within p.allocated i h) ∙ ap Some h)) in
       sym (ap (λ (f : Bool). if f then size_of p.class - words_in (record_of s (address_of p.class k i)) else 0) free)
 
-  -- with the next block
+  -- A sum goes on by the next block.
   pub more_wasted : (i was now w : ℕ) (o : Option Page) → IfSome o (λ p. was ≡ total (wasted_in s k p) i) → now ≡ was + w → IfSome o (λ p. w ≡ wasted_in s k p i)
       → IfSome o (λ p. now ≡ total (wasted_in s k p) (i + 1))
   more_wasted i was now w None before sum here = tt

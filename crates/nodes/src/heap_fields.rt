@@ -31,8 +31,8 @@ pub struct HeapFields {
 impl HeapFields {
     ghost use Rattle.nodes.specs.HeapFields.{state_of, AreHeapFields};
 
-    /// A heap of free pages, with null roots and no object, and memory for all that it will ever hold.
-    /// Refused only for lack of memory.
+    /// Returns a heap of free pages, with null roots and no object, and memory for all that it will ever hold. Refuses
+    /// only for lack of memory.
     pub fn new(alloc: Global, config: &Config) -> Result<HeapFields, NoMemory>
         ensures heap { IfOk result AreHeapFields }
         ensures opening { IfOk result (λ a. IsOpening (state_of a)) }

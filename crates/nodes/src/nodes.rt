@@ -36,7 +36,7 @@ pub struct Referent {
     pub reference: u64,
 }
 
-/// The address of a block of a page, by its number there and the size of the page's blocks.
+/// Returns the address of a block of a page, by its number there and the size of the page's blocks.
 #[inline(always)]
 fn address(page: usize, index: usize, size: usize) -> usize
     requires page { page < 1048576 }
@@ -91,7 +91,7 @@ impl Nodes {
         self.arena.touch(pages);
     }
 
-    /// Whether there is room for the parts of an object.
+    /// Returns whether there is room for the parts of an object.
     #[inline(always)]
     pub fn room(&self, parts: &Parts) -> bool
         ensures { result ≡ has_room self.now.pages (blocks_needed parts.now (parts_in parts.now)) }
@@ -146,7 +146,7 @@ impl Nodes {
         self.table.close_page(page);
     }
 
-    /// How many pages there are.
+    /// Returns how many pages there are.
     pub fn pages(&self) -> usize
         ensures pages { result ≡ length self.now.pages }
         ensures within { result ≤ 1048576 }
@@ -154,7 +154,7 @@ impl Nodes {
         self.table.len()
     }
 
-    /// How many pages are free.
+    /// Returns how many pages are free.
     pub fn free_pages(&self) -> usize
         ensures free { result ≡ page_list.free_pages self.now.pages }
         ensures within { result ≤ 1048576 }
@@ -162,7 +162,7 @@ impl Nodes {
         self.table.free_pages()
     }
 
-    /// How many pages were touched. Each page behind these is free.
+    /// Returns how many pages were touched. Each page behind these is free.
     pub fn pages_touched(&self) -> usize
         ensures within { result ≤ 1048576 }
         ensures free { (page : ℕ) → result ≤ page → page_at self.now.pages page ≡ None }
@@ -170,7 +170,7 @@ impl Nodes {
         self.arena.pages_touched()
     }
 
-    /// How many blocks a page has, allocated or not; a free page has none.
+    /// Returns how many blocks a page has, allocated or not; a free page has none.
     pub fn blocks(&self, page: usize) -> usize
         requires { page < length self.now.pages }
         ensures { result ≡ blocks_on (page_at self.now.pages page) }
@@ -181,7 +181,7 @@ impl Nodes {
         }
     }
 
-    /// The class of a page that is in use; None for a free page.
+    /// Returns the class of a page that is in use; None for a free page.
     pub fn class(&self, page: usize) -> Option<Class>
         requires { page < length self.now.pages }
         ensures { result ≡ option_map (λ p. p.class) (page_at self.now.pages page) }
@@ -189,7 +189,7 @@ impl Nodes {
         self.table.class(page)
     }
 
-    /// The size of the blocks of a page, in words; 0 for a free page.
+    /// Returns the size of the blocks of a page, in words; 0 for a free page.
     fn block_size(&self, page: usize) -> usize
         requires { page < length self.now.pages }
         ensures size { result ≡ size_in (page_at self.now.pages page) }
@@ -201,7 +201,7 @@ impl Nodes {
         }
     }
 
-    /// How many blocks of a page are allocated.
+    /// Returns how many blocks of a page are allocated.
     pub fn held(&self, page: usize) -> u32
         requires { page < length self.now.pages }
         ensures allocated { result ≡ allocated_on (page_at self.now.pages page) }
@@ -210,7 +210,7 @@ impl Nodes {
         self.table.held(page)
     }
 
-    /// Whether a page is of the class, and neither evacuating nor a target.
+    /// Returns whether a page is of the class, and neither evacuating nor a target.
     pub fn is_choosable(&self, class: Class, page: usize) -> bool
         requires { page < length self.now.pages }
         ensures { result ≡ is_choosable class (page_at self.now.pages page) }
@@ -218,7 +218,7 @@ impl Nodes {
         self.table.is_choosable(class, page)
     }
 
-    /// How many free blocks of a class a page has, none if it is evacuating.
+    /// Returns how many free blocks of a class a page has, none if it is evacuating.
     pub fn free_on(&self, class: Class, page: usize) -> usize
         requires { page < length self.now.pages }
         ensures free { result ≡ free_on class (page_at self.now.pages page) }
@@ -227,7 +227,7 @@ impl Nodes {
         self.table.free_on(class, page)
     }
 
-    /// How many blocks of a class are free, on pages that aren't evacuating.
+    /// Returns how many blocks of a class are free, on pages that aren't evacuating.
     pub fn free_blocks(&self, class: Class) -> usize
         ensures free { result ≡ free_blocks self.now.pages class }
         ensures within { result ≤ 536870912 }
@@ -235,14 +235,14 @@ impl Nodes {
         self.table.free_blocks(class)
     }
 
-    /// The first page of the class that isn't evacuating and has a free block.
+    /// Returns the first page of the class that isn't evacuating and has a free block.
     pub fn usable(&self, class: Class) -> Option<usize>
         ensures { result ≡ position (is_usable class) self.now.pages }
     {
         self.table.usable(class)
     }
 
-    /// The first allocated block of a page from a place on. On a free page none is.
+    /// Returns the first allocated block of a page from a place on. On a free page none is.
     pub fn next_allocated(&self, page: usize, from: usize) -> Option<usize>
         requires { page < length self.now.pages }
         ensures finds { FindsAllocated (page_at self.now.pages page) from result }
@@ -287,7 +287,7 @@ impl Nodes {
         place
     }
 
-    /// The address of a block of a page, by its number there, if it is allocated.
+    /// Returns the address of a block of a page, by its number there, if it is allocated.
     pub fn allocated_block(&self, page: usize, index: usize) -> Option<usize>
         requires { page < length self.now.pages }
         ensures allocated { IsSome result ↔ IsSomeAnd (page_at self.now.pages page)

@@ -18,7 +18,7 @@ is_mark mark same = elim (cases_eq mark 18446744073709551615) [
   | inr ne ↦ absurd (let n = ap not (ne_eqb mark 18446744073709551615 ne) in cc)
 ]
 
--- none so far
+-- The range of free blocks is empty at first.
 pub none_yet : (words : List ℕ) (at class from : ℕ) → AreFree words at class from from
 none_yet words at class from = λ k low high. absurd (omega (arith, low, high))
 

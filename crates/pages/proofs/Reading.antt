@@ -61,7 +61,7 @@ module _ (rows : List (Option PageRow)) (words : List ℕ) (t : Together rows wo
   pub free_on_told : (class : ℕ) (o : Option PageRow) → o ≡ row_at rows k → row_free_on class o ≡ free_on class (page_at (pages_in rows words) k)
   free_on_told class o is = ap (row_free_on class) is ∙ free_on_page class words (2048 * k) (row_at rows k) (t.each k) ∙ ap (free_on class) (sym here)
 
-  -- a flag, read
+  -- A flag is read.
   pub flag_told : (r : PageRow) (i : ℕ) (b : Bool) → Some r ≡ row_at rows k → slice_get (flags r) i ≡ Some b → (IsTrue b → IsSomeAnd (page_at (pages_in rows words) k) (λ p. slice_get p.allocated i ≡ Some true)) × (IsSomeAnd (page_at (pages_in rows words) k) (λ p. slice_get p.allocated i ≡ Some true) → IsTrue b)
   flag_told r i b is f =
       let read = page_read rows words k r below (sym is) in (

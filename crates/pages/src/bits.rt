@@ -24,7 +24,7 @@ pub struct BitRow {
 impl BitRow {
     ghost use Rattle.pages.specs.BitRow.{has_bit, room_of};
 
-    /// A row with room for this many bits at least, none of them set.
+    /// Returns a row with room for this many bits at least, none of them set.
     pub fn new(alloc: Global, bits: u32) -> Result<BitRow, NoMemory>
         ensures none { IfOk result (λ r. (k : ℕ) → has_bit r k ≡ 0) }
         ensures room { IfOk result (λ r. bits ≤ room_of r) }
@@ -69,7 +69,7 @@ impl BitRow {
         }
     }
 
-    /// The lowest bit that is set.
+    /// Returns the lowest bit that is set.
     #[inline(always)]
     pub fn first(&self) -> Option<usize>
         ensures here { IfSome result (λ k. has_bit self.now k ≡ 1) }

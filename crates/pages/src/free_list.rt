@@ -120,7 +120,7 @@ pub fn link_blocks(arena: &mut Arena, page: usize, class: Class) -> PageRow
     }
 }
 
-/// Word 0 of a block of a page of a class.
+/// Returns word 0 of a block of a page of a class.
 #[inline(always)]
 fn mark_of(words: &[u64], page: usize, class: Class, index: usize) -> u64
     requires page { page < 1048576 }
@@ -132,7 +132,7 @@ fn mark_of(words: &[u64], page: usize, class: Class, index: usize) -> u64
     forward_of(words, block)
 }
 
-/// Whether a block of a page of a class is allocated.
+/// Returns whether a block of a page of a class is allocated.
 #[inline(always)]
 #[tactic(auto, unfolding(crate::specs::FreeList::free_mark))]
 fn is_taken_in(words: &[u64], page: usize, class: Class, index: usize) -> bool
@@ -144,7 +144,7 @@ fn is_taken_in(words: &[u64], page: usize, class: Class, index: usize) -> bool
     mark_of(words, page, class, index) != u64::MAX
 }
 
-/// Whether a block of a page of the arena is allocated.
+/// Returns whether a block of a page of the arena is allocated.
 pub fn is_taken(arena: &Arena, page: usize, class: Class, index: usize) -> bool
     requires page { page < 1048576 }
     requires within { 2048 * page + 2048 ≤ length arena.now.words }
@@ -154,7 +154,7 @@ pub fn is_taken(arena: &Arena, page: usize, class: Class, index: usize) -> bool
     is_taken_in(arena.words(), page, class, index)
 }
 
-/// Whether a block of a page of a class isn't allocated, or has a colour.
+/// Returns whether a block of a page of a class isn't allocated, or has a colour.
 #[inline(always)]
 fn stays(words: &[u64], page: usize, class: Class, index: usize, colour: bool) -> bool
     requires page { page < 1048576 }
@@ -223,7 +223,7 @@ fn sweep_in(
     swept
 }
 
-/// The same in the arena: the record becomes what it is then.
+/// Sweeps blocks of a page in the arena, and updates the page's record.
 pub fn sweep(
     arena: &mut Arena,
     page: usize,
@@ -249,7 +249,7 @@ pub fn sweep(
 /// How many blocks are looked at as one, if none of them is allocated.
 const GROUP: usize = 8;
 
-/// Whether some block of a group is allocated, by one test of the words of all.
+/// Returns whether some block of a group is allocated, by one test of the words of all.
 #[tactic(auto, using(crate::proofs::Threading::blocks_few))]
 #[inline(always)]
 fn some_taken(words: &[u64], page: usize, class: Class, from: usize) -> bool
@@ -269,7 +269,7 @@ fn some_taken(words: &[u64], page: usize, class: Class, from: usize) -> bool
     marks != u64::MAX
 }
 
-/// A place behind as many groups as have no allocated block, from one place on.
+/// Returns the first place, from one on, that isn't at a group without allocated blocks.
 #[inline(always)]
 fn past_free(words: &[u64], page: usize, class: Class, from: usize) -> usize
     requires page { page < 1048576 }
@@ -285,7 +285,7 @@ fn past_free(words: &[u64], page: usize, class: Class, from: usize) -> usize
     place
 }
 
-/// The first allocated block of a page of a class from a place on.
+/// Returns the first allocated block of a page of a class from a place on.
 #[inline(never)]
 pub fn next_allocated(arena: &Arena, page: usize, class: Class, from: usize) -> Option<usize>
     requires page { page < 1048576 }

@@ -6,7 +6,7 @@ ghost use Rattle.pages.specs.Bits.{bit_in, word_bit, IsSummary, IsLowest, IsLowe
 /// How many bits a word has.
 pub const WORD_BITS: usize = 64;
 
-/// A word with one bit set or cleared.
+/// Returns a word with one bit set or cleared.
 #[inline(always)]
 fn with_bit(word: u64, k: u32, on: bool) -> u64
     requires { k < WORD_BITS }
@@ -20,7 +20,7 @@ fn with_bit(word: u64, k: u32, on: bool) -> u64
     }
 }
 
-/// The lowest bit that is set in a word.
+/// Returns the lowest bit that is set in a word.
 #[inline(always)]
 fn lowest(word: u64) -> usize
     requires { 0 < word }
@@ -83,7 +83,7 @@ pub fn put_bit(words: &mut [u64], groups: &mut [u64], tops: &mut [u64], k: usize
     }
 }
 
-/// The first word that isn't 0.
+/// Returns the first word that isn't 0.
 fn first_word(words: &[u64]) -> Option<usize>
     ensures within { IfSome result (λ w. w < length words.now) }
     ensures here { IfSome result (λ w. 0 < slice_index words.now w) }
@@ -136,7 +136,7 @@ fn lowest_bit(words: &[u64], groups: &[u64], tops: &[u64], k: usize) -> Option<u
     Some(WORD_BITS * at + lowest(words[at]))
 }
 
-/// The lowest bit of the words that is set, once bit k was written, from what it was before.
+/// Returns the lowest bit of the words that is set, after bit k was written, from the lowest before.
 #[inline(always)]
 pub fn lowest_once_put(
     words: &[u64],

@@ -15,7 +15,7 @@ pub struct PageRow {
     pub is_target: bool,
 }
 
-/// Whether a page is of its class, isn't evacuating, and has a free block.
+/// Returns whether a page is of its class, isn't evacuating, and has a free block.
 pub fn is_usable(class: Class, row: Option<PageRow>) -> bool
     requires { OfClass class row }
     ensures { result ≡ row_usable class row }
@@ -26,7 +26,7 @@ pub fn is_usable(class: Class, row: Option<PageRow>) -> bool
     }
 }
 
-/// How many free blocks of a class a page has, none if it is evacuating.
+/// Returns how many free blocks of a class a page has, none if it is evacuating.
 #[inline(always)]
 pub fn free_on(class: Class, row: Option<PageRow>) -> usize
     ensures free { result ≡ row_free_on class row }
@@ -40,7 +40,7 @@ pub fn free_on(class: Class, row: Option<PageRow>) -> usize
     }
 }
 
-/// Whether a page is of the class, and neither evacuating nor a target.
+/// Returns whether a page is of the class, and neither evacuating nor a target.
 pub fn is_choosable(class: Class, row: Option<PageRow>) -> bool
     ensures { result ≡ row_choosable class row }
 {

@@ -49,7 +49,7 @@ impl Model for PageTable {
     ghost invariant = { IsKept };
 }
 
-/// A number of pages, once one that was counted or not is counted or not.
+/// Returns a number of pages, once a page that was counted or not is counted or not.
 fn counted(pages: usize, was: bool, is: bool) -> usize
     requires some { bit was ≤ pages }
     requires room { pages ≤ 1048576 }
@@ -87,7 +87,7 @@ impl PageTable {
         })
     }
 
-    /// The first page of the class that isn't evacuating and has a free block.
+    /// Returns the first page of the class that isn't evacuating and has a free block.
     #[inline(always)]
     fn first_usable(&self, class: Class) -> Option<usize>
         ensures { result ≡ position (row_usable class) self.now }

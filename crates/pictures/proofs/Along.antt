@@ -110,7 +110,7 @@ first_taken h = record {
   least = λ k none. absurd (omega (arith, none));
 }
 
--- twice the stride
+-- The stride doubles.
 doubled : (stride exponent : ℕ) → stride ≡ 2 ^ exponent → stride * 2 ≡ 2 ^ (exponent + 1)
 doubled stride exponent power = omega (arith, power, pow-add 2 exponent 1)
 

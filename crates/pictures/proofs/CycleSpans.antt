@@ -21,7 +21,7 @@ end_more : (q last : Turn) (later : List Turn) → end_of q (later ++ last ∷ [
 end_more q last [] = refl
 end_more q last (next ∷ later) = end_more next last later
 
--- one more quantum
+-- A stretch goes on by one quantum.
 pub stretch_longer : (these : List Turn) (q : Turn) (s : Interval) → stretch these ≡ Some s → Some (record { start = s.start; end = q.0.end }) ≡ stretch (these ++ q ∷ [])
 stretch_longer [] q s e = absurd (cc)
 stretch_longer (x ∷ later) q s e =
@@ -35,11 +35,11 @@ module _ (phase : PhaseName) (these : List Turn) (q : Turn) where
   found_more : found_in phase (these ++ q ∷ []) ≡ found_in phase these ++ found (is_name phase q.1.phase)
   found_more = filter-append (λ (x : Turn). is_name phase x.1.phase) these (q ∷ [])
 
-  -- it found the collector in the phase
+  -- The next quantum found the collector in the phase.
   pub found_there : true ≡ is_name phase q.1.phase → found_in phase (these ++ q ∷ []) ≡ found_in phase these ++ q ∷ []
   found_there e = found_more ∙ ap (λ b. found_in phase these ++ found b) (sym e)
 
-  -- or it didn't
+  -- The next quantum didn't find the collector in the phase.
   pub found_elsewhere : false ≡ is_name phase q.1.phase → found_in phase (these ++ q ∷ []) ≡ found_in phase these
   found_elsewhere e = found_more ∙ ap (λ b. found_in phase these ++ found b) (sym e) ∙ append-nil (found_in phase these)
 
@@ -83,7 +83,7 @@ pub record IsOn (old new : List ℕ) (all left : List Turn) (cycle : CycleSpans)
 its_events : (these : List Turn) (cycle : CycleSpans) (events : List (Option TraceEvent)) → cycle ≡ spans_of these → events ≡ span_events cycle → present events ≡ cycle_events these
 its_events these cycle events has draws = ap present draws ∙ ap (λ c. present (span_events c)) has
 
--- before the first turn
+-- The spans begin before the first turn.
 pub first_on : (old : List ℕ) {quanta quanta' : List Interval} {starts starts' : List QuantumStart} (cycle : CycleSpans) → quanta' ≡ quanta → starts' ≡ starts → cycle ≡ spans_of [] → IsOn old old (zip quanta starts) (zip quanta' starts') cycle
 first_on old {quanta} {quanta'} {starts} {starts'} cycle q s has =
     let left : zip quanta' starts' ≡ zip quanta starts = ap₂ (λ (a : List Interval) (b : List QuantumStart). zip a b) q s in

@@ -35,7 +35,7 @@ is_over (phases.Marking part cell) e = absurd (let z : false ≡ true = e in cc)
 is_over (phases.Sweeping page block) e = absurd (let z : false ≡ true = e in cc)
 is_over (phases.Moving m) e = absurd (let z : false ≡ true = e in cc)
 
--- one step more
+-- The steps go on by one.
 quanta_more : (steps : List Step) (s : Step) → quanta_of (steps ++ s ∷ []) ≡ quanta_of steps ++ quanta_of (s ∷ [])
 quanta_more steps s = ap (map quantum_of) (filter-append works steps (s ∷ [])) ∙ map-append quantum_of (filter works steps) (filter works (s ∷ []))
 

@@ -53,11 +53,11 @@ module _ {A : Type 0} {text : List A → List ℕ} (w : IsText text) where
     split : all ≡ so.done ++ (here ++ behind)
     split = so.still ∙ ap (λ xs. so.done ++ xs) is
 
-    -- with those that come next
+    -- The next pieces are written, too.
     pub further : new ≡ mid ++ text here → SoFar text old new all behind
     further e = record { done = so.done ++ here; written = more old mid so.done so.written new here e; still = split ∙ sym (append_assoc so.done here behind) }
 
-    -- with a part of them
+    -- A part of the next pieces is written.
     pub cut_short : GrowsByPart mid new (text here) → GrowsByPart old new (text all)
     cut_short g =
         let Part : List A → Type 0 = λ xs. GrowsByPart old new (text xs) in
@@ -68,7 +68,7 @@ module _ {A : Type 0} {text : List A → List ℕ} (w : IsText text) where
     pub to_last : new ≡ mid ++ text rest → new ≡ old ++ text all
     to_last e = more old mid so.done so.written new rest e ∙ ap (λ xs. old ++ text xs) (sym so.still)
 
-    -- with a part of it
+    -- A part of the last pieces is written.
     pub in_last : GrowsByPart mid new (text rest) → GrowsByPart old new (text all)
     in_last g = cut_short old mid all rest so rest [] (sym (append-nil rest)) new g
 

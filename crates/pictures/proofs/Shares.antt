@@ -9,7 +9,7 @@ use Rattle.pictures.specs.declared.share.Share.{Share}
 use Rattle.pictures.specs.declared.share.TheConstants.{WINDOWS}
 use Rattle.pictures.specs.Utilisation.{span_of, IsShare, AreShares}
 
--- one pair more
+-- The rows go on by one pair.
 pub zip_more : {A B : Type 0} (R : A → B → Type 0) (xs : List A) (ys : List B) (x : A) (y : B) → AllZip R xs ys → R x y → AllZip R (xs ++ x ∷ []) (ys ++ y ∷ [])
 zip_more R [] [] x y h r = (r, tt)
 zip_more R [] (b ∷ ys) x y h r = elim h [ ]

@@ -28,7 +28,7 @@ fn allocated_on(heap: &Heap, number: usize) -> Allocated
     }
 }
 
-/// Those of all pages. It takes time that is linear in the pages.
+/// Returns the allocated blocks of all pages, in time linear in the pages.
 pub(crate) fn blocks_of(heap: &Heap) -> Allocated
     ensures { result ≡ allocated_in heap.now.store.pages }
 {

@@ -35,7 +35,7 @@ fn longer(so_far: Option<Interval>, quantum: &Interval, start: &QuantumStart) ->
     }
 }
 
-/// Whether two names of phases are the same.
+/// Returns whether two names of phases are the same.
 fn is_name(one: PhaseName, other: PhaseName) -> bool
     ensures { result ≡ is_name one other }
 {
@@ -48,7 +48,7 @@ fn is_name(one: PhaseName, other: PhaseName) -> bool
     }
 }
 
-/// The same of the quanta that found the collector in a phase, where one more may have.
+/// Returns the span of the quanta that found the collector in a phase, with one quantum more, if it did.
 fn longer_in(
     phase: PhaseName,
     so_far: Option<Interval>,
@@ -65,7 +65,7 @@ fn longer_in(
     }
 }
 
-/// The event of a span, if there is one.
+/// Returns the event of a span, if there is one.
 fn span_event(span: Span, ticks: Option<Interval>) -> Option<TraceEvent>
     ensures { result ≡ span_event span ticks }
 {
@@ -106,7 +106,7 @@ impl CycleSpans {
         }
     }
 
-    /// Their events, if they are there.
+    /// Returns the events of the spans, if they are there.
     fn events(self) -> [Option<TraceEvent>; 5]
         ensures { result ≡ span_events self }
     {

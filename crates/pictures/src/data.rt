@@ -20,7 +20,7 @@ use size_classes::Config;
 use std::alloc::{AllocError, Global};
 use trace::{Observed, PlayFault, Player, Source, observe};
 
-/// The pages of a configuration, and its roots.
+/// Returns the text of the pages of a configuration and its roots.
 fn room_text(alloc: Global, config: &Config) -> Result<String, AllocError>
     ensures { IfOk result (λ text. string_bytes text ≡ room_text config.now) }
 {
@@ -31,7 +31,7 @@ fn room_text(alloc: Global, config: &Config) -> Result<String, AllocError>
     )
 }
 
-/// The identities of a configuration, and when it moves.
+/// Returns the text of the identities of a configuration, and of when it moves.
 fn moving_text(alloc: Global, config: &Config) -> Result<String, AllocError>
     ensures { IfOk result (λ text. string_bytes text ≡ moving_text config.now) }
 {
@@ -45,7 +45,7 @@ fn moving_text(alloc: Global, config: &Config) -> Result<String, AllocError>
     )
 }
 
-/// The schedule of a configuration, and its mutators that are live at first.
+/// Returns the text of the schedule of a configuration, and of the mutators that are live at first.
 fn schedule_text(alloc: Global, config: &Config) -> Result<String, AllocError>
     ensures { IfOk result (λ text. string_bytes text ≡ schedule_text config.now) }
 {
@@ -56,7 +56,7 @@ fn schedule_text(alloc: Global, config: &Config) -> Result<String, AllocError>
     )
 }
 
-/// The settings of a configuration.
+/// Returns the text of the settings of a configuration.
 fn settings_text(alloc: Global, config: &Config) -> Result<String, AllocError>
     ensures { IfOk result (λ text. string_bytes text ≡ settings_text config.now) }
 {
@@ -68,8 +68,8 @@ fn settings_text(alloc: Global, config: &Config) -> Result<String, AllocError>
     .concat(alloc)
 }
 
-/// How long a run was: its lines, its commands, the objects that these made, its ticks, and the units that a cycle spends at
-/// most.
+/// Returns the text of a run's length: its lines, its commands, the objects that these made, its ticks, and the units
+/// that a cycle spends at most.
 fn lengths_text(
     alloc: Global,
     lines: u64,
@@ -85,7 +85,8 @@ fn lengths_text(
     )
 }
 
-/// How long a run was that led to a player, and the units that a cycle of the configuration spends at most.
+/// Returns the text of the length of the run that led to a player, with the units that a cycle of the configuration
+/// spends at most.
 fn counts_text(
     alloc: Global,
     config: &Config,
@@ -107,7 +108,7 @@ fn counts_text(
     )
 }
 
-/// The table of refusals.
+/// Returns the table of refusals.
 fn refused_text(alloc: Global, recorded: &Recorded) -> Result<String, AllocError>
     ensures { IfOk result (λ text. string_bytes text ≡ refused_table recorded.now.course.history) }
 {
@@ -115,7 +116,7 @@ fn refused_text(alloc: Global, recorded: &Recorded) -> Result<String, AllocError
     table(alloc, "\"refused\":[[\"number\",\"count\"]", &counts)
 }
 
-/// The table of samples, each of as many moments as the stride says.
+/// Returns the table of samples, each of as many moments as the stride says.
 fn samples_table(alloc: Global, stride: u64, samples: &[Sample]) -> Result<String, AllocError>
     ensures { IfOk result (λ text. string_bytes text ≡ samples_table stride samples.now) }
 {
@@ -125,7 +126,7 @@ fn samples_table(alloc: Global, stride: u64, samples: &[Sample]) -> Result<Strin
     table(alloc, head.as_str(), samples)
 }
 
-/// The table of the samples that were taken.
+/// Returns the table of the samples that were taken.
 fn samples_text(alloc: Global, sampler: Sampler) -> Result<String, NoMemory>
     ensures { IfOk result (SamplesText sampler) }
 {
@@ -133,7 +134,7 @@ fn samples_text(alloc: Global, sampler: Sampler) -> Result<String, NoMemory>
     Ok(samples_table(alloc, samples.stride, samples.items.as_slice())?)
 }
 
-/// The table of cycles, of a run that ends at this heap.
+/// Returns the table of cycles, of a run that ends at this heap.
 fn cycles_text(alloc: Global, log: Log, heap: &Heap) -> Result<String, NoMemory>
     ensures { IfOk result (CyclesText log heap.now) }
 {
@@ -151,7 +152,7 @@ fn quanta_text(alloc: Global, log: &QuantumLog) -> Result<String, AllocError>
     table(alloc, head, log.items.as_slice())
 }
 
-/// The table of windows.
+/// Returns the table of windows.
 fn shares_text(alloc: Global, config: &Config, schedule: &Schedule) -> Result<String, AllocError>
     ensures { IfOk result (λ text. SharesText config.now schedule.now (string_bytes text)) }
 {

@@ -186,7 +186,7 @@ impl DocumentLine for TraceEvent {
     }
 }
 
-/// The share of a number of ticks in others, in thousandths, rounded down; 0 of none.
+/// Returns a number of ticks as a share of others, in thousandths, rounded down; 0 of none.
 fn share(part: u64, ticks: u64) -> u64
     requires { part ≤ ticks }
     ensures { result ≡ 1000 * part / ticks }
@@ -197,7 +197,7 @@ fn share(part: u64, ticks: u64) -> u64
     (1000 * u128::from(part) / u128::from(ticks)) as u64
 }
 
-/// The events of a quantum, by the end of the one before it.
+/// Returns the events of a quantum, by the end of the one before it.
 fn events_of(from: u64, quantum: &Interval) -> [TraceEvent; 3]
     requires { (from ≤ quantum.now.start) × (quantum.now.start ≤ quantum.now.end) }
     ensures { result ≡ quantum_events from quantum.now }
@@ -226,7 +226,7 @@ fn write_quanta<K: Sink>(quanta: &[Interval], sink: &mut K) -> Result<(), WriteF
     Ok(())
 }
 
-/// The end of the last of the intervals, or 0.
+/// Returns the end of the last of the intervals, or 0.
 fn last_end(intervals: &[Interval]) -> u64
     ensures { result ≡ last_end intervals.now }
 {

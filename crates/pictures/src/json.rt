@@ -14,7 +14,7 @@ pub trait JsonRow {
         ensures { IfOk result (λ text. string_bytes text ≡ told self.now) };
 }
 
-/// The text of a number; that of None is `null`.
+/// Returns the text of a number; that of None is `null`.
 fn cell(alloc: Global, number: Option<u128>) -> Result<String, AllocError>
     ensures { IfOk result (λ text. string_bytes text ≡ cell_text number) }
 {
@@ -24,7 +24,7 @@ fn cell(alloc: Global, number: Option<u128>) -> Result<String, AllocError>
     }
 }
 
-/// The text of a row of numbers: a list, behind a comma and on a line of its own.
+/// Returns the text of a row of numbers: a list, after a comma and on a line of its own.
 pub fn row(alloc: Global, first: u64, others: &[Option<u128>]) -> Result<String, AllocError>
     ensures { IfOk result (λ text. string_bytes text ≡ row_text first others.now) }
 {
@@ -37,7 +37,7 @@ pub fn row(alloc: Global, first: u64, others: &[Option<u128>]) -> Result<String,
     Ok(text)
 }
 
-/// The text of a table: its head, a line for each row, and the end of the list.
+/// Returns the text of a table: its head, a line for each row, and the end of the list.
 pub fn table<R: JsonRow>(alloc: Global, head: &str, rows: &[R]) -> Result<String, AllocError>
     ensures { IfOk result (λ text. string_bytes text ≡ table_text head.now R.told rows.now) }
 {

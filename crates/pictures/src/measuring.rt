@@ -8,7 +8,7 @@ use quanta::Schedule;
 use size_classes::Config;
 use std::alloc::{AllocError, Global};
 
-/// The shares of a window, or None if it is longer than the time that has passed, or has no tick.
+/// Returns the shares of a window, or None if it is longer than the time that has passed, or has no tick.
 fn share_of(config: &Config, schedule: &Schedule, window: u64) -> Option<Share>
     ensures none { IsNone result ↔ ((window ≡ 0) ⊎ (span_of schedule.now < window)) }
     ensures share { IfSome result (IsShare config.now schedule.now window) }
@@ -22,7 +22,7 @@ fn share_of(config: &Config, schedule: &Schedule, window: u64) -> Option<Share>
     })
 }
 
-/// The shares of the windows that aren't longer than the time that has passed, the shortest window first.
+/// Returns the shares of the windows that aren't longer than the time that has passed, the shortest window first.
 pub(crate) fn shares(
     alloc: Global,
     config: &Config,

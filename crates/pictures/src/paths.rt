@@ -7,7 +7,7 @@ ghost use Rattle.pictures.specs.PathText.{IsRootLine, step_line, IsPathText, IsR
 use graph_heap::{Limits, NoMemory, Reference, Route, Standing, Step, shortest_path};
 use std::alloc::{AllocError, Global};
 
-/// The line of a root, by its place in the row of roots.
+/// Returns the line of a root, by its place in the row of roots.
 fn root_line(alloc: Global, limits: &Limits, place: usize) -> Result<String, AllocError>
     ensures { IfOk result (λ line. place < root_cells limits.now → IsRootLine limits.now place (string_bytes line)) }
 {
@@ -29,7 +29,7 @@ fn step_line(alloc: Global, step: &Step) -> Result<String, AllocError>
     format!(in alloc; "object {object} cell {cell}\n")
 }
 
-/// The lines of reference cells.
+/// Returns the lines of reference cells.
 fn step_lines(alloc: Global, steps: &[Step]) -> Result<String, AllocError>
     ensures { IfOk result (λ text. string_bytes text ≡ flat_map step_line steps.now) }
 {
@@ -40,7 +40,7 @@ fn step_lines(alloc: Global, steps: &[Step]) -> Result<String, AllocError>
     Ok(text)
 }
 
-/// The lines of a path.
+/// Returns the lines of a path.
 fn route_lines(alloc: Global, limits: &Limits, route: &Route) -> Result<String, AllocError>
     ensures { IfOk result (λ text. route.now.root < root_cells limits.now
         → IsPathText limits.now route.now (string_bytes text)) }

@@ -29,7 +29,7 @@ pub(crate) struct QuantumLog {
     pub is_refused: bool,
 }
 
-/// A quantum of this budget that led to a heap, before which the collector was at this mark.
+/// Returns the quantum of this budget that led to a heap, before which the collector was at this mark.
 fn quantum_between(before: &Mark, budget: u32, recorded: &Recorded) -> Quantum
     ensures { (s : Step) → IsQuantum budget s → IsMark s.before.heap before.now → s.after ≡ recorded.now.course
         → result ≡ quantum_of s }
@@ -53,7 +53,7 @@ impl QuantumLog {
         }
     }
 
-    /// A quantum of this budget was done, before which the collector was at this mark.
+    /// Adds a quantum of this budget, before which the collector was at this mark, unless the collector was idle.
     pub(crate) fn quantum(&mut self, before: &Mark, budget: u32, recorded: &Recorded)
         ensures { (steps : List Step) (s : Step) → HasQuanta steps self.old → IsQuantum budget s
             → IsMark s.before.heap before.now → s.after ≡ recorded.now.course

@@ -11,7 +11,7 @@ pub struct Refused {
     pub count: u64,
 }
 
-/// Whether a command was refused for the reason of this number.
+/// Returns whether a command was refused for the reason of this number.
 fn is_refused(entry: &Entry, number: u8) -> bool
     ensures { result ≡ is_refused number entry.now }
 {
@@ -21,7 +21,7 @@ fn is_refused(entry: &Entry, number: u8) -> bool
     }
 }
 
-/// How many commands of a history were refused for the reason of this number.
+/// Returns how many commands of a history were refused for the reason of this number.
 fn count_of(history: &[Entry], number: u8) -> Refused
     ensures { result ≡ record { number = number; count = count_by (is_refused number) history.now } }
 {
@@ -32,7 +32,7 @@ fn count_of(history: &[Entry], number: u8) -> Refused
     Refused { number, count }
 }
 
-/// How many commands of a history were refused for each of the reasons, in the order of their numbers.
+/// Returns how many commands of a history were refused for each of the reasons, in the order of their numbers.
 pub(crate) fn refusals(history: &[Entry]) -> [Refused; 10]
     ensures { result ≡ refusals_of history.now }
 {
@@ -50,7 +50,7 @@ pub(crate) fn refusals(history: &[Entry]) -> [Refused; 10]
     ]
 }
 
-/// How many objects the entries of a history made.
+/// Returns how many objects the entries of a history made.
 pub(crate) fn made(history: &[Entry]) -> u64
     ensures { result ≡ count_by makes history.now }
 {

@@ -19,7 +19,7 @@ pub(crate) struct RunLog {
 }
 
 impl RunLog {
-    /// Before the first line, of this heap.
+    /// Makes the log before the first line, of this heap.
     pub(crate) fn new(alloc: Global, recorded: &Recorded) -> RunLog
         ensures { HasRun (run_from recorded.now.course) result }
     {

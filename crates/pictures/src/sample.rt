@@ -20,7 +20,7 @@ pub struct Phases {
 }
 
 impl Phases {
-    /// A phase alone; it is none of a cycle's if no cycle is running.
+    /// Returns a phase alone, or no phase, if no cycle is running.
     pub(crate) fn of(phase: Phase) -> Phases
         ensures { result ≡ samples.phases_of phase }
     {
@@ -32,7 +32,7 @@ impl Phases {
         }
     }
 
-    /// The phases that are among these or those.
+    /// Returns the phases that are among these or those.
     pub(crate) fn with(self, those: Phases) -> Phases
         ensures { result ≡ samples.all_phases self those }
     {
@@ -44,7 +44,7 @@ impl Phases {
         }
     }
 
-    /// Their number: 1 for the roots, 2 for marking, 4 for sweeping and 8 for moving, added up.
+    /// Returns the number of these phases: the sum of 1 for the roots, 2 for marking, 4 for sweeping and 8 for moving.
     pub(crate) fn number(self) -> u64
         ensures { result ≡ samples.phases_number self }
     {
@@ -72,7 +72,7 @@ pub struct Sample {
     pub words: u64,
 }
 
-/// How many pages are in use.
+/// Returns how many pages are in use.
 fn pages_used(heap: &Heap) -> u64
     ensures { result ≡ pages_used heap.now }
 {
@@ -96,7 +96,7 @@ impl Sample {
         }
     }
 
-    /// One sample of these moments and of those of a later one.
+    /// Returns one sample of these moments and of those of a later one.
     pub(crate) fn with(self, later: Sample) -> Sample
         ensures { result ≡ samples.joined self later }
     {
@@ -108,7 +108,7 @@ impl Sample {
         }
     }
 
-    /// One sample of these moments and of the present one of a heap.
+    /// Returns one sample of these moments and of the present one of a heap.
     pub(crate) fn with_now(self, heap: &Heap) -> Sample
         ensures { (line : ℕ) → result ≡ samples.joined self (sample_of heap.now line) }
     {

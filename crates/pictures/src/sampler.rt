@@ -62,8 +62,7 @@ impl Sampler {
         }
     }
 
-    /// The event of this line led to this heap: the last sample is of this moment too, or, where its stride is full, a
-    /// new one is.
+    /// Samples the heap to which the event of this line led, in the last sample, or in a new one, if the last is full.
     pub(crate) fn event(&mut self, line: u64, heap: &Heap) -> Result<(), NoMemory>
         requires { (moments : List Moment) × IsAlong moments self.old × (length moments < 2 ^ 64) }
         ensures { OnOk result ((moments : List Moment) → IsAlong moments self.old
@@ -83,7 +82,7 @@ impl Sampler {
         Ok(())
     }
 
-    /// All samples.
+    /// Returns all samples.
     pub(crate) fn finish(self) -> Result<Samples, NoMemory>
         ensures { IfOk result (λ samples. (moments : List Moment) → IsAlong moments self
             → AreSampled moments samples.stride samples.items.items) }

@@ -99,7 +99,7 @@ fn page_row(alloc: Global, heap: &Heap, number: usize) -> Result<String, AllocEr
     }
 }
 
-/// The table of a heap's pages, in their order.
+/// Returns the table of a heap's pages, in their order.
 pub(crate) fn pages_table(alloc: Global, heap: &Heap) -> Result<String, AllocError>
     ensures { IfOk result (λ text. string_bytes text ≡ pages_table heap.now.store.pages) }
 {
@@ -127,7 +127,7 @@ fn shape_row(alloc: Global, cells: &Cells, held: &Held) -> Result<String, AllocE
     )
 }
 
-/// The rows of what was counted.
+/// Returns the rows of the held parts.
 fn shape_rows(alloc: Global, counted: &Counted) -> Result<String, AllocError>
     ensures { IfOk result (λ text. string_bytes text ≡ tables.shapes_table counted.now.each.entries) }
 {
@@ -140,7 +140,7 @@ fn shape_rows(alloc: Global, counted: &Counted) -> Result<String, AllocError>
     Ok(text)
 }
 
-/// The table of the shapes of which a heap holds a part, in rising order of references and then of words.
+/// Returns the table of the shapes of which a heap holds a part, in rising order of references and then of words.
 pub(crate) fn shapes_table(alloc: Global, heap: &Heap) -> Result<String, AllocError>
     ensures { IfOk result (λ text. ShapesTable heap.now (string_bytes text)) }
 {

@@ -14,7 +14,7 @@ next_kept numbers above (Some n) p off is = (Contains-append_left numbers (p ∷
     by_off (inl low) = inl low
     by_off (inr high) = inr (let m = is.2 in omega (arith, high, m))
 
--- one more
+-- One number more is looked at.
 pub next_nearest : (numbers : List ℕ) (above n p : ℕ) → above < p → p ≤ MOST_HEAP_PAGES → IsNext numbers above (Some n) → IsNext (numbers ++ p ∷ []) above (Some (min n p))
 next_nearest numbers above n p low high is = (
   by_min (le_or n p),

@@ -26,11 +26,11 @@ pub concat_more : (lines : List (List ℕ)) (line : List ℕ) → concat (lines 
 concat_more lines line = concat-append lines (line ∷ []) ∙ ap (λ t. concat lines ++ t) (append-nil line)
 
 module _ {A : Type 0} (IsOf : ℕ → A → Type 0) (numbers : List ℕ) where
-  -- none yet
+  -- There is no item yet.
   pub no_items : HasItems IsOf numbers 0 []
   no_items = record { shown = []; in_order = λ rest order. order; each = tt }
 
-  -- the next one
+  -- The next item is added.
   pub one_item : (above : ℕ) (items : List A) (next : ℕ) (item : A) → HasItems IsOf numbers above items → IsNext numbers above (Some next) → IsOf next item → HasItems IsOf numbers next (items ++ item ∷ [])
   one_item above items next item so is one = record {
     shown = so.shown ++ next ∷ [];
@@ -38,7 +38,7 @@ module _ {A : Type 0} (IsOf : ℕ → A → Type 0) (numbers : List ℕ) where
     each = zip_more IsOf so.shown items next item so.each one;
   }
 
-  -- all of them
+  -- All items are there.
   pub all_items : (above : ℕ) (items : List A) → HasItems IsOf numbers above items → IsNext numbers above None → OneForEach IsOf numbers items
   all_items above items so none = record {
     shown = so.shown;
@@ -53,11 +53,11 @@ pub record HasRows (makes : ℕ → Bool) (c : Config) (live : ℕ) (numbers : L
   pub told : text ≡ concat lines
 
 module _ (makes : ℕ → Bool) (c : Config) (live : ℕ) (numbers : List ℕ) where
-  -- none yet
+  -- There is no row yet.
   pub no_rows : (text : List ℕ) → text ≡ [] → HasRows makes c live numbers 0 text
   no_rows text e = record { lines = []; each = no_items (IsRow makes c live) numbers; told = e }
 
-  -- the next one
+  -- The next row is added.
   pub one_row : (above : ℕ) (text : List ℕ) (next : ℕ) (line new : List ℕ) → HasRows makes c live numbers above text → IsNext numbers above (Some next) → IsRow makes c live next line → new ≡ text ++ line → HasRows makes c live numbers next new
   one_row above text next line new so is row e = record {
     lines = so.lines ++ line ∷ [];
@@ -65,7 +65,7 @@ module _ (makes : ℕ → Bool) (c : Config) (live : ℕ) (numbers : List ℕ) w
     told = e ∙ ap (λ t. t ++ line) so.told ∙ sym (concat_more so.lines line);
   }
 
-  -- all of them
+  -- All rows are there.
   pub all_rows : (above : ℕ) (text : List ℕ) → HasRows makes c live numbers above text → IsNext numbers above None → IsTable makes c live numbers text
   all_rows above text so none = record { lines = so.lines; each = all_items (IsRow makes c live) numbers above so.lines so.each none; told = so.told }
 

@@ -44,7 +44,7 @@ impl JsonRow for PlanBar {
     }
 }
 
-/// The figures of a configuration's plan, if there is one.
+/// Returns the figures of a configuration's plan, if there is one.
 fn figures(config: &Config, plan: Option<Plan>) -> Option<PlanFigures>
     requires { IfSome plan (λ plan. 1 ≤ plan.quantum_words) }
     ensures { result ≡ figures_of config.now plan }
@@ -56,7 +56,7 @@ fn figures(config: &Config, plan: Option<Plan>) -> Option<PlanFigures>
     })
 }
 
-/// The bar of the plan on this many pages, where moving follows each sweep and may empty all of them.
+/// Returns the bar of the plan on this many pages, if moving follows each sweep and may empty all of them.
 fn bar(config: &Config, live_words: u64, classes: Option<&[Class]>, pages: u32) -> PlanBar
     requires { (1 ≤ pages) × (pages ≤ MOST_HEAP_PAGES) }
     ensures { IsBar (made_of (option_map (λ used. used.now) classes.entry)) config.now live_words pages result }
@@ -69,7 +69,7 @@ fn bar(config: &Config, live_words: u64, classes: Option<&[Class]>, pages: u32) 
     }
 }
 
-/// A bar for each of some numbers of pages that a heap may have, in rising order, each once.
+/// Returns a bar for each of some numbers of pages that a heap may have, in rising order, each once.
 fn bars(
     alloc: Global,
     config: &Config,
@@ -89,7 +89,7 @@ fn bars(
     Ok(bars)
 }
 
-/// The plans of `plans_report`: one for each number of pages that has a line there.
+/// Returns the plans of `plans_report`: one for each number of pages that has a line there.
 fn plan_bars(
     alloc: Global,
     config: &Config,
@@ -103,7 +103,7 @@ fn plan_bars(
     bars(alloc, config, live_words, classes, &numbers[..count])
 }
 
-/// The table of some plans, for this many live words.
+/// Returns the table of some plans, for this many live words.
 fn table_of(alloc: Global, live: u64, bars: &[PlanBar]) -> Result<String, AllocError>
     ensures { IfOk result (λ text. string_bytes text ≡ plans_table live bars.now) }
 {

@@ -42,7 +42,7 @@ impl LiveMeter {
         })
     }
 
-    /// The words of the blocks of all objects that can be reached.
+    /// Returns the words of the blocks of all reachable objects.
     fn reached(&self) -> Result<u64, NoMemory>
         ensures { IfOk result (ReachedWords self.now.graph) }
     {
@@ -54,7 +54,8 @@ impl LiveMeter {
         Ok(words)
     }
 
-    /// The last object was just made. Only where more may be live than ever before is it looked at what can be reached.
+    /// Counts the last object, which was just made. Searches for reachable objects only if more may be live than ever
+    /// before.
     fn made(&mut self) -> Result<(), NoMemory>
         ensures { OnOk result (MakesLast self.old self.new) }
     {
@@ -67,7 +68,7 @@ impl LiveMeter {
         Ok(())
     }
 
-    /// A command is done, and has this entry.
+    /// Counts a command that was done, with this entry.
     pub(crate) fn command(&mut self, entry: &Entry) -> Result<(), NoMemory>
         ensures { OnOk result (IsEntryOf self.old.graph entry.now
             → Counts self.old (after_entry self.old.graph entry.now) self.new) }
@@ -80,7 +81,7 @@ impl LiveMeter {
         Ok(())
     }
 
-    /// How many blocks of each size class were made.
+    /// Returns how many blocks of each size class were made.
     fn made_blocks(&self) -> Blocks
         ensures { AllFit self.now.graph → AreBlocks result (blocks_of self.now.graph.objects) }
     {

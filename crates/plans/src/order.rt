@@ -4,7 +4,7 @@ ghost use Rattle.plans.specs.Order.{IsNext};
 
 use size_classes::MOST_HEAP_PAGES;
 
-/// The least number above a bound, of those that a heap may have, once one more is looked at.
+/// Returns the least number of pages above a bound, once this number is looked at, of those that a heap may have.
 fn nearest(next: Option<u32>, pages: u32, above: u32) -> Option<u32>
     ensures { (numbers : List ℕ) → IsNext numbers above next → IsNext (numbers ++ pages ∷ []) above result }
 {
@@ -20,7 +20,7 @@ fn nearest(next: Option<u32>, pages: u32, above: u32) -> Option<u32>
     }
 }
 
-/// The least of some numbers of pages above a bound, of those that a heap may have; None if there is none.
+/// Returns the least of some numbers of pages above a bound, of those that a heap may have; None if there is none.
 pub(crate) fn next_of(numbers: &[u32], above: u32) -> Option<u32>
     ensures { IsNext numbers.now above result }
 {

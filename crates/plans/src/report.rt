@@ -9,7 +9,7 @@ use paced::{classes_in, least_pages};
 use size_classes::{Class, Config, MOST_PAGES};
 use std::alloc::{AllocError, Global};
 
-/// How many words are live, the units of a quantum, and for how many size classes the plans are, where some are said.
+/// Returns the line with the live words, the units of a quantum, and the number of size classes, if some are given.
 fn live_line(
     alloc: Global,
     config: &Config,
@@ -29,8 +29,8 @@ fn live_line(
     }
 }
 
-/// The fewest pages on which there is a plan, with the keys to set for them; or that there is one on no number of
-/// pages.
+/// Returns the line with the fewest pages that have a plan, and the keys to set for them; or that no number of pages has
+/// one.
 fn fewest_line(alloc: Global, least: Option<u32>) -> Result<String, AllocError>
     requires { IfSome least (λ pages. pages ≤ MOST_HEAP_PAGES) }
     ensures { IfOk result (λ line. string_bytes line ≡ fewest_line least) }
@@ -79,7 +79,7 @@ pub(crate) fn numbers_told(config: &Config, least: Option<u32>) -> ([u32; 6], us
     }
 }
 
-/// The plans on these numbers of pages.
+/// Returns the plans on these numbers of pages.
 fn plans(
     alloc: Global,
     config: &Config,

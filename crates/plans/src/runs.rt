@@ -8,7 +8,7 @@ use size_classes::{CLASSES, Class, Config};
 use sizing::blocks::Blocks;
 use std::alloc::{AllocError, Global};
 
-/// The size classes of which there are blocks.
+/// Returns the size classes of which there are blocks.
 fn classes_of(alloc: Global, blocks: &Blocks) -> Result<Vec<Class>, AllocError>
     ensures { IfOk result (λ used. AreClasses blocks.now used.items) }
 {

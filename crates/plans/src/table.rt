@@ -8,7 +8,7 @@ use crate::row::row;
 use size_classes::{Class, Config};
 use std::alloc::{AllocError, Global};
 
-/// A line for each of some numbers of pages that a heap may have, in rising order, each once.
+/// Returns a line for each of some numbers of pages that a heap may have, in rising order, each once.
 pub(crate) fn table(
     alloc: Global,
     config: &Config,

@@ -11,7 +11,7 @@ pub struct Interval {
     pub end: u64,
 }
 
-/// The last of the intervals.
+/// Returns the last of the intervals.
 pub(crate) fn last_of(intervals: &[Interval]) -> Option<Interval>
     ensures { result ≡ last_or None intervals.now }
 {

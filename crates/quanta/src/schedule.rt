@@ -39,7 +39,7 @@ impl Model for Schedule {
 }
 
 impl Schedule {
-    /// A schedule at time 0, without intervals and with no cycle running. It takes no memory.
+    /// Returns a schedule at time 0, without intervals and with no cycle running. It takes no memory.
     pub fn new(alloc: Global, config: &Config) -> Schedule
         ensures { result ≡ opening config.now.collector_ticks config.now.mutator_ticks }
     {
@@ -71,8 +71,8 @@ impl Schedule {
         self.due = None;
     }
 
-    /// The time at which a quantum is due, in ticks, or None if no cycle is running or that time isn't
-    /// below `until`.
+    /// Returns the time at which a quantum is due, in ticks, or None if no cycle is running or that time isn't below
+    /// `until`.
     pub fn next_quantum(&self, until: u64) -> Option<u64>
         ensures due { result ≡ due_below until self.now.due }
         ensures found { IfSome result (λ due. (self.now.due ≡ Some due) × (due < until)) }
@@ -122,7 +122,7 @@ impl Schedule {
         Ok(())
     }
 
-    /// The clock, in ticks.
+    /// Returns the clock, in ticks.
     pub fn now(&self) -> u64
         ensures clock { result ≡ self.now.clock }
         ensures within { result ≤ CLOCK_LIMIT }
@@ -130,7 +130,7 @@ impl Schedule {
         self.clock
     }
 
-    /// The intervals of all quanta that were placed, the first one first.
+    /// Returns the intervals of all quanta that were placed, the first one first.
     pub fn intervals(&self) -> &[Interval]
         ensures intervals { result.now ≡ self.now.intervals }
         ensures spaced { IsSpaced self.now.collector_ticks self.now.mutator_ticks result.now }
@@ -139,8 +139,7 @@ impl Schedule {
         self.intervals.as_slice()
     }
 
-    /// The ticks that the schedule covers: the clock or, if it is later, the end of the last
-    /// interval.
+    /// Returns the ticks that the schedule covers: the clock or, if it is later, the end of the last interval.
     pub fn span(&self) -> u64
         ensures span { result ≡ max self.now.clock (last_end self.now.intervals) }
         ensures within { result ≤ CLOCK_LIMIT + self.now.collector_ticks }

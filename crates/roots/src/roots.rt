@@ -118,14 +118,14 @@ impl Roots {
         self.cells[cell] = reference;
     }
 
-    /// All cells.
+    /// Returns all cells.
     pub fn cells(&self) -> &[u64]
         ensures { result.now ≡ self.now.cells }
     {
         self.cells.as_slice()
     }
 
-    /// How many cells aren't null.
+    /// Returns how many cells aren't null.
     pub fn used(&self) -> usize
         ensures used { result ≡ used_in self.now.cells }
         ensures within { result ≤ length self.now.cells }

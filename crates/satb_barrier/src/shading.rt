@@ -14,7 +14,7 @@ ghost use Rattle.satb_barrier.specs.Recording.{buffers_after};
 use crate::list::{make_room, push_grey, push_record};
 use nodes::HeapFields;
 
-/// Whether a part is marked, by reference: whether its colour is the one that means so. Null always is.
+/// Returns whether a part is marked, by reference: whether its colour is the one that means so. Null always is.
 pub fn is_marked(heap: &HeapFields, reference: u64) -> bool
     requires { reference ≢ 0 → is_allocated heap.now.nodes (reference - 1) ≡ true }
     ensures { result ≡ (seen (state_of heap.now)).marked reference }

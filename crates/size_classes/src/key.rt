@@ -60,7 +60,7 @@ impl Key {
         Key::Live,
     ];
 
-    /// The name by which a file gives it.
+    /// Returns the name by which a file gives the key.
     pub fn name(self) -> &'static str
         ensures { result.now ≡ name_of self }
     {
@@ -103,7 +103,7 @@ impl Key {
         }
     }
 
-    /// Whether a value is in its range, if there are this many mutators.
+    /// Returns whether a value is in its range, if there are this many mutators.
     #[tactic(auto, unfolding(crate::specs::Keys::is_between))]
     pub fn allows(self, ranges: Ranges, mutators: i64, value: i64) -> bool
         ensures { result ≡ is_allowed ranges mutators self value }

@@ -61,7 +61,7 @@ impl Need {
         need
     }
 
-    /// How many blocks of a class.
+    /// Returns the number of needed blocks of a class.
     pub fn blocks(&self, class: Class) -> u32
         ensures { result ≡ slice_index self.now class }
     {

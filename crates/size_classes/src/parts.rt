@@ -9,14 +9,14 @@ use std::marker::Model;
 /// How many cells a part has at most.
 pub const PART_CELLS: usize = 252;
 
-/// How many pieces an object with this many cells has: one for each 252 cells, and at least one.
+/// Returns how many pieces an object with this many cells has: one for each 252 cells, and at least one.
 fn pieces_in(cells: usize) -> usize
     ensures { result ≡ pieces_of cells }
 {
     cells.div_ceil(PART_CELLS).max(1)
 }
 
-/// How many spines an object with this many cells has: none, one, or a root spine and middle spines.
+/// Returns how many spines an object with this many cells has: none, one, or a root spine and middle spines.
 pub fn spines_in(cells: usize) -> usize
     ensures { result ≡ spines_of cells }
 {
@@ -130,7 +130,7 @@ impl Model for Parts {
 }
 
 impl Parts {
-    /// How many pieces the object has.
+    /// Returns how many pieces the object has.
     pub fn pieces(&self) -> u32
         ensures pieces { result ≡ pieces_of self.now }
         ensures within { (1 ≤ result) × (result ≤ 15874) }
@@ -138,7 +138,7 @@ impl Parts {
         pieces_in(self.cells as usize) as u32
     }
 
-    /// How many spines stand before the pieces.
+    /// Returns how many spines come before the pieces.
     pub fn spines(&self) -> u32
         ensures spines { result ≡ spines_of self.now }
         ensures within { result ≤ 64 }
@@ -146,7 +146,7 @@ impl Parts {
         spines_in(self.cells as usize) as u32
     }
 
-    /// How many parts the object has.
+    /// Returns how many parts the object has.
     #[inline(always)]
     pub fn count(&self) -> u32
         ensures count { result ≡ parts_in self.now }
@@ -158,7 +158,7 @@ impl Parts {
         self.spines() + self.pieces()
     }
 
-    /// The cell that refers to a part but part 0.
+    /// Returns the cell that refers to a part other than part 0.
     pub fn position(&self, part: u32) -> Position
         requires some { 0 < part }
         requires part { part < parts_in self.now }
@@ -168,7 +168,7 @@ impl Parts {
         Position::of_part(self.cells as usize, part)
     }
 
-    /// How many words a part has, its header of four words included.
+    /// Returns how many words a part has, its header of four words included.
     #[inline(always)]
     pub fn words(&self, part: u32) -> u32
         requires { part < parts_in self.now }
@@ -182,7 +182,7 @@ impl Parts {
     }
 }
 
-/// The parts of an object of a shape, or None if the shape is too large.
+/// Returns the parts of an object of a shape, or None if the shape is too large.
 #[inline(always)]
 pub fn parts_of(shape: &Shape) -> Option<Parts>
     ensures none { IsNone result ↔ (fits shape.now ≡ false) }

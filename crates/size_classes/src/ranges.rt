@@ -15,7 +15,7 @@ pub enum Ranges {
 }
 
 impl Ranges {
-    /// The most pages that may be asked for.
+    /// Returns the most pages that may be asked for.
     pub fn most_pages(self) -> u32
         ensures { result ≡ most_pages self }
     {

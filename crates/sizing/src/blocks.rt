@@ -17,7 +17,7 @@ pub fn none() -> Blocks
     [0; CLASSES]
 }
 
-/// The blocks that an object of a shape needs; none if the shape is too large.
+/// Returns the blocks that an object of a shape needs; none if the shape is too large.
 pub fn needed_by(shape: &Shape) -> Blocks
     ensures { fits shape.now ≡ true → AreBlocks result (needed shape.now) }
 {
@@ -51,7 +51,7 @@ pub fn raise(blocks: &mut Blocks, least: &Blocks)
     }
 }
 
-/// The same as a table, or None if a count is more than a table can hold.
+/// Returns the blocks as a table, or None if a count is more than a table can hold.
 pub fn table(blocks: &Blocks) -> Option<[u64; CLASSES]>
     ensures some { IfSome result (λ t. IsTable (2 ^ 64) t blocks.now) }
     ensures none { IsNone result → HasOver (2 ^ 64) blocks.now }
@@ -59,7 +59,7 @@ pub fn table(blocks: &Blocks) -> Option<[u64; CLASSES]>
     blocks.try_map(u64::try_from).ok()
 }
 
-/// The same as a table of smaller numbers.
+/// Returns the blocks as a table of smaller numbers, or None if a count is more than it can hold.
 pub fn small_table(blocks: &Blocks) -> Option<[u32; CLASSES]>
     ensures some { IfSome result (λ t. IsTable (2 ^ 32) t blocks.now) }
     ensures none { IsNone result → HasOver (2 ^ 32) blocks.now }

@@ -44,7 +44,7 @@ pub struct Meter {
     budget: Option<u32>,
 }
 
-/// The blocks for which is asked by this shape, or by none.
+/// Returns the blocks that an object of this shape needs, or none without a shape.
 fn blocks_for(shape: Option<Shape>) -> Blocks
     ensures some { IfSome shape (λ s. fits s ≡ true → AreBlocks result (needed s)) }
     ensures none { IsNone shape → AreBlocks result (λ class. 0) }
@@ -55,7 +55,7 @@ fn blocks_for(shape: Option<Shape>) -> Blocks
     }
 }
 
-/// The lesser of two budgets, or the only one.
+/// Returns the lesser of two budgets, or the only one.
 fn least_of(least: Option<u32>, budget: u32) -> u32
     ensures { (k : ℕ) → k ≤ result ↔ (IfSome least (λ n. k ≤ n) × (k ≤ budget)) }
 {
@@ -85,7 +85,7 @@ impl Meter {
         })
     }
 
-    /// Whether a cycle is running.
+    /// Returns whether a cycle is running.
     pub(crate) fn is_cycle_running(&self) -> bool
         ensures { result ≡ self.now.cycle_running }
     {
@@ -128,7 +128,7 @@ impl Meter {
         Ok((self.graph.count() > before, blocks_for(shape)))
     }
 
-    /// A command is done, and has this entry.
+    /// Counts a command that was done, with this entry.
     pub(crate) fn command(&mut self, entry: &Entry) -> Result<(), NoMemory>
         ensures { OnOk result ((l : Bounds) (es : List Event) (r new : Course) → Measures l es r self.old → IsCourse r
             → Enters r entry.now.mutator entry.now.command entry.now.reply new
@@ -142,7 +142,7 @@ impl Meter {
         Ok(())
     }
 
-    /// The blocks that the objects need that can be reached.
+    /// Returns the blocks that the reachable objects need.
     fn reached(&self) -> Result<Blocks, NoMemory>
         ensures { IfOk result (λ blocks. AllFit self.now.graph → (ids : List ℕ) × AreReached self.now.graph ids
             × AreBlocks blocks (blocks_by self.now.graph ids)) }
@@ -155,7 +155,7 @@ impl Meter {
         Ok(blocks)
     }
 
-    /// A cycle is begun.
+    /// Notes that a cycle is begun.
     pub(crate) fn begun(&mut self) -> Result<(), NoMemory>
         ensures { OnOk result ((l : Bounds) (es : List Event) (r new : Course) → Measures l es r self.old → IsCourse r
             → Begins r new → Measures l (es ++ Cycle_begun ∷ []) new self.new) }
@@ -182,7 +182,7 @@ impl Meter {
         }
     }
 
-    /// Quanta of a budget are done, one at least, and the last of them ends in this phase.
+    /// Notes that quanta of a budget are done, one at least, of which the last ends in this phase.
     pub(crate) fn quanta(&mut self, budget: u32, phase: Phase)
         ensures { (l : Bounds) (es quanta : List Event) (r new : Course) → Measures l es r self.old → IsCourse r
             → Works budget quanta r new → new.heap.phase ≡ phase → Measures l (es ++ quanta) new self.new }
@@ -192,7 +192,7 @@ impl Meter {
         self.budget = Some(least_of(self.budget, budget));
     }
 
-    /// The pace of the greatest numbers, if it can be stated.
+    /// Returns the pace of the greatest numbers, if it can be stated.
     fn pace(&self) -> Option<Pace>
         ensures some { IfSome result (λ p. IsTable (2 ^ 32) p.live self.now.live × IsTable (2 ^ 64) p.busy self.now.busy
             × IsTable (2 ^ 64) p.idle self.now.idle) }

@@ -55,7 +55,7 @@ impl Most {
         self.live = self.live.max(pages_of(live));
     }
 
-    /// The same as numbers that can be stated, if each can.
+    /// Returns the needs as numbers that can be stated, if each can.
     pub fn needed(&self) -> Option<Needed>
         ensures some { IfSome result (λ n. AreStated n self.now) }
         ensures none { IsNone result → CannotBeStated self.now }

@@ -25,7 +25,7 @@ pub struct Needed {
     pub made: u64,
 }
 
-/// Whether moving follows each sweep, and may empty as many pages as there are.
+/// Returns whether moving follows each sweep, and may empty as many pages as there are.
 fn moves_all(config: &Config) -> bool
     ensures { result ≡ moves_all config.now }
 {
@@ -76,15 +76,16 @@ impl Needed {
         self.pages(spare).min(unmoved.min(sparse))
     }
 
-    /// How many suffice whatever the sizes of objects are and however these shift, where moving follows each sweep and
-    /// may empty all pages.
+    /// Returns how many pages suffice whatever the sizes of objects are and however these shift, if moving follows each
+    /// sweep and may empty all pages.
     pub fn budgeted(&self) -> u128
         ensures { result ≡ demand_pages (page_demand_in self.now) }
     {
         u128::from(self.live) + 2 * u128::from(self.made) + CLASSES as u128
     }
 
-    /// The fewest that suffice, without moving or with moving after each sweep that may empty all pages, and at least one.
+    /// Returns the fewest pages that suffice, without moving or with moving after each sweep that may empty all pages; at
+    /// least one.
     pub fn fewest(&self) -> u128
         ensures { result ≡ fewest_pages self.now }
     {
@@ -92,7 +93,7 @@ impl Needed {
         self.still().min(moving).max(1)
     }
 
-    /// How many a configuration must have.
+    /// Returns how many pages a configuration must have.
     pub fn pages_in(&self, config: &Config) -> u128
         ensures { result ≡ needed_pages config.now self.now }
     {

@@ -12,7 +12,7 @@ use size_classes::{CLASSES, Class};
 use space::pages::MOST_BLOCKS;
 use space::pages_of_class;
 
-/// The whole pages that this many blocks of a class take, by its number.
+/// Returns the whole pages that this many blocks take, of the class with this number.
 pub fn whole_of(number: usize, blocks: u128) -> u128
     requires class { number < CLASSES }
     requires blocks { blocks ≤ MOST_BLOCKS }
@@ -22,8 +22,8 @@ pub fn whole_of(number: usize, blocks: u128) -> u128
     pages_of_class(Class::new(number as u8), blocks, 0)
 }
 
-/// The pages of a class whose blocks were gathered, for this many: one more if they fill a page, because one may be
-/// left.
+/// Returns the pages that this many gathered blocks of a class take: one more than whole pages if they fill a page,
+/// because one may be left.
 pub fn gathered_of(number: usize, blocks: u128) -> u128
     requires class { number < CLASSES }
     requires blocks { blocks ≤ MOST_BLOCKS }
@@ -35,7 +35,7 @@ pub fn gathered_of(number: usize, blocks: u128) -> u128
     pages_of_class(class, blocks, u32::from(left))
 }
 
-/// The whole pages that this many blocks of each class take.
+/// Returns the whole pages that this many blocks of each class take.
 pub fn pages_of(blocks: &Blocks) -> u128
     ensures { (n : ℕ → ℕ) → AreBlocks blocks.now n → IsPages result (pages_of n) }
 {
@@ -46,7 +46,7 @@ pub fn pages_of(blocks: &Blocks) -> u128
     pages
 }
 
-/// The pages of those blocks of each class that were gathered, and of those made since.
+/// Returns the pages of the gathered blocks of each class, and of those made since.
 pub fn season_pages(before: &Blocks, made: &Blocks) -> u128
     ensures { (b m : ℕ → ℕ) → AreBlocks before.now b → AreBlocks made.now m → IsPages result (pages_gathered b m) }
 {

@@ -4,7 +4,7 @@ ghost use Rattle.space.specs.Pace as pace;
 
 use heap_model::phase::Phase;
 
-/// Whether a cycle is running.
+/// Returns whether a cycle is running.
 pub fn in_cycle(phase: Phase) -> bool
     ensures { result ≡ pace.in_cycle phase }
 {

@@ -63,7 +63,7 @@ impl Season {
         self.since_last = none();
     }
 
-    /// The sweep of the last cycle has ended.
+    /// Notes that the sweep of the last cycle has ended.
     fn swept(&mut self)
         ensures { IsSwept self.old self.new }
     {

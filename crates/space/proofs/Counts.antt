@@ -228,7 +228,7 @@ fresh_main class k = by_class (class == k)
     by_class true = sum_by-replicate (λ b. one_if b) (blocks_in class) false ∙ mul-zero (blocks_in class)
     by_class false = refl
 
--- one page for another in the list
+-- One page replaces another in the list.
 module _ (old new : List (Option Page)) (page : ℕ) (o v : Option Page) (l : page < length old) (at : page_at old page ≡ o) (is : new ≡ set old page v) where
   pub used_set : (k : ℕ) → used_pages new k + one_if (is_of k o) ≡ used_pages old k + one_if (is_of k v)
   used_set k = ap (λ z. used_pages z k + one_if (is_of k o)) is ∙ set_sum (λ z. one_if (is_of k z)) old page o v None l at

@@ -302,7 +302,7 @@ runs_find_room (e ∷ es) r new t d spare w k runs keeps =
     let s = tracked_does r e runs.0 t d spare w k keeps.0 runs.1 in
     (s.1, runs_find_room es runs.0 new (after_event t e) d spare (does_course r e runs.0 w runs.1) s.0 runs.2 keeps.1)
 
--- from an opening heap
+-- The run begins in an opening heap.
 module _ (h : HeapState) (o : IsOpening h) (some : 0 < length h.store.pages) where
   none_allocated : (b : ℕ) → is_allocated h.store b ≡ true → ⊥
   none_allocated b l = let q = allocated_block h.store b l in let z : None ≡ Some q.0 = sym (ap (λ y. page_at y (b / 2048)) o.pages ∙ page_none (length h.store.pages) (b / 2048)) ∙ q.2.page in cc

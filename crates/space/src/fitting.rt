@@ -10,7 +10,7 @@ ghost use Rattle.size_classes.specs.declared.config.TheConstants.{MOST_HEAP_PAGE
 use crate::pace::{MOST_QUANTA, MOST_UNMOVED_QUANTA, Pace};
 use size_classes::{CLASSES, Config, LEAST_BUDGET, MOST_BLOCKS, MOST_PAGES, PAGE_WORDS};
 
-/// How many pages may be left sparse: as many as a cycle may empty, and none where blocks are never moved.
+/// Returns how many pages may be left sparse: as many as a cycle may empty, and none if blocks are never moved.
 pub fn spare(config: &Config) -> u32
     ensures { result ≡ spare_in config.now }
 {
@@ -21,7 +21,7 @@ pub fn spare(config: &Config) -> u32
     }
 }
 
-/// Below how many free pages moving follows a sweep; 0 if no page may be emptied.
+/// Returns below how many free pages moving follows a sweep; 0 if no page may be emptied.
 pub fn below(config: &Config) -> u32
     ensures { result ≡ below_in config.now }
 {
@@ -32,7 +32,7 @@ pub fn below(config: &Config) -> u32
     }
 }
 
-/// The units that roots, marking and sweeping spend at most, in a heap of the configuration with this many pages.
+/// Returns the units that roots, marking and sweeping spend at most, in a heap of the configuration with this many pages.
 fn swept(config: &Config, pages: u32) -> u64
     requires { pages ≤ MOST_HEAP_PAGES }
     ensures swept { result ≡ swept_units (config.now.mutators * config.now.slots + config.now.statics) pages }
@@ -73,8 +73,8 @@ pub fn moved_quanta(config: &Config, pages: u32, emptied: u32) -> u64
     (swept(config, pages) + moving + left * ended) / budget + 1
 }
 
-/// The quanta that a cycle takes at most up to its sweep's end, and where moving never begins: each spends its whole
-/// budget.
+/// Returns the quanta that a cycle takes at most up to its sweep's end, or as a whole if moving never begins: each spends
+/// its whole budget.
 pub fn unmoved_quanta(config: &Config, pages: u32) -> u64
     requires { pages ≤ MOST_HEAP_PAGES }
     ensures quanta { result ≡ unmoved_quanta_at config.now pages }
@@ -124,7 +124,7 @@ pub fn pace_needs(config: &Config, pace: &Pace, pages: u32) -> Needs
     }
 }
 
-/// Whether a pace takes no more than this many pages in a heap that has this many.
+/// Returns whether a pace takes no more than this many pages in a heap that has this many.
 fn fits_in(config: &Config, pace: &Pace, pages: u32) -> bool
     requires { pages ≤ MOST_HEAP_PAGES }
     ensures { IsTrue result ↔ FitsIn config.now (pace_in pace.now) pages }
@@ -132,7 +132,7 @@ fn fits_in(config: &Config, pace: &Pace, pages: u32) -> bool
     pace_needs(config, pace, pages).pages <= u128::from(pages)
 }
 
-/// Whether the pages of a configuration are as many as a pace takes.
+/// Returns whether the pages of a configuration are as many as a pace takes.
 pub fn pace_fits(config: &Config, pace: &Pace) -> bool
     ensures { IsTrue result ↔ FitsIn config.now (pace_in pace.now) config.now.pages }
 {

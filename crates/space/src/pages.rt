@@ -10,7 +10,7 @@ pub const MOST_BLOCKS: u128 = 20_000_000_000_000_000_000_000_000_000_000_000;
 /// More pages than those blocks take, with all that may be left sparse.
 pub const MOST_CLASS_PAGES: u128 = 20_000_000_000_000_000_000_000_010_000_000_000;
 
-/// The pages that a class takes for this many blocks, with those that may be left sparse.
+/// Returns the pages that a class takes for this many blocks, with those that may be left sparse.
 pub fn pages_of_class(class: Class, blocks: u128, spare: u32) -> u128
     requires { blocks ≤ MOST_BLOCKS }
     ensures pages { result ≡ class_pages spare class blocks }

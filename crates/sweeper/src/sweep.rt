@@ -123,7 +123,7 @@ fn close_pages(heap: &mut HeapFields, page: u32, block: u32, room: u32)
     heap.charge((next - page - 1) * CLOSE, place);
 }
 
-/// Whether a block of a page is allocated and isn't marked.
+/// Returns whether a block of a page is allocated and isn't marked.
 fn is_garbage(heap: &HeapFields, page: usize, block: usize) -> bool
     requires { page < length heap.now.nodes.pages }
     ensures { result ≡ sweeping.is_garbage (state_of heap.now) (page_at heap.now.nodes.pages page) page block }
@@ -134,7 +134,7 @@ fn is_garbage(heap: &HeapFields, page: usize, block: usize) -> bool
     }
 }
 
-/// The first page from one on, up to another, that isn't free; the other where all are.
+/// Returns the first page from one on, up to another, that isn't free; the other if all are free.
 fn free_until(nodes: &Nodes, from: usize, end: usize) -> usize
     requires from { from ≤ end }
     requires within { end ≤ length nodes.now.pages }
@@ -194,7 +194,8 @@ fn sweep_rest(heap: &mut HeapFields, page: u32, block: u32, count: u32)
     heap.charge(count * LOOK + CLOSE, place);
 }
 
-/// The phase after a sweep: moving begins if pages may be emptied, and fewer are free than the configuration asks for.
+/// Returns the phase after a sweep: moving begins if pages may be emptied, and fewer are free than the configuration asks
+/// for.
 fn after_sweep(heap: &HeapFields) -> Phase
     ensures { result ≡ actions.after_sweep (state_of heap.now) }
 {

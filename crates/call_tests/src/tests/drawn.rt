@@ -37,7 +37,7 @@ impl Draws {
         self.below(13)
     }
 
-    /// A static: there is none.
+    /// Returns a static: there is none.
     fn place(&mut self) -> u32 {
         self.below(2)
     }
@@ -64,7 +64,7 @@ impl Draws {
         }
     }
 
-    /// A command that makes or moves references.
+    /// Returns a command that makes or moves references.
     fn of_references(&mut self, number: u32) -> Command {
         match number {
             0 => Command::New {
@@ -90,7 +90,7 @@ impl Draws {
         }
     }
 
-    /// A command on words, or on slots alone.
+    /// Returns a command on words, or on slots alone.
     fn of_words(&mut self, number: u32) -> Command {
         match number {
             4 => Command::Get {
@@ -116,7 +116,7 @@ impl Draws {
         }
     }
 
-    /// A command on statics, or one that asks.
+    /// Returns a command on statics, or one that asks.
     fn of_statics(&mut self, number: u32) -> Command {
         match number {
             9 => Command::LoadStatic {

@@ -6,12 +6,12 @@ use machine::Heap;
 
 const SHAPE: Shape = Shape::Plain { refs: 2, words: 3 };
 
-/// Whether `done` commands were done, and then one was refused for this reason, or none.
+/// Returns whether `done` commands were done, and then one was refused for this reason, or none.
 fn is(told: Progress, done: u32, refused: Option<Refusal>) -> bool {
     told == Progress { done, refused }
 }
 
-/// An object that holds itself and null is made; its words are written past the last, and read past it.
+/// Makes an object that holds itself and null. Its words are written past the last, and read past it.
 fn words_go_in_and_out(heap: &mut Heap) -> bool {
     let mut words = [1, 2, 3, 4];
     let made = new_with(heap, 0, 0, SHAPE, [0, 1].as_slice(), [7, 8].as_slice());

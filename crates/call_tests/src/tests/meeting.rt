@@ -33,7 +33,7 @@ impl Meeting {
         }
     }
 
-    /// Whether all three have come, having done as much.
+    /// Returns whether all three have come and have done as much.
     fn is_met(&self, made: usize) -> bool
         requires { made < 2 }
     {

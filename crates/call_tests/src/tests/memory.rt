@@ -28,7 +28,7 @@ fn of_a_slow_heap(rt: HostRuntime) -> Result<(), NoMemory> {
     Ok(())
 }
 
-/// A page with its history.
+/// Returns a page with its history.
 fn recorded(rt: &(impl Abort + AllocGlobal)) -> Result<Recorded, NoMemory> {
     Recorded::new(rt.alloc(), &config_of(rt, &ONE_PAGE))
 }

@@ -15,12 +15,12 @@ const SLOW: Settings = Settings {
     ..FOUR_PAGES
 };
 
-/// A new player.
+/// Returns a new player.
 fn player(rt: &(impl Abort + AllocGlobal)) -> Result<Player, NoMemory> {
     Player::new(rt.alloc(), &config_of(rt, &SLOW))
 }
 
-/// The units of the last cycle.
+/// Returns the units of the last cycle.
 fn units(player: &Player) -> u64 {
     player.recorded().heap().units()
 }
@@ -50,7 +50,7 @@ fn ticks_end_where_memory_is_refused(rt: HostRuntime) -> Result<(), Fail> {
 /// How many lines there are of commands, and of replies.
 const LINES: usize = 18;
 
-/// How many lines end in these bytes.
+/// Returns how many lines end in these bytes.
 fn line_ends(bytes: &[u8]) -> usize {
     bytes.iter().filter(|byte| **byte == b'\n').count()
 }

@@ -72,7 +72,7 @@ fn refusals_change_nothing(rt: HostRuntime) -> Result<(), NoMemory> {
     Ok(())
 }
 
-/// The text of a refusal.
+/// Returns the text of a refusal.
 fn text_of(rt: &impl AllocGlobal, refusal: &impl Display) -> Result<String, AllocError> {
     format!(in rt.alloc(); "{refusal}")
 }

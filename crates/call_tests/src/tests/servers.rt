@@ -51,7 +51,7 @@ const IN_TURN: [(usize, Command, Reply); 4] = [
     ),
 ];
 
-/// The reply to a command from a seat, which is entered at this place.
+/// Returns the reply to a command from a seat, which is entered at this place.
 fn call<N: Naming, R: Wait + Abort>(
     rt: &R,
     server: &Server<N>,
@@ -204,7 +204,7 @@ fn follow<N: Naming, R: Wait + Abort>(
     call_all(rt, &server, &mut seat, row.after)
 }
 
-/// The row, at a server of its own.
+/// Plays the row at a server of its own.
 fn follow_row<R: Wait + Abort + AllocGlobal>(
     rt: &R,
     settings: &Settings,

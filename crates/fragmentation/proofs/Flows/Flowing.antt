@@ -278,7 +278,7 @@ module _ (h : HeapState) (f : Flow) (k : ℕ) (great : 0 < k) (live : Lives) (li
         total = subst (λ b. words_of i.earlier.made + words_since s.swept s ≤ (if b then 2 * f.cycle_words + t.words else f.cycle_words + t.words)) at i.total;
       }
 
-      -- at the sweep's end
+      -- A flow goes on at the end of a sweep.
       ends : t.awaiting_sweep_end ≡ true → awaits_sweep_end phase ≡ false → IsFlowing h f k live new (season_swept live s) (record t { awaiting_sweep_end = false; quanta = quanta_after k budget t.quanta })
       ends at e = record {
         graph = i.graph ∙ sym present;
@@ -309,7 +309,7 @@ module _ (h : HeapState) (f : Flow) (k : ℕ) (great : 0 < k) (live : Lives) (li
       by_phase true e = stays true (i.awaiting_sweep_end ∙ was (out_phase ∙ e)) e
       by_phase false e = by_tracing s.awaiting_sweep_end refl e
 
-  -- one event more
+  -- A flow goes on by one event.
   pub flows_next : (r new : Course) (e : Event) (s : Season) (t : FlowMeter) → Flows h f k great live lives traced r s t → Paces f t e → BeginsWithin live s e → Does r e new → Flows h f k great live lives traced new (season_after live s e) (next_meter k t e)
   flows_next r new e s t w paces lives does = record {
     course = does_course r e new w.course does;

@@ -91,7 +91,7 @@ module _ (h : HeapState) (f : Flow) (k : ℕ) (great : 0 < k) (live : Lives) (li
     flows_keep es runs.0 new _ _ (flows_next h f k great live lives traced r runs.0 e s t w all.0 all.1 runs.1) runs.2 all.2,
   )
 
--- from an opening heap
+-- The flow begins in an opening heap.
 module _ (h : HeapState) (es : List Event) (f : Flow) (k : ℕ) (great : 0 < k) (o : IsOpening h) (some : 0 < length h.store.pages) (keeps : AllMetered k (KeepsFlow f) (opening_meter h.limits) es) (traced : traced_words f (sweep_quanta f (length h.roots) (length h.store.pages) k) ≤ f.cycle_words) where
   abbrev pub live : Lives
   live = lives_of f k 0 es (opening_meter h.limits) keeps

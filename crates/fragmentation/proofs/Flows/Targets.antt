@@ -86,7 +86,7 @@ Receives base h _ = Unit {0}
 times_next : (n b : ℕ) → (n + 1) * b ≡ n * b + b
 times_next n b = grind arith
 
--- one page for another
+-- One page replaces another.
 target_set : (old new : List (Option Page)) (page : ℕ) (o v : Option Page) → page < length old → page_at old page ≡ o → new ≡ set old page v → target_words new + target_on o ≡ target_words old + target_on v
 unfolding target_words
 target_set old new page o v l at is = ap (λ z. sum_by target_on z + target_on o) is ∙ set_sum target_on old page o v None l at

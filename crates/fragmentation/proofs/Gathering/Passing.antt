@@ -14,7 +14,7 @@ use Rattle.fragmentation.specs.Gathering.{AreUsed, ReceivesFirst, HasLooked, Are
 use Rattle.fragmentation.proofs.Tight.Free.{choosable_is, refused_tight, receivers_tight}
 use Rattle.fragmentation.proofs.Tight.Taken.{FromUsed, FromFree, took, opened_tight, block_tight}
 
--- after a look at the next page
+-- The next page was looked at.
 pub looked_more : (pages : List (Option Page)) (class page : ℕ) (best : Option Candidate) → HasLooked pages class page best → HasLooked pages class (page + 1) (candidate_after pages class page best)
 looked_more pages class page best w = by_page best w (is_choosable class (page_at pages page)) refl
   where

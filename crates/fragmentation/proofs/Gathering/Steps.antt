@@ -121,7 +121,7 @@ module _ (old new : List (Option Page)) (class to j : ℕ) (q : Page) (place : p
           let l = first k to a q (sym e ∙ x) r u at (subst (λ z. is_usable z (Some q) ≡ true) d usable) in omega (arith, n, l)
       by_place k i a b x r u y v false s e false t f = first k i a b (sym e ∙ x) r u (sym f ∙ y) v
 
--- each action
+-- Each action keeps the state of gathering.
 gathering_in : (pages : List (Option Page)) (n m : ℕ) → n ≡ m → AreUsed pages m → AreUsed pages n
 gathering_in pages n m e w = subst (AreUsed pages) (sym e) w
 

@@ -7,7 +7,7 @@ use Rattle.heap_model.specs.Store.{Store}
 use Rattle.fragmentation.specs.Suffice.{gathered_pages}
 use Rattle.fragmentation.proofs.Tight.IsLeftover.{kept_pages, IsSettled, IsMoved, IsEmptied, ByPhase, AreSettled}
 
--- in moving
+-- In moving, the class has been passed.
 pub record IsPassed (s : Store) (class need : ℕ) : Type 0 where
   pub settled : IsSettled s class need
   pub moved : IsMoved s class need

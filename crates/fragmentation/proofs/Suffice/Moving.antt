@@ -39,7 +39,7 @@ use Rattle.fragmentation.proofs.Tight.Few.{not_both}
 use Rattle.fragmentation.proofs.Tight.Actions.{IsGoing, gathers_settings, Advances, Behind, came_chain, out_chain, few_change}
 use Rattle.fragmentation.proofs.Season.{IsCounted, allocated_since, counted_allocated, objects_then, needed_more, all_find_room, command_room, count_none, opening_counted, opening_settled}
 
--- room for a command
+-- There is room for a command.
 module _ (h : HeapState) (g : Graph) (s : Season) (first made : ℕ → ℕ) (a : ArePages h.store.pages) (w : IsFew h.store.pages h.phase first made) (same : s.graph ≡ g)
     (most : (k : ℕ) → k < CLASSES → first k ≤ gathered_pages k (s.before k)) (since : (k : ℕ) → made k ≡ made_since s.swept s k) where
   season_more : (need asked : ℕ → ℕ) → ((k : ℕ) → need k ≤ asked k) → few_pages first (λ k. made k + need k) CLASSES ≤ season_pages s asked
@@ -213,7 +213,7 @@ moving_step live pages r Begin_refused new s w i k keeps does = (subst (λ z. Is
 moving_step live pages r (Quantum_done budget units phase) new s w i k keeps does = (moving_quantum live pages r new budget units phase s w i k does, tt)
 moving_step live pages r (Quantum_refused budget) new s w i k keeps does = (subst (λ z. IsMoving live pages z s) (sym does.1) k, tt)
 
--- from an opening heap
+-- The run begins in an opening heap.
 pub opening_moving : (h : HeapState) (live : Lives) (pages : ℕ) → IsOpening h → 0 < length h.store.pages → GathersAll h → pages ≤ length h.store.pages → IsMoving live pages (opened h) (opening_season h.limits)
 opening_moving h live pages o some all room = record {
   room = room;

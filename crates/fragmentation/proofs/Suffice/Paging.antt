@@ -45,7 +45,7 @@ gathered_least class n = by_test (nat_lt n (blocks_in class))
     by_test true = omega arith
     by_test false = omega arith
 
--- and one more, where they fill a page
+-- Blocks that fill a page take one page more.
 pub gathered_enough : (class n : ℕ) → blocks_in class ≤ n → gathered_pages class n ≡ whole_pages class n + 1
 gathered_enough class n l = ap (λ b. if b then whole_pages class n else whole_pages class n + 1) (not_less n (blocks_in class) l)
   where

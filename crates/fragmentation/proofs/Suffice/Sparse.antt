@@ -133,7 +133,7 @@ moved_sparse s t page block i to j p q need a at evacuating next usable there em
     g : Goes s t need need
     g = moved_store s t page block i to j p q a at evacuating next usable there empty m is need tight
 
--- each action
+-- Each action keeps the pages sparse.
 pub sparse_action : (h after : HeapState) (cost : ℕ) (present snapshot : Graph) (need : ℕ → ℕ) → Represents h present snapshot → IsGathering h.store.pages (length h.store.pages) h.phase → Action h cost after → IsSparse h.store h.phase need → IsSparse after.store after.phase need
 sparse_action h after cost g s need st ga (Scans_root next k e l sh) w = let f = shrinks_shades _ k _ sh in sparse_same h.store k.store (phases.Roots (next + 1)) need f.0 f.1 (sparse_phase h.store h.phase (phases.Roots next) need e w)
 sparse_action h after cost g s need st ga (Ends_roots next e l) w = sparse_phase h.store h.phase (phases.Roots next) need e w

@@ -123,7 +123,7 @@ going_relinked h linked g s links w = record {
   all = gathers_settings h (record h { store = linked }) (relinked_settings h linked links) w.all;
 }
 
--- out of a sweep
+-- A sweep ends.
 record LeavesSweep (h after : HeapState) : Type 0 where
   page : ℕ
   block : ℕ

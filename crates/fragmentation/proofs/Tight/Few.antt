@@ -248,7 +248,7 @@ sweep_ended false = refl
 pub not_both : (b : Bool) → b ≡ true → b ≡ false → ⊥
 not_both b p q = cc
 
--- each action but the change out of a sweep
+-- Each action, except the one that ends a sweep, keeps the pages few.
 pub few_action : (h after : HeapState) (cost : ℕ) (first made : ℕ → ℕ) → ArePages h.store.pages → awaits_sweep_end after.phase ≡ awaits_sweep_end h.phase → Action h cost after → IsFew h.store.pages h.phase first made → IsFew after.store.pages after.phase first made
 few_action h after cost first made a same (Scans_root next k e l sh) w = few_same _ _ _ _ first made w (shades_same _ k _ sh).1 (λ class. refl) (λ s. ap is_sweeping e)
 few_action h after cost first made a same (Ends_roots next e l) w = few_same _ _ _ _ first made w refl (λ class. refl) (λ s. ap is_sweeping e)

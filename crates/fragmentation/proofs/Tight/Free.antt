@@ -35,7 +35,7 @@ tight_fewest pages class small w t =
     let some = blocks_some class small in
     quotient (main_blocks pages class + (blocks_in class - 1)) (blocks_in class) (staying_pages pages class) some (omega (arith, o, some, t)) (omega (arith, o, some, t))
 
--- one page for another in the list
+-- One page replaces another in the list.
 module _ (old new : List (Option Page)) (page : ℕ) (o v : Option Page) (l : page < length old) (at : page_at old page ≡ o) (is : new ≡ set old page v) where
   pub free_change : (k : ℕ) → free_blocks new k + free_on k o ≡ free_blocks old k + free_on k v
   free_change k = ap (λ z. free_blocks z k + free_on k o) is ∙ set_sum (free_on k) old page o v None l at

@@ -31,7 +31,7 @@ use Rattle.fragmentation.specs.Suffice.{gathered_pages}
 use Rattle.fragmentation.proofs.Suffice.Paging.{gathered_more}
 use Rattle.fragmentation.proofs.Tight.IsLeftover.{evacuates, IsStranded, NoneStranded, one_evacuating, kept_pages, LeftOn, IsSettled, IsMoved, IsEmptied, IsEmptying, ByPhase, AtLook, IsLeftover}
 
--- one page for another in the list
+-- One page replaces another in the list.
 module _ (old new : List (Option Page)) (page : ℕ) (o v : Option Page) (l : page < length old) (at : page_at old page ≡ o) (is : new ≡ set old page v) where
   pub staying_set : (k : ℕ) → staying_pages new k + one_if (stays k o) ≡ staying_pages old k + one_if (stays k v)
   staying_set k = ap (λ z. staying_pages z k + one_if (stays k o)) is ∙ set_sum (λ z. one_if (stays k z)) old page o v None l at
@@ -69,7 +69,7 @@ pub moved_less : (s t : Store) (class m n : ℕ) → Strands s t class → (IsTi
 moved_less s t class m n f tight l (inl none) = inl (λ b x. none b (f.less b x))
 moved_less s t class m n f tight l (inr w) = inr (record { page = w.page; left = strands_left s t class m n w.page f l w.left; tight = tight w.tight })
 
--- phase by phase
+-- A statement by phases follows phase by phase.
 pub by_phase : {A B : Type 0} {P Q : ℕ → Type 0} {E F : ℕ → ℕ → ℕ → Type 0} (p : Phase) → (A → B) → ((n : ℕ) → P n → Q n) → ((page block n : ℕ) → E page block n → F page block n) → ByPhase A P E p → ByPhase B Q F p
 by_phase phases.Idle a p e w = a w
 by_phase (phases.Roots next) a p e w = a w

@@ -47,7 +47,7 @@ module _ (found : List Found) (target : Found) (steps : List Step) (last : Found
   pub link_of : AreLinked found → IsLinked found last last.holder
   link_of all = subst (λ (x : Found). IsLinked found x x.holder) b.stands.2 (all b.stands.0 b.stands.1)
 
-  -- back to the object of the last holder
+  -- The way goes back to the object of the last holder.
   module _ (object cell : ℕ) (is : last.holder ≡ Cell object cell) (next : Found) (all : AreLinked found) (one : (k : ℕ) → IsAt found object k → found_at found k ≡ next) where
     link : IsLinked found last (Cell object cell)
     link = subst (IsLinked found last) is (link_of all)
@@ -79,7 +79,7 @@ module _ (found : List Found) (target : Found) (steps : List Step) (last : Found
           omega (arith, near, long, link.2, b.count);
     }
 
-  -- back at a root
+  -- The way is back at a root.
   pub whole_way : (root : ℕ) → last.holder ≡ Root root → AreLinked found → Stands found target → (r : Route) → r.root ≡ root → r.steps.items ≡ reverse steps
       → (g : Graph) → FindsAll g found → IsShortest g target.id r
   whole_way root is all from r root_is steps_are g v =

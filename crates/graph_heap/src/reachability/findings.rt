@@ -76,7 +76,7 @@ impl Search {
         Ok(())
     }
 
-    /// The object that was found at a place, from 0, if there are that many.
+    /// Returns the object that was found at a place, from 0, if there are that many.
     pub(crate) fn at(&self, place: usize) -> Option<Found>
         ensures found { IfSome result (λ f. (place < length self.now.found) × (f ≡ found_at self.now.found place)) }
         ensures none { IsNone result → length self.now.found ≤ place }
@@ -99,14 +99,14 @@ impl Search {
         self.found[place - 1]
     }
 
-    /// The objects, nearest to the roots first.
+    /// Returns the objects, nearest to the roots first.
     pub fn found(&self) -> &[Found]
         ensures { result.now ≡ self.now.found }
     {
         self.found.as_slice()
     }
 
-    /// The place of an object among those found, from 0: None if it wasn't found.
+    /// Returns the place of an object among those found, from 0: None if it wasn't found.
     pub fn place(&self, id: u64) -> Option<usize>
         ensures some { IfSome result (λ k. IsAt self.now.found id k) }
         ensures none { IsNone result → IsNowhere self.now.found id }
@@ -123,7 +123,7 @@ impl Search {
     }
 }
 
-/// A cell of an object, or else a root.
+/// Returns the holder that is a cell of an object, or else a root.
 pub fn holder(object: Option<u64>, cell: usize) -> Holder
     ensures { result ≡ holders object cell }
 {

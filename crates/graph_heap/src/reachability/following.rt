@@ -8,7 +8,7 @@ use crate::no_memory::NoMemory;
 use crate::reference::Reference;
 use std::alloc::Global;
 
-/// The graph heap to which a legal history leads, from the one with no object.
+/// Returns the graph heap to which a legal history leads, from the one with no object.
 pub fn present(alloc: Global, limits: &Limits, history: &[Entry]) -> Result<Reference, NoMemory>
     ensures { IfOk result (λ graph. IsLegal (opening limits.now) history.now
         → graph ≡ after (opening limits.now) history.now) }

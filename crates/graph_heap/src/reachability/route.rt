@@ -39,7 +39,7 @@ pub enum Standing {
     NeverMade,
 }
 
-/// The path to an object that was found, by the last holders: its own, then its holder's, and so on up to a root.
+/// Returns the path to an object that was found, by the last holders: its own, then its holder's, and so on up to a root.
 fn way_back(alloc: Global, search: &Search, target: Found) -> Result<Route, NoMemory>
     requires linked { AreLinked search.now.found }
     requires found { Stands search.now.found target }
@@ -61,15 +61,15 @@ fn way_back(alloc: Global, search: &Search, target: Found) -> Result<Route, NoMe
     }
 }
 
-/// Whether the graph heap has an object of this identity.
+/// Returns whether the graph heap has an object of this identity.
 fn is_made(graph: &Reference, id: u64) -> bool
     ensures { IsTrue result ↔ IsAmong (length graph.now.objects) id }
 {
     id != 0 && id as usize <= graph.count()
 }
 
-/// Whether an object can be reached in a graph heap, and then a shortest path to it: none has fewer reference cells. It
-/// searches once from the roots (`search`), and then goes back from holder to holder.
+/// Returns how an object stands in a graph heap: reached, by a shortest path (none has fewer reference cells),
+/// unreachable, or never made. It searches once from the roots (`search`), and then goes back from holder to holder.
 pub fn shortest_path(alloc: Global, graph: &Reference, id: u64) -> Result<Standing, NoMemory>
     ensures { IfOk result (StandsAs graph.now id) }
 {

@@ -23,8 +23,8 @@ impl Reference {
         self.roots.row(self.alloc)
     }
 
-    /// The reference cells of an object, each of which holds an identity, or 0 for null. Null, and an identity that
-    /// isn't given yet, has none.
+    /// Returns the reference cells of an object, each of which holds an identity, or 0 for null. Null, and an identity
+    /// that isn't given yet, has none.
     pub fn refs(&self, id: u64) -> &[u64]
         ensures { result.now ≡ (graph.object_of self.now.objects id).refs }
     {

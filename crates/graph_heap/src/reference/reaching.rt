@@ -12,7 +12,7 @@ use crate::no_memory::NoMemory;
 use crate::reachability::search;
 
 impl Reference {
-    /// The identities of the objects that can be reached, each once.
+    /// Returns the identities of the objects that can be reached, each once.
     pub fn reached(&self) -> Result<Vec<u64>, NoMemory>
         ensures { IfOk result (λ ids. AreReached self.now ids.items) }
     {
@@ -24,14 +24,14 @@ impl Reference {
         Ok(ids)
     }
 
-    /// How many objects there are.
+    /// Returns how many objects there are.
     pub fn count(&self) -> usize
         ensures { result ≡ length self.now.objects }
     {
         self.objects.len()
     }
 
-    /// The shape of an object. Null, and an identity that isn't given yet, has no cells.
+    /// Returns the shape of an object. Null, and an identity that isn't given yet, has no cells.
     pub fn shape(&self, id: u64) -> Shape
         ensures { result ≡ (graph.object_of self.now.objects id).shape }
     {
@@ -67,7 +67,7 @@ impl Reference {
     }
 }
 
-/// The shape of the object that a change makes.
+/// Returns the shape of the object that a change makes.
 fn shape_made(change: &Change) -> Option<Shape>
     ensures { result ≡ new_shape change.now }
 {

@@ -25,7 +25,7 @@ use Rattle.heap_model.proofs.Readings.Shown.{word_at}
 name_same : (a b : ℕ) → name_of a ≡ name_of b → a ≡ b
 name_same a b e = ap (λ (n : Name). n.identity) e
 
--- the same object, part by part
+-- Two graph heaps with which a heap agrees have the same object, part by part.
 object_same : (h : HeapState) (f g : Graph) → Agrees h f → Agrees h g → (id : ℕ) → Reaches f id → object_of f.objects id ≡ object_of g.objects id
 object_same h f g p q id r =
     let al : Alike (length h.roots) (view f) (view g) = alike (seen h) (view f) (view g) (by_parts h f p) (by_parts h g q) in

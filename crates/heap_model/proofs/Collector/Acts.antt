@@ -13,7 +13,7 @@ root_scanned m place =
     let x = m.heap.forward (m.heap.root place) in
     record (shaded (record m { heap = set_root m.heap place x }) x) { phase = In_roots (place + 1) }
 
--- the next cell of the block in scan likewise
+-- the collector after a scan of the next cell of the block in scan
 abbrev pub cell_scanned : Collector → Collector
 cell_scanned m =
     let x = m.heap.forward (m.heap.cell m.scanning m.column) in

@@ -19,7 +19,7 @@ pub record Parts : Type 0 where
 abbrev pub link_by : PartContents → ℕ → ℕ
 link_by r i = if r.spine && nat_lt i r.count then r.first + i else 0
 
--- those of a shape
+-- the parts of an object of a shape
 abbrev pub parts_of : Shape → Parts
 parts_of shape = let o = new_object shape in record {
   count = count_of o;

@@ -112,7 +112,7 @@ pub reaches_reach : (g : Graph) (n : Name) → Reaches g n.identity → n.part <
 unfolding Reaches
 reaches_reach g n r l = reach_part g n.identity n.part (path_reach g r.1 n.identity r.2) l
 
--- and nothing else, but null
+-- A name that is reached is null, or names a part of a reachable object.
 record IsReached (g : Graph) (n : Name) : Type 0 where
   null : n.identity ≡ 0 → n.part ≡ 0
   path : n.identity ≢ 0 → Reaches g n.identity

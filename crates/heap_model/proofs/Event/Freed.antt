@@ -69,7 +69,7 @@ objects_stay g (changes.New j new shape) = append_more g.objects (new_object sha
 objects_stay g (changes.Join m) = omega arith
 objects_stay g (changes.Leave m) = omega arith
 
--- each event
+-- Objects that can be reached after an event could be reached before, or are new.
 record Back (f g : Graph) : Type 0 where
   pub more : length f.objects ≤ length g.objects
   pub back : (id : ℕ) → Reaches g id → (Reaches f id) ⊎ (length f.objects < id)

@@ -98,7 +98,7 @@ module _ (r new : Course) (m : ℕ) (c : Command) (reply : Reply) (w : IsCourse 
         place = (let p = w.place in let q = e.place in omega arith);
       }
 
--- a beginning
+-- A beginning keeps the graph heap at present.
 pub begins_present : (r new : Course) → Begins r new → present_of new ≡ present_of r
 begins_present r new b = ap (λ z. after (opening z) new.history) (ap (λ (z : HeapState). z.limits) b.heap) ∙ ap (after (opening r.heap.limits)) b.history
 
@@ -116,7 +116,7 @@ begins_course r new w b =
       place = (let p = b.place in let q = ap length b.history in omega arith);
     }
 
--- a quantum
+-- A quantum keeps the limits.
 pub collects_limits : (r new : Course) (budget units : ℕ) (phase : Phase) → IsCourse r → Collects r budget units phase new → new.heap.limits ≡ r.heap.limits
 collects_limits r new budget units phase w k = (represents_chain r.heap new.heap units (present_of r) (snapshot_of r) w.represents k.turn.chain).consistent.limits ∙ sym w.represents.consistent.limits
 

@@ -18,6 +18,6 @@ module _ (Fits : ℕ → Type 0) (limit : ℕ) where
       by_size pages low (inl less) high = holds.2 pages low less
       by_size pages low (inr more) high = subst Fits (omega (arith, more, high)) fits
 
-  -- it doesn't
+  -- The next number doesn't fit.
   pub without_next : (Fits limit → ⊥) → HoldsFrom Fits (limit + 1) None
   without_next none = λ pages e some fits. none (subst Fits (omega (arith, e)) fits)

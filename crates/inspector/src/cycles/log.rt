@@ -36,7 +36,7 @@ impl Log {
         }
     }
 
-    /// The cycle that is open after one more quantum.
+    /// Returns the cycle that is open after one more quantum.
     fn open_after(&self, turn: &QuantumEffect, copies: &Copies, recorded: &Recorded) -> Option<Open>
         ensures { (steps : List Step) (s : Step) → IsOpenIn steps s.before self.now.closed.items self.now.last
             → begins s ≡ false → IsQuantumEffect s turn.now → AreCounted s copies.now → s.after ≡ recorded.now.course
@@ -48,7 +48,7 @@ impl Log {
         }
     }
 
-    /// A quantum was done, before which the collector was at this mark.
+    /// Notes a quantum, before which the collector was at this mark.
     pub(crate) fn quantum(&mut self, before: &Mark, recorded: &Recorded)
         ensures { (steps : List Step) (s : Step) → IsLog steps s.before self.old → is_quantum s.event ≡ true
             → IsMark s.before.heap before.now → s.after ≡ recorded.now.course
@@ -61,7 +61,7 @@ impl Log {
         self.last = self.open_after(&turn, &copies, recorded);
     }
 
-    /// The last cycle is followed by another, or by the end of the run, at this heap.
+    /// Closes the last cycle, if there is one: another follows it, or the run ends, at this heap.
     pub(crate) fn close(&mut self, heap: &Heap) -> Result<(), NoMemory>
         ensures cycles { OnOk result ((steps : List Step) (now : Course) → IsLog steps now self.old
             → now.heap ≡ heap.now → AreCycles steps self.new.closed.items) }
@@ -76,7 +76,7 @@ impl Log {
         }
     }
 
-    /// A line begins a cycle.
+    /// Notes that a line begins a cycle.
     pub(crate) fn begin_at(&mut self, line: u64, recorded: &Recorded) -> Result<(), NoMemory>
         ensures { OnOk result ((steps : List Step) (s : Step) → IsLog steps s.before self.old → begins s ≡ true
             → s.line ≡ line → s.before ≡ recorded.now.course → IsLog (steps ++ s ∷ []) s.after self.new) }
@@ -86,7 +86,7 @@ impl Log {
         Ok(())
     }
 
-    /// The cycles of a run that ends at this heap; the last one is still running, or no other follows it.
+    /// Returns the cycles of a run that ends at this heap; the last one is still running, or no other follows it.
     pub fn cycles(mut self, heap: &Heap) -> Result<Cycles, NoMemory>
         ensures { IfOk result (λ cycles. (steps : List Step) (now : Course) → IsLog steps now self → now.heap ≡ heap.now
             → AreCycles steps cycles.items.items) }

@@ -13,14 +13,14 @@ pub struct Made {
     pub blocks: u128,
 }
 
-/// Whether an entry made an object.
+/// Returns whether an entry made an object.
 fn makes(entry: &Entry) -> bool
     ensures { result ≡ makes entry.now }
 {
     matches!(entry.reply, Reply::Made(_))
 }
 
-/// The blocks of the object that an entry made.
+/// Returns the blocks of the object that an entry made.
 fn blocks_of(entry: &Entry) -> u32
     ensures blocks { result ≡ blocks_made entry.now }
     ensures within { result ≤ 15938 }
@@ -34,7 +34,7 @@ fn blocks_of(entry: &Entry) -> u32
     }
 }
 
-/// The objects that entries made, and their blocks.
+/// Returns the objects that entries made, and their blocks.
 pub fn made_by(entries: &[Entry]) -> Made
     ensures objects { result.objects ≡ count_by makes entries.now }
     ensures blocks { result.blocks ≡ sum_by blocks_made entries.now }
@@ -51,7 +51,7 @@ pub fn made_by(entries: &[Entry]) -> Made
     made
 }
 
-/// The entries from a place on.
+/// Returns the entries from a place on.
 pub fn from_place(entries: &[Entry], place: usize) -> &[Entry]
     ensures { result.now ≡ drop place entries.now }
 {

@@ -143,7 +143,7 @@ impl Start {
 }
 
 impl Open {
-    /// A cycle that a line begins.
+    /// Returns a cycle that a line begins.
     pub fn new(line: u64, base: &Base, recorded: &Recorded) -> Open
         ensures { (earlier : List Step) (s : Step) → IsBase earlier base.now → s.line ≡ line
             → s.before ≡ recorded.now.course → IsOpen earlier s [] result }
@@ -162,7 +162,7 @@ impl Open {
         }
     }
 
-    /// The same after one more quantum, if the sweep has ended then.
+    /// Returns the sweep after one more quantum, if it has ended by then.
     fn sweep_after(
         &self,
         turn: &QuantumEffect,
@@ -183,7 +183,7 @@ impl Open {
         Some(self.start.swept(recorded, copies))
     }
 
-    /// How it ended, if it has after one more quantum.
+    /// Returns how the cycle ended, if it has after one more quantum.
     fn end_after(&self, turn: &QuantumEffect, copies: &Copies, heap: &Heap) -> Option<End>
         ensures { (earlier later : List Step) (first s : Step) → begins first ≡ true
             → IsOpen earlier first later self.now → IsQuantumEffect s turn.now → AreCounted s copies.now
@@ -199,7 +199,7 @@ impl Open {
         Some(End::from_heap(heap, copies.old))
     }
 
-    /// The cycle after one more quantum, with the copies in the heap if they were counted.
+    /// Returns the cycle after one more quantum, with the copies in the heap if they were counted.
     pub fn after(self, turn: &QuantumEffect, copies: &Copies, recorded: &Recorded) -> Open
         ensures { (earlier later : List Step) (first s : Step) → begins first ≡ true → IsOpen earlier first later self
             → IsQuantumEffect s turn.now → AreCounted s copies.now → s.after ≡ recorded.now.course
@@ -214,7 +214,7 @@ impl Open {
         }
     }
 
-    /// How it ended; or with this heap, if it is still running.
+    /// Returns how the cycle ended; or its figures in this heap, if it is still running.
     fn end(&self, heap: &Heap) -> End
         ensures { (later : List Step) (first : Step) → IsEnd first later self.now.end
             → (count_by ends_cycle later ≡ 0 → (end_of first later).heap ≡ heap.now)
@@ -226,7 +226,7 @@ impl Open {
         }
     }
 
-    /// The whole cycle, which is followed by another, or by the end of the run.
+    /// Returns the whole cycle, once another follows it or the run has ended.
     pub fn closed(&self, heap: &Heap) -> Cycle
         ensures { (earlier later : List Step) (first : Step) → IsOpen earlier first later self.now
             → (count_by ends_cycle later ≡ 0 → (end_of first later).heap ≡ heap.now)

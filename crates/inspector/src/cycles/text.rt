@@ -44,7 +44,7 @@ fn column(alloc: Global, number: u128) -> Result<String, AllocError>
     format!(in alloc; "{number:>8}")
 }
 
-/// The text of a figure, which may not be known yet.
+/// Returns the text of a figure, which may not be known yet.
 fn figure(alloc: Global, layout: Layout, number: Option<u128>) -> Result<String, AllocError>
     ensures { IfOk result (λ text. string_bytes text ≡ figure layout number) }
 {
@@ -56,7 +56,7 @@ fn figure(alloc: Global, layout: Layout, number: Option<u128>) -> Result<String,
     }
 }
 
-/// The figures of a cycle but its line, in their order.
+/// Returns the figures of a cycle, except its line, in their order.
 pub fn figures(cycle: &Cycle) -> [Option<u128>; 10]
     ensures { result ≡ figures cycle.now }
 {
@@ -88,8 +88,8 @@ fn line(alloc: Global, layout: Layout, cycle: &Cycle) -> Result<String, AllocErr
     Ok(text)
 }
 
-/// The text of cycles: a line that names the figures, and a line for each cycle. A figure that isn't known yet is `-`
-/// in columns, and nothing between commas.
+/// Returns the text of cycles: a line that names the figures, and a line for each cycle. A figure that isn't known yet is
+/// `-` in columns, and nothing between commas.
 pub fn cycles_text(alloc: Global, cycles: &[Cycle], layout: Layout) -> Result<String, AllocError>
     ensures { IfOk result (λ text. string_bytes text ≡ cycles_told layout cycles.now) }
 {

@@ -44,7 +44,7 @@ impl QuantumEffect {
         }
     }
 
-    /// The copies in the heap, which are counted where the quantum ended a sweep or a cycle.
+    /// Returns the copies in the heap, which are counted if the quantum ended a sweep or a cycle; else none.
     pub fn copies(&self, heap: &Heap) -> Copies
         ensures sweep { self.now.ends_sweep ≡ true → result ≡ copies_in heap.now.store }
         ensures cycle { self.now.ends_cycle ≡ true → result ≡ copies_in heap.now.store }

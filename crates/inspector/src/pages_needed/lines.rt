@@ -13,7 +13,7 @@ pub(crate) enum Scope {
     Pace,
 }
 
-/// How a report says whether pages suffice: for which runs, or that they may not.
+/// Returns the end of a line that says for which runs the pages suffice, or that they may not.
 fn verdict(scope: Scope, suffice: bool) -> &'static str
     ensures { result.now ≡ verdict scope suffice }
 {
@@ -24,7 +24,7 @@ fn verdict(scope: Scope, suffice: bool) -> &'static str
     }
 }
 
-/// How many pages are needed, out of how many.
+/// Returns the line with the pages that are needed, and those that there are.
 pub(crate) fn pages_line(
     alloc: Global,
     scope: Scope,

@@ -10,7 +10,7 @@ use sizing::Needed;
 use space::pages_of_class;
 use std::alloc::{AllocError, Global};
 
-/// The line of a class, or nothing if no block of it is needed.
+/// Returns the line of a class, or nothing if no block of it is needed.
 fn class_line(alloc: Global, needed: &Needed, class: Class) -> Result<String, AllocError>
     ensures { IfOk result (λ line. string_bytes line ≡ blocks_line needed.now class) }
 {
@@ -22,7 +22,7 @@ fn class_line(alloc: Global, needed: &Needed, class: Class) -> Result<String, Al
     format!(in alloc; "size {size} blocks {blocks} pages {pages}\n")
 }
 
-/// How many pages suffice where blocks are never moved.
+/// Returns the line with the pages that suffice if blocks are never moved.
 fn still_line(alloc: Global, pages: u128) -> Result<String, AllocError>
     ensures { IfOk result (λ line. string_bytes line ≡ still_line pages) }
 {
@@ -31,7 +31,7 @@ fn still_line(alloc: Global, pages: u128) -> Result<String, AllocError>
     )
 }
 
-/// How many suffice with moving as it is configured.
+/// Returns the line with the pages that suffice with moving as configured.
 fn moved_line(alloc: Global, pages: u128) -> Result<String, AllocError>
     ensures { IfOk result (λ line. string_bytes line ≡ moved_line pages) }
 {
@@ -45,7 +45,7 @@ fn gathered_line(alloc: Global, pages: u64) -> Result<String, AllocError>
     format!(in alloc; "moving after each sweep {pages}: for each run that needs no more pages so\n")
 }
 
-/// How many suffice with such moving, whatever the sizes of objects are.
+/// Returns the line with the pages that suffice with moving after each sweep, whatever the sizes of objects are.
 fn page_demand_line(alloc: Global, pages: u128, needed: &Needed) -> Result<String, AllocError>
     ensures { IfOk result (λ line. string_bytes line ≡ page_demand_line pages needed.now) }
 {
@@ -55,7 +55,7 @@ fn page_demand_line(alloc: Global, pages: u128, needed: &Needed) -> Result<Strin
     )
 }
 
-/// How many pages suffice in each way.
+/// Returns the lines with the pages that suffice in each way.
 fn form_lines(
     alloc: Global,
     still: u128,
@@ -74,8 +74,8 @@ fn form_lines(
     .concat(alloc)
 }
 
-/// The keys of a configuration to set for this many pages: below how many free ones moving follows a sweep, and how many it
-/// empties.
+/// Returns the line of the keys to set for this many pages: below how many free ones moving follows a sweep, and how many
+/// it empties.
 fn keys_line(alloc: Global, pages: u32, below: u32, emptied: u32) -> Result<String, AllocError>
     ensures { IfOk result (λ line. string_bytes line ≡ keys_line pages below emptied) }
 {
@@ -85,7 +85,7 @@ fn keys_line(alloc: Global, pages: u32, below: u32, emptied: u32) -> Result<Stri
     format!(in alloc; "pages = {pages}, defrag_below = {below}, defrag_pages = {emptied}\n")
 }
 
-/// The keys for the fewest pages.
+/// Returns the line of the keys to set for the fewest pages.
 fn fewest_keys(alloc: Global, still: u128, pages: u128) -> Result<String, AllocError>
     ensures { IfOk result (λ line. string_bytes line ≡ fewest_keys still pages) }
 {
@@ -97,7 +97,7 @@ fn fewest_keys(alloc: Global, still: u128, pages: u128) -> Result<String, AllocE
     keys_line(alloc, count, below, count)
 }
 
-/// The fewest pages, with the keys to set for them.
+/// Returns the line with the fewest pages, and the keys to set for them.
 fn fewest_line(alloc: Global, still: u128, pages: u128) -> Result<String, AllocError>
     ensures { IfOk result (λ line. string_bytes line ≡ fewest_line still pages) }
 {
@@ -105,7 +105,7 @@ fn fewest_line(alloc: Global, still: u128, pages: u128) -> Result<String, AllocE
     format!(in alloc; "fewest {pages}: {keys}")
 }
 
-/// On how many pages the very trace finds room, with the keys to set for them.
+/// Returns the line with the pages on which the trace itself finds room, and the keys to set for them.
 fn room_line(alloc: Global, found: &Option<Config>) -> Result<String, AllocError>
     ensures { IfOk result (λ line. string_bytes line ≡ room_line found.now) }
 {
@@ -119,7 +119,7 @@ fn room_line(alloc: Global, found: &Option<Config>) -> Result<String, AllocError
     format!(in alloc; "for this trace {pages}: {keys}")
 }
 
-/// All lines of what was needed.
+/// Returns all lines of what was needed.
 fn needed_lines(alloc: Global, config: &Config, needed: &Needed) -> Result<String, AllocError>
     ensures { IfOk result (λ text. string_bytes text ≡ needed_report config.now needed.now) }
 {
@@ -133,7 +133,7 @@ fn needed_lines(alloc: Global, config: &Config, needed: &Needed) -> Result<Strin
     .concat(alloc)
 }
 
-/// The lines of what was needed, or that the blocks are too many.
+/// Returns the lines of what was needed, or that the blocks are too many.
 fn told_of(alloc: Global, config: &Config, needed: &Option<Needed>) -> Result<String, AllocError>
     ensures { IfOk result (λ text. string_bytes text ≡ needed_told config.now needed.now) }
 {

@@ -10,7 +10,7 @@ use size_classes::{Class, Config};
 use space::{Pace, least_pages, pace_needs};
 use std::alloc::{AllocError, Global};
 
-/// The line of a class, or nothing if no block of it is needed.
+/// Returns the line of a class, or nothing if no block of it is needed.
 fn class_line(alloc: Global, pace: &Pace, class: Class) -> Result<String, AllocError>
     ensures { IfOk result (λ line. string_bytes line ≡ pace_line (pace_in pace.now) class) }
 {
@@ -30,7 +30,7 @@ fn quanta_line(alloc: Global, quanta: u64, units: u32) -> Result<String, AllocEr
     format!(in alloc; "quanta {quanta} units {units}\n")
 }
 
-/// From how many pages on each number suffices, or that the most may not.
+/// Returns the line with the pages from which on each number suffices, or that the most may not.
 fn from_line(alloc: Global, from: Option<u32>) -> Result<String, AllocError>
     ensures { IfOk result (λ line. string_bytes line ≡ from_line from) }
 {
@@ -40,7 +40,8 @@ fn from_line(alloc: Global, from: Option<u32>) -> Result<String, AllocError>
     }
 }
 
-/// The least number of pages that suffices, and from how many on each does; or that none is known.
+/// Returns the lines with the least number of pages that suffices, and with that from which on each does; or that none is
+/// known.
 fn least_lines(alloc: Global, least: Option<u32>, from: Option<u32>) -> Result<String, AllocError>
     ensures { IfOk result (λ text. string_bytes text ≡ least_lines least from) }
 {
@@ -51,7 +52,7 @@ fn least_lines(alloc: Global, least: Option<u32>, from: Option<u32>) -> Result<S
     format!(in alloc; "least pages {least}\n{from}")
 }
 
-/// All lines of a pace.
+/// Returns all lines of a pace.
 fn lines_with(alloc: Global, config: &Config, pace: &Pace) -> Result<String, AllocError>
     ensures { IfOk result (λ text. IsPaceReport config.now (Some pace.now) (string_bytes text)) }
 {

@@ -26,7 +26,7 @@ pub struct Held {
     pub words: u64,
 }
 
-/// The cells of a shape.
+/// Returns the cells of a shape.
 pub(crate) fn cells_of(shape: Shape) -> Cells
     ensures { result ≡ cells_of shape }
 {
@@ -50,7 +50,7 @@ pub(crate) fn nothing() -> Held
 }
 
 impl Held {
-    /// With a part in a block of this many words: an object counts with its part 0.
+    /// Adds a part in a block of this many words: an object counts with its part 0.
     pub(crate) fn with(self, size: u64, block: BlockView) -> Held
         requires before { IsOfBlocks self 536870912 }
         requires size { size ≤ 256 }

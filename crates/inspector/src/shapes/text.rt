@@ -8,7 +8,7 @@ use crate::shapes::held::{Cells, Held};
 use machine::Heap;
 use std::alloc::{AllocError, Global};
 
-/// The figures of what is held, at the end of a line.
+/// Returns the figures of the held parts, at the end of a line.
 fn figures(alloc: Global, held: &Held) -> Result<String, AllocError>
     ensures { IfOk result (λ text. string_bytes text ≡ figures held.now) }
 {
@@ -25,7 +25,7 @@ fn shape_line(alloc: Global, cells: &Cells, held: &Held) -> Result<String, Alloc
     format!(in alloc; "shape {refs} {words}{figures}")
 }
 
-/// The line of all shapes together.
+/// Returns the line of all shapes together.
 fn all_line(alloc: Global, held: &Held) -> Result<String, AllocError>
     ensures { IfOk result (λ line. string_bytes line ≡ all_line held.now) }
 {
@@ -33,7 +33,7 @@ fn all_line(alloc: Global, held: &Held) -> Result<String, AllocError>
     format!(in alloc; "all{figures}")
 }
 
-/// The lines of what was counted.
+/// Returns the lines of what was counted.
 fn lines_of(alloc: Global, counted: &Counted) -> Result<String, AllocError>
     ensures { IfOk result (λ text. string_bytes text
         ≡ flat_map shape_line counted.now.each.entries ++ all_line counted.now.all) }

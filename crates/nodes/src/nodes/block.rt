@@ -12,8 +12,8 @@ use super::{Nodes, Referent};
 use graph_heap::Shape;
 use size_classes::{PART_CELLS, PartContents};
 
-/// How many reference cells a part has, of an object with this many reference and word cells: a spine
-/// has nothing else, a piece has its share.
+/// Returns how many reference cells a part has, for an object with this many reference and word cells. A spine has
+/// nothing else; a piece has its share.
 #[inline(always)]
 #[tactic(auto, unfolding(heap_model::specs::Cut::width_in))]
 fn width_of(refs: u32, words: u32, part: u32) -> usize
@@ -33,7 +33,7 @@ fn width_of(refs: u32, words: u32, part: u32) -> usize
 }
 
 impl Nodes {
-    /// The address to which an allocated block forwards.
+    /// Returns the address to which an allocated block forwards.
     #[inline(always)]
     pub fn forward_of(&self, block: usize) -> u64
         requires { is_allocated self.now block ≡ true }
@@ -42,7 +42,7 @@ impl Nodes {
         self.arena.forward_of(block)
     }
 
-    /// The reference of an allocated block: its address plus one.
+    /// Returns the reference of an allocated block: its address plus one.
     #[inline(always)]
     pub fn reference_of(&self, block: usize) -> u64
         requires { is_allocated self.now block ≡ true }
@@ -70,7 +70,7 @@ impl Nodes {
         self.follow(reference)
     }
 
-    /// The same of a reference that isn't null.
+    /// Follows a reference that isn't null.
     #[inline(always)]
     pub fn follow(&self, reference: u64) -> Referent
         requires some { reference ≢ 0 }
@@ -85,7 +85,7 @@ impl Nodes {
         }
     }
 
-    /// The shape of the object of which an allocated block holds a part.
+    /// Returns the shape of the object of which an allocated block holds a part.
     #[inline(always)]
     pub fn shape(&self, block: usize) -> Shape
         requires { is_allocated self.now block ≡ true }
@@ -94,7 +94,7 @@ impl Nodes {
         self.arena.shape(block)
     }
 
-    /// How many cells of an allocated block are references: they stand first.
+    /// Returns how many cells of an allocated block are references: they stand first.
     #[inline(always)]
     pub fn width(&self, block: usize) -> usize
         requires { is_allocated self.now block ≡ true }
@@ -117,7 +117,7 @@ impl Nodes {
         self.arena.identity(block)
     }
 
-    /// The colour of an allocated block.
+    /// Returns the colour of an allocated block.
     pub fn colour(&self, block: usize) -> bool
         requires { is_allocated self.now block ≡ true }
         ensures { result ≡ (record_of self.now block).colour }
@@ -125,7 +125,7 @@ impl Nodes {
         self.arena.colour(block)
     }
 
-    /// Whether an allocated block has a colour.
+    /// Returns whether an allocated block has a colour.
     pub fn has_colour(&self, block: usize, colour: bool) -> bool
         requires { is_allocated self.now block ≡ true }
         ensures { result ≡ same_colour colour (record_of self.now block).colour }
@@ -163,7 +163,7 @@ impl Nodes {
         self.arena.set_cell(block, i, value);
     }
 
-    /// The link in the header of an allocated block, by which lists of blocks are threaded.
+    /// Returns the link in the header of an allocated block, by which lists of blocks are threaded.
     pub fn link(&self, block: usize) -> u64
         requires { is_allocated self.now block ≡ true }
         ensures { result ≡ link_of self.now block }

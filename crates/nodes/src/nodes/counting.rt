@@ -24,7 +24,7 @@ pub struct Copies {
     pub old: usize,
 }
 
-/// How many cells an object of a shape has.
+/// Returns how many cells an object of a shape has.
 fn cells_in(shape: Shape) -> usize
     ensures cells { result ≡ cells_of shape }
     ensures few { result < 2 ^ 34 }
@@ -63,7 +63,7 @@ impl Nodes {
         wasted
     }
 
-    /// How many words of an allocated block of this size its part doesn't use.
+    /// Returns how many words of an allocated block of this size its part doesn't use.
     fn wasted_in(&self, block: usize, size: usize) -> usize
         requires { is_allocated self.now block ≡ true }
         ensures wasted { result ≡ size - words_in (record_of self.now block) }
@@ -74,7 +74,7 @@ impl Nodes {
         size.saturating_sub(run.count).saturating_sub(4)
     }
 
-    /// How many main copies and old copies there are.
+    /// Returns how many main copies and old copies there are.
     pub fn copies(&self) -> Copies
         ensures { result ≡ copies_in self.now }
     {
@@ -89,7 +89,7 @@ impl Nodes {
         copies
     }
 
-    /// The copies with those of a page, where those before it are counted.
+    /// Returns the copies with those of a page, where those before it are counted.
     fn with_page(&self, before: Copies, page: usize) -> Copies
         requires page { page < length self.now.pages }
         requires before { before ≡ copies_below self.now (2048 * page) }
@@ -107,7 +107,7 @@ impl Nodes {
         copies
     }
 
-    /// The copies with an allocated block, where those before it are counted.
+    /// Returns the copies with an allocated block, where those before it are counted.
     fn with_block(&self, before: Copies, block: usize) -> Copies
         requires allocated { is_allocated self.now block ≡ true }
         requires before { before ≡ copies_below self.now block }

@@ -5,7 +5,7 @@ ghost use Rattle.nodes.specs.Copies.{HasBlock, HasNoBlockOn, HasNoBlockAt};
 use super::Nodes;
 
 impl Nodes {
-    /// Whether some block is allocated that has a part of an object. It looks at each block.
+    /// Returns whether some block is allocated that has a part of an object. It looks at each block.
     pub fn holds(&self, id: u64) -> bool
         ensures { IsTrue result ↔ HasBlock self.now id }
     {
@@ -17,7 +17,7 @@ impl Nodes {
         false
     }
 
-    /// Whether a block of a page is.
+    /// Returns whether a block of this page has a part of the object.
     fn page_holds(&self, page: usize, id: u64) -> bool
         requires { page < length self.now.pages }
         ensures yes { IsTrue result → HasBlock self.now id }
@@ -34,7 +34,7 @@ impl Nodes {
         false
     }
 
-    /// Whether this block of a page is.
+    /// Returns whether this block of a page has a part of the object.
     fn place_holds(&self, page: usize, index: usize, id: u64) -> bool
         requires { page < length self.now.pages }
         ensures yes { IsTrue result → HasBlock self.now id }

@@ -17,7 +17,7 @@ use headers::Arena;
 use size_classes::{CLASSES, Class, Need, Parts, class_of};
 
 impl PageTable {
-    /// How many pages there are.
+    /// Returns how many pages there are.
     pub fn len(&self) -> usize
         ensures pages { result ≡ length self.now }
         ensures within { result ≤ 1048576 }
@@ -25,7 +25,7 @@ impl PageTable {
         self.rows.len()
     }
 
-    /// How many pages are free.
+    /// Returns how many pages are free.
     pub fn free_pages(&self) -> usize
         ensures free { Tells self.now (λ pages. result ≡ page_list.free_pages pages) }
         ensures within { result ≤ 1048576 }
@@ -33,7 +33,7 @@ impl PageTable {
         self.free_pages
     }
 
-    /// How many blocks of a class are free, on pages that aren't evacuating.
+    /// Returns how many blocks of a class are free, on pages that aren't evacuating.
     pub fn free_blocks(&self, class: Class) -> usize
         ensures free { Tells self.now (λ pages. result ≡ free_blocks pages class) }
         ensures within { result ≤ 536870912 }
@@ -41,8 +41,8 @@ impl PageTable {
         self.free_blocks[class.number()]
     }
 
-    /// Whether there is room for the parts of an object: needed blocks for which no free one is left take whole pages,
-    /// and there are as many free pages.
+    /// Returns whether there is room for the parts of an object: needed blocks for which no free one is left take whole
+    /// pages, and there are as many free pages.
     #[inline(always)]
     pub fn room(&self, parts: &Parts) -> bool
         ensures { Tells self.now (λ pages. result ≡ has_room pages (blocks_needed parts.now (parts_in parts.now))) }
@@ -55,7 +55,7 @@ impl PageTable {
         self.free_blocks(class) > 0 || self.free_pages() > 0
     }
 
-    /// Whether there is room for this many blocks of each class.
+    /// Returns whether there is room for this many blocks of each class.
     #[inline(never)]
     fn room_for(&self, need: &Need) -> bool
         ensures { Tells self.now (λ pages. result ≡ has_room pages (λ class. slice_index need.now class)) }
@@ -68,7 +68,7 @@ impl PageTable {
         pages <= self.free_pages() as u64
     }
 
-    /// How many free pages this many blocks of a class need.
+    /// Returns how many free pages this many blocks of a class need.
     fn pages_for(&self, class: Class, blocks: u32) -> u64
         ensures pages { Tells self.now (λ pages. result ≡ whole_pages class (blocks - free_blocks pages class)) }
         ensures within { result ≤ 2 ^ 32 }
@@ -80,14 +80,14 @@ impl PageTable {
         missing.div_ceil(u64::from(class.blocks_per_page()))
     }
 
-    /// The first page of the class that isn't evacuating and has a free block.
+    /// Returns the first page of the class that isn't evacuating and has a free block.
     pub fn usable(&self, class: Class) -> Option<usize>
         ensures { Tells self.now (λ pages. result ≡ position (is_usable class) pages) }
     {
         self.first_usable(class)
     }
 
-    /// The class of a page that is in use; None for a free page.
+    /// Returns the class of a page that is in use; None for a free page.
     pub fn class(&self, page: usize) -> Option<Class>
         requires { page < length self.now }
         ensures { Tells self.now (λ pages. result ≡ option_map (λ p. p.class) (page_at pages page)) }
@@ -95,7 +95,7 @@ impl PageTable {
         Some(self.row(page)?.class)
     }
 
-    /// How many blocks of a page are allocated.
+    /// Returns how many blocks of a page are allocated.
     pub fn held(&self, page: usize) -> u32
         requires { page < length self.now }
         ensures allocated { Tells self.now (λ pages. result ≡ allocated_on (page_at pages page)) }
@@ -124,7 +124,7 @@ impl PageTable {
         })
     }
 
-    /// Whether a page is of the class, and neither evacuating nor a target.
+    /// Returns whether a page is of the class, and neither evacuating nor a target.
     pub fn is_choosable(&self, class: Class, page: usize) -> bool
         requires { page < length self.now }
         ensures { Tells self.now (λ pages. result ≡ is_choosable class (page_at pages page)) }
@@ -132,7 +132,7 @@ impl PageTable {
         page::is_choosable(class, self.row(page))
     }
 
-    /// How many free blocks of a class a page has, none if it is evacuating.
+    /// Returns how many free blocks of a class a page has, none if it is evacuating.
     pub fn free_on(&self, class: Class, page: usize) -> usize
         requires { page < length self.now }
         ensures free { Tells self.now (λ pages. result ≡ free_on class (page_at pages page)) }
@@ -141,7 +141,7 @@ impl PageTable {
         page::free_on(class, self.row(page))
     }
 
-    /// Whether a block is allocated. On a free page none is.
+    /// Returns whether a block is allocated. On a free page none is.
     pub fn is_allocated(&self, arena: &Arena, block: Block) -> bool
         requires together { Together self.now arena.now.words }
         requires page { block.page < length self.now }
@@ -157,7 +157,7 @@ impl PageTable {
         }
     }
 
-    /// The first allocated block of a page from a place on. On a free page none is.
+    /// Returns the first allocated block of a page from a place on. On a free page none is.
     pub fn next_allocated(&self, arena: &Arena, page: usize, from: usize) -> Option<usize>
         requires together { Together self.now arena.now.words }
         requires page { page < length self.now }

@@ -14,7 +14,7 @@ use graph_heap::{Found, Holder, Limits, Reference, Search, holder, search};
 use std::alloc::Global;
 use trace::{PlayFault, Sink, WriteFailed};
 
-/// The root at a place of the row of roots.
+/// Returns the root at a place of the row of roots.
 fn root_at(limits: &Limits, place: usize) -> Root
     ensures { result ≡ drawings.root_at limits.now place }
 {
@@ -53,7 +53,7 @@ struct Drawing<'a> {
 impl<'a> Drawing<'a> {
     ghost use Rattle.pictures.specs.Drawing.{shown_in};
 
-    /// Whether an object is drawn.
+    /// Returns whether an object is drawn.
     fn shows(&self, id: u64) -> bool
         ensures { result ≡ is_member nat_eq (shown_in self.now) id }
     {

@@ -35,7 +35,7 @@ use Rattle.sizing.proofs.Meters.Shifting.{shifts_still}
 use Rattle.sizing.proofs.Meters.Asking.{shifts_command}
 use Rattle.sizing.proofs.Meters.Making.{grown, not_grown, fit_after, fit_opening}
 
--- before the first event
+-- The meter starts before the first event.
 opening_shifts : (l : Limits) (m : Meter) → AreBlocks m.season.live_last (λ class. 0) → AreBlocks m.season.live_base (λ class. 0) → AreBlocks m.season.before (λ class. 0) → IsNothing m.most → Shifts l [] m
 opening_shifts l m last base before n = record {
   lives = none_live;

@@ -85,7 +85,7 @@ moving_spent h (moves.Emptying class page block chosen) e w =
     let n = mul-le-mul_right (length h.store.pages) l in
     omega (arith, a, n)
 
--- and so no more than before it and in it at most
+-- So the units spent are at most those before moving and in it.
 moving_high : (h : HeapState) (present snapshot : Graph) → Represents h present snapshot → (m : Moving) → h.phase ≡ phases.Moving m → h.units ≤ swept_units h + moving_units h
 moving_high h present snapshot w m e =
     let s = moving_spent h m e w.within in

@@ -223,7 +223,7 @@ module _ (p : Pace) (k most : ℕ) where
       present : present_of new ≡ present_of r
       present = collects_present r new budget units phase w q
 
-      -- with no cycle running
+      -- No cycle is running.
       at_rest : b.cycle_running ≡ false → IsPaced new (if awaits_sweep_end phase then t else record t { base = t.last }) b p most n
       at_rest off =
           let still = idle_chain r.heap new.heap units q.turn.chain (idle_phase r.heap.phase (sym i.cycle_running ∙ off)) in
@@ -244,7 +244,7 @@ module _ (p : Pace) (k most : ℕ) where
           by_off class true z l = absurd (cc)
           by_off class false z l = l
 
-      -- with a cycle running
+      -- A cycle is running.
       at_work : b.cycle_running ≡ true → IsPaced new (if awaits_sweep_end phase then t else record t { base = t.last }) (record b { cycle_running = in_cycle phase; asked = λ class. 0 }) p most (n + 1)
       at_work on = by_phase phase q.ends
         where

@@ -11,7 +11,7 @@ use Rattle.heap_model.specs.Phases.{awaits_sweep_end}
 use Rattle.space.specs.Placement.{IsTidy, KeepsOnly}
 use Rattle.space.proofs.Placement.Tidying.{shrinks_then, shrinks_writes, shrinks_shades, shrinks_keeps, shrinks_frees, tidy_same, tidy_put, tidy_close, tidy_move, only_less}
 
--- each action
+-- Each action keeps blocks at their proper places.
 pub tidy_action : (h after : HeapState) (cost : ℕ) (present snapshot : Graph) (objects : List Object) → Represents h present snapshot → Action h cost after → IsTidy h.store objects → IsTidy after.store objects
 tidy_action h after cost g s objects st (Scans_root next k e l sh) w = let f = shrinks_shades _ k _ sh in tidy_same h.store k.store objects f.0 f.1 w
 tidy_action h after cost g s objects st (Ends_roots next e l) w = w

@@ -115,7 +115,7 @@ only_less s t base ids f w b l main small =
     let i = h.identity in
     ap (contains ids) i ∙ w b (f.allocated b l) (sym h.forward ∙ main) (omega (arith, i, small))
 
--- one page for another
+-- One page replaces another.
 class_put : (old new : List (Option Page)) (k : ℕ) (v : Option Page) → k < length old → new ≡ set old k v → class_in v ≡ class_in (page_at old k) → (j : ℕ) → class_in (page_at new j) ≡ class_in (page_at old j)
 class_put old new k v l e same j = by_place (j == k) refl (ap (λ z. page_at z j) e ∙ set_page old k j v l)
   where

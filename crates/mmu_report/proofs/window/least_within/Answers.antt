@@ -8,7 +8,7 @@ use Rattle.mmu_report.proofs.Sweeps.{at_index, IsLeast-swept, IsOver, IsSwept-ne
 use Rattle.mmu_report.proofs.window.least_within.Goals as goal
 use Rattle.mmu_report.proofs.window.least_within.Goals.{else-loop-interval-test, then-loop-interval-test+then-last-interval}
 
--- at the start
+-- The search is at the start.
 
 first_is : (all ahead : List Interval) (passed x ended : ℕ) → ahead ≡ all → passed ≡ 0 → ended ≡ passed + covered ahead x → ended ≡ covered all x
 first_is all ahead passed x ended e none is = omega (arith, is, none, ap (λ l. covered l x) e)
@@ -35,7 +35,7 @@ loop-interval-init c =
       };
     }
 
--- at an interval
+-- The search is at an interval.
 
 pub covered_below-requires-in-loop-interval-clause-fits : goal.covered_below-requires-in-loop-interval-clause-fits
 covered_below-requires-in-loop-interval-clause-fits c =
@@ -58,7 +58,7 @@ loop-interval-preserved c =
     let ticks : c.args.window - (ended.result - c.loop-interval.covered) ≡ mutator_ticks c.args.intervals.now start c.args.window = omega (arith, tried.ticks, ended.ensures.covered) in
     rw c.min-least.ensures (IsSwept-next _ c.loop-interval.invariant c.loop-interval-test.true c.if-last-interval.false ticks ended.ensures.rising ended.ensures.later)
 
--- at the end
+-- The search is at the end.
 
 pub covered_below-requires-then-reached-last-clause-fits : goal.covered_below-requires-then-reached-last-clause-fits
 covered_below-requires-then-reached-last-clause-fits c =

@@ -1,13 +1,13 @@
 /*
- * metronome.hpp: the heap of metronome.h for C++17, as classes: a heap that is moved and not copied, mutators, and roots, which
- * give their slot back when they go out of scope. Plain C++ over the calls of metronome.h, of which nothing is proved.
+ * metronome.hpp: the heap of metronome.h for C++17, as classes. A heap can be moved, but not copied. A root gives its slot
+ * back when it goes out of scope. This is plain C++ over the calls of metronome.h, and nothing of it is proved.
  *
- * Each call comes twice. `try_NAME` throws nothing: it answers a metronome_status, and what it finds goes into its last
- * parameter, which is left as it was where the call is refused. NAME answers what it finds, and throws a Refusal; a build
- * without exceptions doesn't have it.
+ * Each call comes twice. `try_NAME` throws nothing: it returns a metronome_status, and stores its result in its last
+ * parameter, unless the call is refused. The calls with a parameter `done` store it also if one of their commands is
+ * refused. NAME returns its result, and throws a Refusal if the call is refused; a build without exceptions doesn't have it.
  *
- * A heap outlives its mutators, and a mutator its roots. A root is used with others of its own mutator: with one of another the
- * call is refused as OTHER_MUTATOR. A heap takes one call at a time, as metronome.h says; the end of a root is such a call too.
+ * A heap must outlive its mutators, and a mutator its roots. A call with roots of two mutators is refused as OTHER_MUTATOR.
+ * A heap takes one call at a time, as metronome.h says; the end of a root is a call, too.
  */
 #ifndef METRONOME_HPP
 #define METRONOME_HPP
@@ -25,14 +25,14 @@
 
 namespace barleynight {
 
-// What there is to tell of an object.
+// The identity and the shape of an object.
 struct Description {
     std::uint64_t identity;
     metronome_shape shape;
 };
 
-// A slot of a mutator, which is this root's alone until it goes out of scope: an object that it holds is kept. A root that was
-// moved away has no slot: of it each call is refused as BAD_SLOT.
+// A slot of a mutator, which belongs to this root until the root goes out of scope. The root keeps its object alive. A root
+// that was moved away has no slot, and each of its calls is refused as BAD_SLOT.
 class Root {
 public:
     Root(Root &&other) noexcept : owner(std::exchange(other.owner, nullptr)), slot(other.slot) {}
@@ -77,22 +77,22 @@ public:
         return detail::tell_kind(metronome_compare_put(owner->handle(), owner->number, slot, i, old, replacement),
                                  METRONOME_STORED, stored);
     }
-    // Reads as many word cells from the first on, and tells how many were read.
+    // Reads `count` word cells, from cell `first` on. Stores in `done` how many were read.
     std::uint32_t try_get_words(std::uint32_t first, std::uint64_t *words, std::size_t count, std::uint32_t &done) const noexcept {
         if (owner == nullptr) return METRONOME_BAD_SLOT;
         const metronome_progress progress = metronome_get_words(owner->handle(), owner->number, slot, first, words, count);
         done = progress.done;
         return progress.status;
     }
-    // Writes as many words from the first cell on, and tells how many were written.
+    // Writes `count` words, from cell `first` on. Stores in `done` how many were written.
     std::uint32_t try_put_words(std::uint32_t first, const std::uint64_t *words, std::size_t count, std::uint32_t &done) noexcept {
         if (owner == nullptr) return METRONOME_BAD_SLOT;
         const metronome_progress progress = metronome_put_words(owner->handle(), owner->number, slot, first, words, count);
         done = progress.done;
         return progress.status;
     }
-    // What as many reference cells hold, from the first on, into those of another root's object, from its cell to_first on. Each is
-    // loaded into `through` and stored from there: tells how many of these loads and stores were done.
+    // Copies `count` reference cells, from cell `first` on, into another root's object, from its cell `to_first` on. Each is
+    // loaded into `through` and stored from there. Stores in `done` how many of these loads and stores were done.
     std::uint32_t try_copy_refs(std::uint32_t first, Root &to, std::uint32_t to_first, std::uint32_t count, Root &through,
                                 std::uint32_t &done) const noexcept {
         if (const std::uint32_t why = beside(to)) return why;
@@ -102,22 +102,22 @@ public:
         done = progress.done;
         return progress.status;
     }
-    // What the other root holds, into this one, and null into the other.
+    // Moves the other root's reference into this root. The other root is then null.
     std::uint32_t try_take(Root &from) noexcept {
         if (const std::uint32_t why = beside(from)) return why;
         return metronome_move(owner->handle(), owner->number, slot, from.slot).status;
     }
-    // What the other root holds, into this one.
+    // Copies the other root's reference into this root.
     std::uint32_t try_assign(const Root &from) noexcept {
         if (const std::uint32_t why = beside(from)) return why;
         return detail::status_of(metronome_copy(owner->handle(), owner->number, slot, from.slot));
     }
-    // Null, into this one.
+    // Sets this root to null.
     std::uint32_t try_clear() noexcept {
         if (owner == nullptr) return METRONOME_BAD_SLOT;
         return detail::status_of(metronome_clear(owner->handle(), owner->number, slot));
     }
-    // Whether both hold the same object, or null.
+    // Stores in `same` whether both roots hold the same object, or both null.
     std::uint32_t try_same(const Root &other, bool &same) const noexcept {
         if (const std::uint32_t why = beside(other)) return why;
         std::uint64_t is = 0;
@@ -141,7 +141,7 @@ public:
     Root load(std::uint32_t i) const;
     void load(std::uint32_t i, Root &into) const { detail::need(try_load(i, into)); }
     void store(std::uint32_t i, const Root &from) { detail::need(try_store(i, from)); }
-    // Whether it was stored: the cell held what `expect` does.
+    // Returns whether it was stored, because the cell held the reference in `expect`.
     bool compare_store(std::uint32_t i, const Root &expect, const Root &replacement) {
         bool stored = false;
         detail::need(try_compare_store(i, expect, replacement, stored));
@@ -153,7 +153,7 @@ public:
         return word;
     }
     void put(std::uint32_t i, std::uint64_t word) { detail::need(try_put(i, word)); }
-    // At most 252 words at once.
+    // Reads at most 252 words at once.
     void get_words(std::uint32_t first, std::uint64_t *words, std::size_t count) const {
         std::uint32_t done = 0;
         detail::need(try_get_words(first, words, count, done));
@@ -162,13 +162,13 @@ public:
         std::uint32_t done = 0;
         detail::need(try_put_words(first, words, count, done));
     }
-    // At most 252 references at once.
+    // Copies at most 252 references at once.
     void copy_refs(std::uint32_t first, Root &to, std::uint32_t to_first, std::uint32_t count, Root &through) const {
         std::uint32_t done = 0;
         detail::need(try_copy_refs(first, to, to_first, count, through, done));
     }
     void take(Root &from) { detail::need(try_take(from)); }
-    // Whether it was stored: the cell was `old`.
+    // Returns whether it was stored, because the cell was `old`.
     bool compare_put(std::uint32_t i, std::uint64_t old, std::uint64_t replacement) {
         bool stored = false;
         detail::need(try_compare_put(i, old, replacement, stored));
@@ -198,20 +198,20 @@ private:
 
     explicit Root(detail::MutatorState &of) noexcept : owner(&of), slot(of.take()) {}
 
-    // Takes a free slot of a mutator, which holds null.
+    // Makes a root of a free slot of a mutator, which holds null. Returns SLOTS_USED if no slot is free.
     static std::uint32_t take(detail::MutatorState &of, std::optional<Root> &root) noexcept {
         if (of.left == 0) return METRONOME_SLOTS_USED;
         root.emplace(Root(of));
         return METRONOME_OK;
     }
 
-    // Why this root isn't used with the other one, or OK.
+    // Returns OK, or why this root can't be used with the other one.
     std::uint32_t beside(const Root &other) const noexcept {
         if (owner == nullptr) return METRONOME_BAD_SLOT;
         return other.held_by(owner);
     }
 
-    // Why this isn't a root of a mutator, or OK.
+    // Returns OK, or why this isn't a root of the mutator.
     std::uint32_t held_by(const detail::MutatorState *mutator) const noexcept {
         if (owner == nullptr) return METRONOME_BAD_SLOT;
         return owner == mutator ? METRONOME_OK : METRONOME_OTHER_MUTATOR;
@@ -221,10 +221,11 @@ private:
     std::uint32_t slot;
 };
 
-// A mutator of a heap, live from now on until it goes out of scope, and then null is in each of its slots.
+// A mutator of a heap. It is live until it goes out of scope; then its slots are set to null.
 class Mutator {
 public:
-    // ALREADY_LIVE where there is a `Mutator` of that number; NO_MUTATOR, NO_HEAP, NO_MEMORY.
+    // Makes the mutator of this number. Returns OK, ALREADY_LIVE if there is a `Mutator` of that number, NO_MUTATOR, NO_HEAP or
+    // NO_MEMORY.
     static std::uint32_t try_join(Heap &heap, std::uint32_t number, std::optional<Mutator> &mutator) noexcept {
         if (!heap.state) return METRONOME_NO_HEAP;
         detail::HeapState &its_heap = *heap.state;
@@ -240,15 +241,16 @@ public:
         return METRONOME_OK;
     }
 
-    // A root that holds null. SLOTS_USED where each slot of the mutator is a root already.
+    // Makes a root that holds null. Returns SLOTS_USED if each slot of the mutator is a root already.
     std::uint32_t try_null(std::optional<Root> &root) noexcept { return Root::take(*state, root); }
 
     std::uint32_t try_new_plain(std::uint32_t refs, std::uint32_t words, Root &into) noexcept {
         if (const std::uint32_t why = holds(into)) return why;
         return detail::status_of(metronome_new_plain(state->handle(), state->number, into.slot, refs, words));
     }
-    // A new object, whose first reference cells hold what so many roots do, and its first word cells so many words: at most 252
-    // together. Tells how many commands were done: the new object, each store and each word.
+    // Makes a new object with `held_count` references, those of the roots `held`, in its first reference cells, and
+    // `word_count` words in its first word cells: at most 252 together. Stores in `done` how many commands were done: the new
+    // object, each store and each word.
     std::uint32_t try_new_with(std::uint32_t refs, std::uint32_t words, const Root *const *held, std::size_t held_count,
                                const std::uint64_t *contents, std::size_t word_count, Root &into, std::uint32_t &done) noexcept {
         std::array<std::uint32_t, 252> slots{};
@@ -327,7 +329,7 @@ public:
         return loaded;
     }
     void store_static(std::uint32_t k, const Root &from) { detail::need(try_store_static(k, from)); }
-    // Whether it was stored: the static held what `expect` does.
+    // Returns whether it was stored, because the static held the reference in `expect`.
     bool compare_static(std::uint32_t k, const Root &expect, const Root &replacement) {
         bool stored = false;
         detail::need(try_compare_static(k, expect, replacement, stored));
@@ -338,7 +340,7 @@ public:
 private:
     explicit Mutator(std::unique_ptr<detail::MutatorState> made) noexcept : state(std::move(made)) {}
 
-    // Why this isn't the root's mutator, or OK.
+    // Returns OK, or why this isn't the root's mutator.
     std::uint32_t holds(const Root &root) const noexcept { return root.held_by(state.get()); }
 
     std::unique_ptr<detail::MutatorState> state;

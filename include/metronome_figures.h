@@ -1,9 +1,10 @@
 /*
- * metronome_figures.h: what a heap tells of itself. A part of metronome.h, which includes it.
+ * metronome_figures.h: figures of a heap. A part of metronome.h, which includes it.
  *
- * The calls need no live mutator. Each writes through its last pointer; what that leads to is left as it was where the call isn't OK.
+ * These calls need no live mutator. Each stores its figures through its last pointer and returns OK. If it returns another
+ * status, it stores nothing.
  */
-#include "metronome.h" /* before all else, since what that includes last stands on this */
+#include "metronome.h" /* before all else: it includes the other parts, which need this one */
 
 #ifndef METRONOME_FIGURES_H
 #define METRONOME_FIGURES_H
@@ -16,49 +17,49 @@ typedef struct metronome_counts {
     uint64_t pages;
     uint64_t free_pages;
     uint64_t root_cells; /* slots of all mutators, and statics */
-    uint64_t roots_used; /* those that don't hold null */
-    uint64_t objects;    /* objects that lie in the heap: all that can be reached, and garbage that isn't freed yet */
-    uint64_t parts;      /* the parts that they are cut into */
+    uint64_t roots_used; /* root cells that don't hold null */
+    uint64_t objects;    /* objects in the heap: the reachable ones, and garbage that isn't freed yet */
+    uint64_t parts;      /* the parts of these objects */
     uint64_t old_copies; /* blocks that were moved and aren't freed yet */
 } metronome_counts;
 
-/* A page: 2048 words in blocks of one size. Of a free page each number is 0. */
+/* A page: 2048 words in blocks of one size. Each number of a free page is 0. */
 typedef struct metronome_page_view {
     uint32_t size;      /* the words of a block; the page has 2048 / size of them */
-    uint32_t held;      /* how many blocks hold parts of objects, or old copies of such */
-    uint32_t leaving;   /* 1 where its blocks are being moved away, and it gets no new one */
-    uint32_t receiving; /* 1 where a block was moved to it since the last sweep */
+    uint32_t held;      /* the blocks that hold parts of objects, or old copies of parts */
+    uint32_t leaving;   /* 1 if its blocks are being moved away, and it gets no new ones */
+    uint32_t receiving; /* 1 if a block was moved to it since the last sweep */
 } metronome_page_view;
 
-/* A cycle. */
+/* The figures of one cycle. */
 typedef struct metronome_cycle {
-    uint64_t number;      /* which one it is, from 1 */
-    uint64_t quanta;      /* quanta that found it running */
+    uint64_t number;      /* its number, counted from 1 */
+    uint64_t quanta;      /* the quanta that found it running */
     uint64_t units;       /* the units that they spent */
     uint64_t longest;     /* the most units that one of them spent */
-    uint64_t free_before; /* free pages when it began */
-    uint64_t free_after;  /* free pages when it had ended */
+    uint64_t free_before; /* the free pages when it began */
+    uint64_t free_after;  /* the free pages when it had ended */
 } metronome_cycle;
 
-/* The phase, a metronome_phase_number. OK, NO_HEAP. */
+/* Stores the phase, a metronome_phase_number. Returns OK, or NO_HEAP if the handle is closed. */
 uint32_t metronome_phase(metronome *heap, uint32_t *phase) METRONOME_NONNULL;
 
-/* The units that were spent since the last cycle began. OK, NO_HEAP. */
+/* Stores the units spent since the last cycle began. Returns OK, or NO_HEAP if the handle is closed. */
 uint32_t metronome_units(metronome *heap, uint64_t *units) METRONOME_NONNULL;
 
-/* How many pages are free. OK, NO_HEAP. */
+/* Stores the number of free pages. Returns OK, or NO_HEAP if the handle is closed. */
 uint32_t metronome_free_pages(metronome *heap, uint64_t *free_pages) METRONOME_NONNULL;
 
-/* All counts. It looks at each block of the heap, and so takes time by its size. OK, NO_HEAP. */
+/* Counts the pages, roots, objects and parts. Time grows with the heap's size, since it looks at each block. Returns OK, or
+ * NO_HEAP if the handle is closed. */
 uint32_t metronome_count(metronome *heap, metronome_counts *counts) METRONOME_NONNULL;
 
-/*
- * The last cycle that ended: for a program's log, after a quantum that ended in METRONOME_IDLE, or after a new object where a plan is
- * kept. Each number is 0 if no cycle has ended yet. OK, NO_HEAP.
- */
+/* Stores the figures of the last cycle that ended, or zeros if none has. For a log, call it after a quantum that ended in
+ * METRONOME_IDLE, or after a new object if the heap keeps a plan. Returns OK, or NO_HEAP if the handle is closed. */
 uint32_t metronome_last_cycle(metronome *heap, metronome_cycle *cycle) METRONOME_NONNULL;
 
-/* A page, by its number from 0; one that there isn't is given as a free one. OK, NO_HEAP. */
+/* Stores the figures of page `number`, counted from 0. A page that doesn't exist is reported as free. Returns OK, or NO_HEAP
+ * if the handle is closed. */
 uint32_t metronome_page(metronome *heap, size_t number, metronome_page_view *page) METRONOME_NONNULL;
 
 #ifdef __cplusplus

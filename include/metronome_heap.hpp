@@ -1,5 +1,5 @@
 /*
- * metronome_heap.hpp: the part of metronome.hpp, which includes it and says how its calls come, that is of whole heaps.
+ * metronome_heap.hpp: the part of metronome.hpp for whole heaps. metronome.hpp includes it, and says how its calls work.
  */
 #ifndef METRONOME_HEAP_HPP
 #define METRONOME_HEAP_HPP
@@ -24,25 +24,25 @@ namespace detail {
 
 constexpr std::size_t MOST_MUTATORS = 64, MOST_SLOTS = 256;
 
-// An answer as a status.
+// Returns the status of an answer.
 inline std::uint32_t status_of(metronome_answer answer) noexcept {
     constexpr std::uint32_t ok = METRONOME_OK;
     return answer.kind == METRONOME_REFUSED ? static_cast<std::uint32_t>(answer.number) : ok;
 }
 
-// The number of an answer, given where it isn't refused.
+// Stores the number of an answer, unless it is refused. Returns its status.
 inline std::uint32_t tell(metronome_answer answer, std::uint64_t &number) noexcept {
     if (answer.kind != METRONOME_REFUSED) number = answer.number;
     return status_of(answer);
 }
 
-// Whether an answer is of a kind, given where it isn't refused.
+// Stores whether an answer is of a kind, unless it is refused. Returns its status.
 inline std::uint32_t tell_kind(metronome_answer answer, std::uint32_t kind, bool &is) noexcept {
     if (answer.kind != METRONOME_REFUSED) is = answer.kind == kind;
     return status_of(answer);
 }
 
-// A heap that stays where it is when its `Heap` is moved, and which of its mutators have a `Mutator`.
+// A heap that stays in place when its `Heap` is moved, and the set of its mutators that have a `Mutator`.
 struct HeapState {
     HeapState() = default;
     HeapState(const HeapState &) = delete;
@@ -86,7 +86,7 @@ struct MutatorState {
 
 #ifdef __cpp_exceptions
 
-// What a refused call throws: its status, and the text of it.
+// The exception of a refused call, with its status and the status's text.
 class Refusal : public std::exception {
 public:
     explicit Refusal(std::uint32_t status) noexcept : its_status(status) { metronome_text(status, text, sizeof text); }
@@ -109,7 +109,7 @@ inline void need(std::uint32_t status) {
 
 #endif
 
-// A heap, or none: of a closed one each call is refused as NO_HEAP.
+// A heap. If it is closed, each call is refused as NO_HEAP.
 class Heap {
 public:
     Heap() = default;
@@ -125,10 +125,10 @@ public:
         return METRONOME_OK;
     }
 
-    // Clears the first pages, this many or all, before they are used.
+    // Clears the first `pages` pages, or all if there are fewer, before they are used.
     std::uint32_t try_touch(std::size_t pages) noexcept { return metronome_touch(handle(), pages); }
 
-    // BUSY where a cycle is running already.
+    // Begins a cycle. Returns BUSY if one is running already.
     std::uint32_t try_begin() noexcept { return metronome_begin(handle()); }
     std::uint32_t try_quantum(std::uint32_t budget, metronome_spent &spent) noexcept {
         return metronome_quantum(handle(), budget, &spent);
@@ -138,7 +138,8 @@ public:
         return metronome_pace(handle(), &pacing, words);
     }
 
-    // NO_PLAN where the heap was used already, or the plan doesn't fit in it; or where it keeps none.
+    // Makes the heap keep a plan, and reads the work done for it. try_keep returns NO_PLAN if the heap was used already or the
+    // plan doesn't fit it; try_kept returns NO_PLAN if the heap keeps no plan.
     std::uint32_t try_keep(const metronome_flow &flow) noexcept { return metronome_keep(handle(), &flow); }
     std::uint32_t try_kept(metronome_work &work) noexcept { return metronome_kept(handle(), &work); }
 
@@ -146,7 +147,7 @@ public:
     std::uint32_t try_units(std::uint64_t &units) noexcept { return metronome_units(handle(), &units); }
     std::uint32_t try_free_pages(std::uint64_t &pages) noexcept { return metronome_free_pages(handle(), &pages); }
     std::uint32_t try_count(metronome_counts &counts) noexcept { return metronome_count(handle(), &counts); }
-    // The last cycle that ended; each number is 0 if none has.
+    // Stores the figures of the last cycle that ended, or zeros if none has.
     std::uint32_t try_last_cycle(metronome_cycle &cycle) noexcept { return metronome_last_cycle(handle(), &cycle); }
     std::uint32_t try_page(std::size_t number, metronome_page_view &page) noexcept {
         return metronome_page(handle(), number, &page);
@@ -155,7 +156,7 @@ public:
         return metronome_block(handle(), page, number, &block);
     }
 
-    // The handle for calls of metronome.h. It is only read and written by these.
+    // Returns the handle for calls of metronome.h. Only these calls may read or write it.
     metronome *handle() noexcept { return state ? &state->handle : &none; }
 
 #ifdef __cpp_exceptions
@@ -163,7 +164,7 @@ public:
 
     void touch(std::size_t pages) { detail::need(try_touch(pages)); }
 
-    // Whether a cycle began: none was running.
+    // Returns whether a cycle began, because none was running.
     bool begin() {
         const std::uint32_t status = try_begin();
         if (status != METRONOME_BUSY) detail::need(status);
@@ -177,7 +178,7 @@ public:
     void whole_cycle(std::uint32_t budget) { detail::need(try_whole_cycle(budget)); }
     void pace(metronome_pacing &pacing, std::uint64_t words) { detail::need(try_pace(pacing, words)); }
 
-    // From here on the collector works before each new object as much as the plan wants.
+    // Makes the heap keep a plan: from here on, the collector works before each new object as much as the plan requires.
     void keep(const metronome_flow &flow) { detail::need(try_keep(flow)); }
     metronome_work kept() {
         metronome_work work{};
@@ -229,12 +230,13 @@ private:
     metronome none = METRONOME_CLOSED;
 };
 
-// What a cycle takes at most in a heap of these settings.
+// Stores the most that a cycle takes in a heap of these settings.
 inline std::uint32_t try_cycle_limit(const metronome_settings &settings, metronome_limit &limit) noexcept {
     return metronome_cycle_limit(&settings, &limit);
 }
 
-// The plan for a heap of these settings, of the most words for each quantum with which those of a cycle last until its end.
+// Stores the plan for a heap of these settings: the one with the most words for each quantum, of those whose words for a cycle
+// last until the cycle's end.
 inline std::uint32_t try_plan(const metronome_settings &settings, std::uint64_t live_words, metronome_flow &flow) noexcept {
     return metronome_plan(&settings, live_words, &flow);
 }

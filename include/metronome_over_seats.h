@@ -1,7 +1,7 @@
 /*
- * metronome_over_seats.h: a gate, where threads wait for the turn of a shared heap, and frames and a pace in a turn, as plain C
- * over the calls of metronome_shared.h, which includes it. Of it nothing is proved. It needs gcc, clang, or another compiler that
- * has their atomic operations.
+ * metronome_over_seats.h: a gate, where threads wait for the turn of a shared heap, and frames and a pace in a turn.
+ * metronome_shared.h includes it. It is plain C over the calls of metronome_shared.h, and nothing of it is proved. It needs
+ * gcc, clang, or another compiler that has their atomic operations.
  */
 #ifndef METRONOME_OVER_SEATS_H
 #define METRONOME_OVER_SEATS_H
@@ -20,10 +20,10 @@
 #ifdef __cplusplus
 extern "C" {
 #elif defined(__linux__)
-long syscall(long number, ...); /* which unistd.h doesn't declare for a program of the C standard alone */
+long syscall(long number, ...); /* unistd.h doesn't declare it for a program of the C standard alone */
 #endif
 
-/* The thread sanitizer doesn't see what the library does, so it is told that the turn orders what threads do. */
+/* The thread sanitizer doesn't see the library's code. So these calls tell it that the turn orders the work of threads. */
 #if defined(__SANITIZE_THREAD__)
 #define METRONOME_GATE_TELLS
 #elif defined(__has_feature)
@@ -38,46 +38,48 @@ void __tsan_release(void *at);
 
 /* ---- A gate ---- */
 
-/* A gate, at which threads wait for the turn of one heap. Each thread that takes turns there goes through it. All zeros at first,
- * as METRONOME_GATE, or METRONOME_GATE_FAIR; its fields belong to the calls below. It stays where it is as long as a thread uses it,
- * best on a cache line that nothing else is written on.
+/* A gate, at which threads wait for the turn of one heap. Each thread that takes turns there must go through it. Initialize
+ * it with METRONOME_GATE (all zeros) or METRONOME_GATE_FAIR; only the calls below may use its fields. Don't move it while a
+ * thread uses it. It is best on a cache line of its own.
  *
- * METRONOME_GATE is fast, and not fair. A thread that gives the turn back and comes again at once often takes it again, before a thread
- * that was woken is there. So a thread may wait for any number of turns.
+ * METRONOME_GATE is fast, and not fair. If a thread gives the turn back and asks again at once, it often gets the turn
+ * before a thread that was woken can ask. So a thread may wait for any number of turns.
  *
- * METRONOME_GATE_FAIR(turns) is fair. A thread that finds the turn taken gets a place in a line. From then on these turns may come
- * before its own, and no others:
+ * METRONOME_GATE_FAIR(turns) is fair. A thread that finds the turn taken gets a place in a line. From then on these turns
+ * may come before its own, and no others:
  *
  * - the one that is running,
  * - one of each other thread that came before it,
  * - `turns` of threads that came after it, in its whole wait.
  *
- * With 0, threads get the turn in the order in which they come. With more, fewer turns have to wait until a thread is awake: with 3 a
- * thread that always comes again at once has up to 4 turns in a row. `turns` is less than UINT32_MAX.
+ * With 0, threads get the turn in the order in which they come. With more, fewer turns have to wait until a thread is awake.
+ * For example, with 3 a thread that always comes again at once has up to 4 turns in a row. `turns` is less than UINT32_MAX.
  *
- * A thread that calls metronome_seat_enter itself has no place, and may pass the line by as often as it likes. The line knows no
- * priorities: docs/EMBEDDING.md says how threads of several priorities wait. docs/PERFORMANCE.md has what turns cost. */
+ * A thread that calls metronome_seat_enter itself has no place, and may pass the line by as often as it likes. The line
+ * knows no priorities: docs/EMBEDDING.md says how threads of several priorities wait. docs/PERFORMANCE.md says how
+ * long turns take. */
 typedef struct metronome_gate {
-    uint32_t waiting; /* how many threads wait, or are about to, at a gate that isn't fair */
-    uint32_t asleep;  /* there 1 if one of these may be asleep that nobody is about to wake; at a fair gate the marks of such threads */
-    uint32_t fair;    /* 0, or at a fair gate one more than its number of turns */
-    uint32_t next;    /* the place in line that is given next; places count from 0, and wrap */
+    uint32_t waiting; /* the threads that wait, or are about to, at a gate that isn't fair */
+    uint32_t asleep;  /* not fair: 1 if a thread may be asleep that none is about to wake; fair: the marks of those threads */
+    uint32_t fair;    /* 0, or at a fair gate its number of turns, plus 1 */
+    uint32_t next;    /* the next place in line to give; places count from 0, and wrap */
     uint32_t first;   /* the place that is first in line; `next` if nobody waits */
-    uint32_t passed;  /* how many turns were taken before those in line by threads that came later; set in turns */
+    uint32_t passed;  /* the turns that threads took before threads in line that came earlier; set in turns */
     uint32_t until;   /* the place that was `next` when the last of these turns began; set in turns */
-    uint32_t wakes;   /* how often threads in line were woken: they sleep as long as it stays */
+    uint32_t wakes;   /* how often threads in line were woken; they sleep while it stays the same */
 } metronome_gate;
 
 #define METRONOME_GATE { 0, 0, 0, 0, 0, 0, 0, 0 }
 #define METRONOME_GATE_FAIR(turns) { 0, 0, (uint32_t)(turns) + 1, 0, 0, 0, 0, 0 }
 
-/* How often a thread asks for the turn, 1 or more, before it sleeps. With fewer a thread that gives the turn back takes it again
- * more often, and threads do more calls in all; with more a short turn is waited for with no call of the system. */
+/* How often a thread asks for the turn before it sleeps, at least once. With a lower number, a thread that gives the turn
+ * back takes it again more often, and all threads together do more calls. With a higher one, a thread waits for a short turn
+ * without a system call. */
 #ifndef METRONOME_GATE_TRIES
 #define METRONOME_GATE_TRIES 16
 #endif
 
-/* Lets the other thread of a processor's core go on. */
+/* Lets the other thread of the processor's core run. */
 static inline void metronome_gate_pause(void) {
 #if defined(__x86_64__) || defined(__i386__)
     __builtin_ia32_pause();
@@ -90,7 +92,7 @@ METRONOME_NONNULL static inline uint32_t metronome_gate_look(uint32_t *at) {
     return __atomic_load_n(at, __ATOMIC_SEQ_CST);
 }
 
-/* Sleeps if *at is `value`, until a thread with one of these marks is woken; or for less. */
+/* Sleeps, if *at is `value`, until threads with one of these marks are woken. It may return earlier. */
 METRONOME_NONNULL static inline void metronome_gate_sleep(uint32_t *at, uint32_t value, uint32_t marks) {
 #ifdef __linux__
     syscall(SYS_futex, at, FUTEX_WAIT_BITSET_PRIVATE, (long)value, NULL, NULL, (long)marks);
@@ -100,7 +102,7 @@ METRONOME_NONNULL static inline void metronome_gate_sleep(uint32_t *at, uint32_t
 #endif
 }
 
-/* Wakes as many threads that sleep there and have one of these marks, or all, if they are fewer. */
+/* Wakes at most `threads` of the threads that sleep there and have one of these marks. */
 METRONOME_NONNULL static inline void metronome_gate_rouse(uint32_t *at, int32_t threads, uint32_t marks) {
 #ifdef __linux__
     syscall(SYS_futex, at, FUTEX_WAKE_BITSET_PRIVATE, (long)threads, NULL, NULL, (long)marks);
@@ -109,14 +111,15 @@ METRONOME_NONNULL static inline void metronome_gate_rouse(uint32_t *at, int32_t 
 #endif
 }
 
-/* The mark of a place. Places that are 32 apart share one: who is woken for another's place looks, and sleeps again. */
+/* Returns the mark of a place. Places that are 32 apart share a mark. A thread that is woken for another's place looks, and
+ * sleeps again. */
 static inline uint32_t metronome_gate_mark(uint32_t place) {
     return (uint32_t)1 << place % 32;
 }
 
-/* Wakes one of the threads that sleep, unless one is awake that was woken since: it asks, and looks after the others when it
- * leaves. At a fair gate that is the first in line. Where none waits it is a look. metronome_gate_leave does it; a program calls it
- * where a turn was given back in another way. */
+/* Wakes one of the threads that sleep; at a fair gate the first in line. If a thread that was woken earlier is still awake,
+ * wakes none: that thread asks for the turn, and wakes the next one when it leaves. If no thread waits, it only reads one
+ * field. metronome_gate_leave calls it; a program must call it if it gave a turn back in another way. */
 METRONOME_NONNULL static inline void metronome_gate_wake(metronome_gate *gate) {
     if (gate->fair == 0) {
         if (metronome_gate_look(&gate->waiting) == 0) return;
@@ -132,8 +135,8 @@ METRONOME_NONNULL static inline void metronome_gate_wake(metronome_gate *gate) {
     metronome_gate_rouse(&gate->wakes, INT32_MAX, mark);
 }
 
-/* Waits for the turn at a gate that isn't fair. Who waits says so before it asks once more, and who gives the turn back looks for who
- * waits after that: so a thread sleeps only where another is going to look. */
+/* Waits for the turn at a gate that isn't fair. A thread announces that it waits, then asks once more. A thread that gives
+ * the turn back looks for waiters afterwards. So a thread sleeps only if another is going to look. */
 METRONOME_NONNULL static inline uint32_t metronome_gate_wait(metronome_gate *gate, metronome_seat *seat) {
     uint32_t status;
     __atomic_fetch_add(&gate->waiting, 1, __ATOMIC_SEQ_CST);
@@ -149,13 +152,14 @@ METRONOME_NONNULL static inline uint32_t metronome_gate_wait(metronome_gate *gat
 
 /* ---- A fair gate ---- */
 
-/* Whether a place is `other` or behind it. */
+/* Returns whether a place is `other` or comes after it. */
 static inline int metronome_gate_is_at(uint32_t place, uint32_t other) {
     return place - other < (uint32_t)1 << 31;
 }
 
-/* In the turn of a thread that came when `next` was the next place: whether it may have this turn. It may if all at places before
- * have had theirs; else it passes them by, if as many turns as the gate has didn't do so yet. */
+/* Returns whether a thread that came when `next` was the next place may keep the turn that it has. It may if all threads at
+ * earlier places have had their turns. Otherwise it passes them by, if fewer turns than the gate allows have done so, and
+ * counts this turn. */
 METRONOME_NONNULL static inline int metronome_gate_passes(metronome_gate *gate, uint32_t next) {
     uint32_t passed = metronome_gate_look(&gate->passed);
     if (metronome_gate_is_at(metronome_gate_look(&gate->first), next)) return 1;
@@ -165,13 +169,14 @@ METRONOME_NONNULL static inline int metronome_gate_passes(metronome_gate *gate, 
     return 1;
 }
 
-/* Asks for the turn as a thread that comes. TAKEN also if threads in line were passed by as often as the gate has turns. */
+/* Asks for the turn as a thread without a place. Returns TAKEN also if threads in line were passed by as often as the gate
+ * allows. */
 METRONOME_NONNULL static inline uint32_t metronome_gate_ask(metronome_gate *gate, metronome_seat *seat) {
     uint32_t next = metronome_gate_look(&gate->next), status;
     uint64_t place;
     if (metronome_gate_look(&gate->first) == next) return metronome_seat_enter(seat);
     if (metronome_gate_look(&gate->passed) + 1 >= gate->fair) {
-        status = metronome_seat_place(seat, &place); /* what else it would be told */
+        status = metronome_seat_place(seat, &place); /* any other reason to refuse the turn */
         return status == METRONOME_OK ? (uint32_t)METRONOME_TAKEN : status;
     }
     status = metronome_seat_enter(seat);
@@ -181,15 +186,15 @@ METRONOME_NONNULL static inline uint32_t metronome_gate_ask(metronome_gate *gate
     return METRONOME_TAKEN;
 }
 
-/* Asks for the turn from a place in line. */
+/* Asks for the turn from a place in line. Returns TAKEN unless the place is the first. */
 METRONOME_NONNULL static inline uint32_t metronome_gate_ask_from(metronome_gate *gate, metronome_seat *seat, uint32_t place) {
     return metronome_gate_look(&gate->first) == place ? metronome_seat_enter(seat) : (uint32_t)METRONOME_TAKEN;
 }
 
-/* Waits for the turn in line. A thread marks its place before it asks once more, and who gives the turn back looks for the first one's
- * mark after that: so a thread sleeps only if another is going to look. Nobody but a thread that then wakes all with a mark takes the
- * mark away. In its turn the thread makes the next place the first one. If none is left there that was passed by, later threads may
- * pass again. */
+/* Waits for the turn in line. A thread marks its place, then asks once more. A thread that gives the turn back looks for the
+ * first place's mark afterwards. So a thread sleeps only if another is going to look. Only a thread that then wakes all
+ * threads with a mark clears the mark. In its turn, the thread makes the next place the first one. Once no thread in line
+ * was passed by, later threads may pass again. */
 METRONOME_NONNULL static inline uint32_t metronome_gate_wait_in_line(metronome_gate *gate, metronome_seat *seat) {
     uint32_t place = __atomic_fetch_add(&gate->next, 1, __ATOMIC_SEQ_CST), mark = metronome_gate_mark(place);
     uint32_t status = metronome_gate_ask_from(gate, seat, place);
@@ -214,8 +219,8 @@ METRONOME_NONNULL static inline uint32_t metronome_gate_wait_in_line(metronome_g
 
 /* ---- At either gate ---- */
 
-/* Takes the turn, and waits for it where another seat has it. Where none has it, and nobody waits for it, it is a call of
- * metronome_seat_enter and no call of the system. OK, INSIDE, NO_HEAP, BAD_HANDLE. */
+/* Takes the turn, and waits for it while another seat has it. If no seat has it and no thread waits, it calls
+ * metronome_seat_enter once and makes no system call. Returns OK, INSIDE, NO_HEAP or BAD_HANDLE. */
 METRONOME_NONNULL static inline uint32_t metronome_gate_enter(metronome_gate *gate, metronome_seat *seat) {
     uint32_t status;
     if (gate->fair != 0) {
@@ -235,8 +240,8 @@ METRONOME_NONNULL static inline uint32_t metronome_gate_enter(metronome_gate *ga
     return status;
 }
 
-/* Gives the turn back, and wakes a thread that waits for it. A turn that ends by metronome_seat_leave or metronome_seat_destroy
- * wakes none: metronome_gate_wake does then. OK, OUTSIDE, NO_HEAP, BAD_HANDLE. */
+/* Gives the turn back, and wakes a thread that waits for it. If a turn ends by metronome_seat_leave or
+ * metronome_seat_destroy, no thread is woken: call metronome_gate_wake then. Returns OK, OUTSIDE, NO_HEAP or BAD_HANDLE. */
 METRONOME_NONNULL static inline uint32_t metronome_gate_leave(metronome_gate *gate, metronome_seat *seat) {
 #ifdef METRONOME_GATE_TELLS
     __tsan_release(gate);
@@ -246,9 +251,10 @@ METRONOME_NONNULL static inline uint32_t metronome_gate_leave(metronome_gate *ga
     return status;
 }
 
-/* ---- In a turn: what metronome_over_calls.h has for a heap. A row and its frames are of a mutator of the seat's ---- */
+/* ---- In a turn: the calls of metronome_over_calls.h, for a seat. A row belongs to one of the seat's mutators ---- */
 
-/* As metronome_close_frame. OK; OUTSIDE, NOT_YOURS, NOT_LIVE, NO_HEAP, BAD_SLOT. */
+/* Closes a frame, one slot after the other, the last first. If a slot is refused, the frame keeps that slot and those before
+ * it. Returns OK, OUTSIDE, NOT_YOURS, NOT_LIVE, NO_HEAP or BAD_SLOT. */
 METRONOME_NONNULL static inline uint32_t metronome_seat_close_frame(metronome_seat *seat, metronome_row *row,
                                                                     metronome_frame frame) {
     while (row->next > frame) {
@@ -259,7 +265,7 @@ METRONOME_NONNULL static inline uint32_t metronome_seat_close_frame(metronome_se
     return METRONOME_OK;
 }
 
-/* Does what metronome_whole_cycle does. All other seats wait meanwhile. OK, BAD_BUDGET, OUTSIDE, NO_HEAP. */
+/* Does the same as metronome_whole_cycle. All other seats wait meanwhile. Returns OK, BAD_BUDGET, OUTSIDE or NO_HEAP. */
 METRONOME_NONNULL static inline uint32_t metronome_seat_whole_cycle(metronome_seat *seat, uint32_t budget) {
     metronome_spent spent = { 0, METRONOME_IDLE };
     uint32_t phase = METRONOME_IDLE;
@@ -271,8 +277,8 @@ METRONOME_NONNULL static inline uint32_t metronome_seat_whole_cycle(metronome_se
     return status;
 }
 
-/* As metronome_pace, which says how to choose the numbers. One pacing serves all seats of a heap: it is used in turns alone, and
- * counts what all of them make. OK; BAD_BUDGET, OUTSIDE, NO_HEAP. */
+/* Does the same as metronome_pace, which says how to choose the numbers. One pacing serves all seats of a heap: use it only
+ * in turns, and count in it the words that all seats make. Returns OK, BAD_BUDGET, OUTSIDE or NO_HEAP. */
 METRONOME_NONNULL static inline uint32_t metronome_seat_pace(metronome_seat *seat, metronome_pacing *pacing, uint64_t words) {
     uint32_t phase = METRONOME_IDLE, status = metronome_seat_phase(seat, &phase);
     if (status != METRONOME_OK) return status;

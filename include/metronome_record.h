@@ -1,22 +1,22 @@
 /*
- * metronome_record.h: metronome.h, with each call written down. A program includes it in place of metronome.h, in each of its
- * files, and names where the lines go:
+ * metronome_record.h: metronome.h, with each call written down. A program includes it in place of metronome.h, in each of
+ * its files, and names where the lines go:
  *
  *     #include "metronome_record.h"
  *     metronome_record(fopen("run.toml", "w"), fopen("run.trace", "w"), NULL);
  *
- * The heap that it makes next is recorded from metronome_create to metronome_destroy: its settings as a configuration, and each
- * call as a line of a trace of version 2 (docs/MANUAL.md). `metronome pages run.toml run.trace` then tells how many pages it
- * needs, `inspect` and `draw` what fills it, and `play` does it again, unless the heap keeps a plan: what the collector does for
- * that isn't written. Calls that only tell a figure or a text are no events of a heap, and aren't written; nor is the time that
- * passes, so `mmu` has no windows to report.
+ * The heap that it makes next is recorded from metronome_create to metronome_destroy: its settings as a configuration, and
+ * each call as a line of a trace of version 2 (docs/MANUAL.md). `metronome pages run.toml run.trace` then prints how many
+ * pages it needs, and `inspect` and `draw` show what fills it. `play` does the calls again, unless the heap keeps a plan:
+ * the collector's work for a plan isn't written. Calls that only return a figure or a text are no events of a heap, and
+ * aren't written; nor is the time that passes, so `mmu` has no windows to report.
  *
- * What can't be written is reported on stderr, each reason once, and counted, and the program goes on: calls of another heap, or
- * of a closed handle; a quantum whose budget is refused; all lines from the first one on that its file doesn't take. Up to that
- * line the trace is whole, since none of the others changes the heap that is recorded.
+ * Some calls can't be written: calls of another heap, or of a closed handle; a quantum whose budget is refused; all lines
+ * from the first one on that its file doesn't take. Each reason is reported on stderr once, the calls are counted, and the
+ * program goes on. Up to such a line the trace is whole, since none of the other calls changes the recorded heap.
  *
- * Plain C over the calls: nothing of it is proved. A handle is told from others by its fields, which are the library's. The
- * calls of a heap come one at a time, and so do their lines.
+ * This is plain C over the calls, and nothing of it is proved. It tells handles apart by their fields, which belong to the
+ * library. The calls of a heap come one at a time, and so do their lines.
  */
 #ifndef METRONOME_RECORD_H
 #define METRONOME_RECORD_H
@@ -241,7 +241,7 @@ static inline metronome_answer metronome_recorded_describe(metronome *heap, uint
         return answer; \
     }
 
-/* What stands in brackets, without them, after a comma. */
+/* Removes the brackets of a list, and puts a comma before it. */
 #define METRONOME_LIST(...) , __VA_ARGS__
 
 /* The formats of 1, 2 and more numbers below 2^32. */

@@ -1,25 +1,25 @@
 /*
- * metronome_record_lists.h: the part of metronome_record.h, which includes it, that is of calls which do lists of commands: each
- * command has a line of its own.
+ * metronome_record_lists.h: the part of metronome_record.h for calls that do lists of commands. Each command has a line of
+ * its own. metronome_record.h includes it.
  */
 #ifndef METRONOME_RECORD_LISTS_H
 #define METRONOME_RECORD_LISTS_H
 
 #include "metronome_record.h"
 
-/* Whether a command of a list was done: counts it, or tells why it wasn't. */
+/* Returns whether a command of a list was done. Counts it, or stores why it was refused. */
 static inline bool metronome_record_counts(metronome_progress *progress, metronome_answer answer) {
     if (answer.kind == METRONOME_REFUSED) progress->status = (uint32_t)answer.number;
     else progress->done++;
     return answer.kind != METRONOME_REFUSED;
 }
 
-/* Cell or slot i after a number, and the greatest number where there is none. */
+/* Returns the number of the cell or slot i after `first`, or the greatest number if that is too large. */
 static inline uint32_t metronome_record_after(uint32_t first, size_t i) {
     return i > UINT32_MAX - first ? UINT32_MAX : first + (uint32_t)i;
 }
 
-/* What is told of a list that names too many cells, or where the handle holds no heap. */
+/* Returns whether a list is refused: it names too many cells, or the handle holds no heap. Stores the status. */
 static inline bool metronome_record_refuses(metronome *heap, size_t cells, metronome_progress *progress) {
     uint32_t phase;
     progress->done = 0;

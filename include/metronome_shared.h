@@ -1,34 +1,38 @@
 /*
- * metronome_shared.h: a heap that threads share, for C11, C17 and C++17. Each thread has a seat at the heap. A seat takes the
- * turn, does as many calls as it likes, and gives the turn back: no other seat's calls come between. With several calls a turn
- * threads contend less. The calls are of the library of metronome.h, which this header includes.
+ * metronome_shared.h: a heap that threads share, for C11, C17 and C++17. Each thread has a seat at the heap. A seat takes
+ * the turn, does as many calls as it likes, and gives the turn back: no other seat's calls come between. Threads contend
+ * less if each turn has several calls. The calls are of the library of metronome.h, which this header includes.
  *
- * No call waits. Where another seat has the turn, TAKEN says so, and nothing has changed. How a thread waits is the program's: at
- * a gate, by metronome_gate_enter and metronome_gate_leave of metronome_over_seats.h, which this header includes unless
- * METRONOME_CALLS_ALONE is defined; or at a mutex of its own, held from before metronome_seat_enter until after
- * metronome_seat_leave. A thread that forgets to wait is told TAKEN, or OUTSIDE, and the heap stays whole.
+ * No call waits. If another seat has the turn, a call returns TAKEN, and nothing has changed. A program has two ways to
+ * wait:
  *
- * MUTATORS. A seat calls for a range of mutators, which are no other seat's. The first seat of a heap has them all, and
- * metronome_seat_another gives some of a seat's to a new one. A seat with none may still take the turn for the collector's calls.
- * Statics are all seats'.
+ * - at a gate, by metronome_gate_enter and metronome_gate_leave of metronome_over_seats.h, which this header includes unless
+ *   METRONOME_CALLS_ALONE is defined;
+ * - at a mutex of its own, held from before metronome_seat_enter until after metronome_seat_leave.
  *
- * THREADS. Threads may call on different seats at once, also of one heap; a seat takes one call at a time. The turn is a seat's
- * and no thread's: a seat may go from thread to thread, its turn too. What a program reads and writes in its turns needs no further
- * lock: who takes the turn finds all that was written before it was given back.
+ * If a thread forgets to wait, its calls return TAKEN or OUTSIDE, and the heap stays whole.
  *
- * NOT PROMISED is that a seat ever gets the turn, nor how soon, nor in what order seats get it. At a fair gate, METRONOME_GATE_FAIR,
- * a thread waits for a bounded number of turns, which is tested. A seat whose thread ends in its turn keeps it, so that it is TAKEN
- * for ever: unless another thread, once that one has ended, calls metronome_seat_leave or metronome_seat_destroy on it.
+ * MUTATORS. A seat calls for a range of mutators, which belong to no other seat. The first seat of a heap has them all, and
+ * metronome_seat_another gives some of a seat's mutators to a new seat. A seat without mutators may still take the turn for
+ * the collector's calls. Statics belong to all seats.
  *
- * WHAT C MUST NOT DO with a metronome_seat is what it must not do with a metronome, as metronome.h says. A seat that was never set
- * is answered with BAD_HANDLE, unless it has by chance the one value that the library leaves in an open one.
+ * THREADS. Threads may call on different seats at once, also of one heap. A seat takes one call at a time. The turn belongs
+ * to a seat, not to a thread: a seat may go from thread to thread, even in its turn. Data that a program reads and writes
+ * only in turns need no other lock: a thread that takes the turn sees all that was written before the turn was given back.
  *
- * MEMORY of a heap comes from malloc by metronome_seat_create, and goes back when its last seat is destroyed. That of a seat, a
- * few hundred bytes, comes when it is made. No other call asks for any. A page is cleared when an object is first made on it: no
+ * NOT PROMISED: no seat is promised that it gets the turn, how soon, or in which order. At a fair gate, METRONOME_GATE_FAIR,
+ * a thread waits for a bounded number of turns; this is tested. If a thread ends in its turn, its seat keeps the turn, and
+ * all others get TAKEN. Another thread may then call metronome_seat_leave or metronome_seat_destroy on that seat.
+ *
+ * RULES FOR C. The rules for a metronome in metronome.h hold for a metronome_seat, too. Calls on a seat that was never set
+ * return BAD_HANDLE, unless it has by chance the one value that the library leaves in an open one.
+ *
+ * MEMORY. metronome_seat_create takes the memory of a heap from malloc; it goes back when the heap's last seat is destroyed.
+ * A new seat takes a few hundred bytes. No other call takes memory. A page is cleared when an object is first made on it: no
  * call on a seat does what metronome_touch does.
  *
- * docs/EMBEDDING.md says what is proved of each function. Of what is `static inline` here nothing is: it is only tested. Calls on
- * seats aren't recorded (metronome_record.h).
+ * docs/EMBEDDING.md says what is proved of each function. The `static inline` functions here are only tested. Calls on seats
+ * aren't recorded (metronome_record.h).
  */
 #ifndef METRONOME_SHARED_H
 #define METRONOME_SHARED_H
@@ -39,7 +43,8 @@
 extern "C" {
 #endif
 
-/* A handle: it holds a seat at a heap, or none. All zeros hold none, as METRONOME_NO_SEAT. Its fields belong to the library. */
+/* A handle, which holds a seat at a heap or none. METRONOME_NO_SEAT, all zeros, holds none. Its fields belong to the
+ * library. */
 typedef struct metronome_seat {
     void *at;
     uint64_t check;
@@ -47,10 +52,10 @@ typedef struct metronome_seat {
 
 #define METRONOME_NO_SEAT { 0, 0 }
 
-/* Which command an entry of the log is of. Its numbers and words stand in the order given here, and all others are 0. The last two
- * are what the collector is asked to do. */
+/* The command of an entry of the log. The fields of metronome_command have its numbers and words in the order given here;
+ * all others are 0. The last two are requests to the collector. */
 enum metronome_command_kind {
-    METRONOME_NEW = 0,             /* dst; of the shape its metronome_shape_kind, refs, words */
+    METRONOME_NEW = 0,             /* dst; the shape's metronome_shape_kind, refs, words */
     METRONOME_LOAD = 1,            /* dst, obj, i */
     METRONOME_STORE = 2,           /* obj, i, src */
     METRONOME_COMPARE_STORE = 3,   /* obj, i, expect, replacement */
@@ -67,7 +72,7 @@ enum metronome_command_kind {
     METRONOME_JOIN = 14,
     METRONOME_RETIRE = 15,
     METRONOME_BEGIN = 16,          /* DONE, or refused as BUSY */
-    METRONOME_QUANTUM = 17         /* DONE: budget, the units that it spent, the phase behind it; or refused as BAD_BUDGET: budget */
+    METRONOME_QUANTUM = 17         /* DONE: budget, the units spent, the phase at the end; or refused as BAD_BUDGET: budget */
 };
 
 typedef struct metronome_command {
@@ -80,72 +85,78 @@ typedef struct metronome_command {
     uint64_t second_word;
 } metronome_command;
 
-/* What there is at a place of the log. */
+/* Whether a place of the log has an entry. */
 enum metronome_entry_kind {
-    METRONOME_GONE = 0,    /* no entry: it isn't one of the last that are kept, nor the place behind them */
+    METRONOME_GONE = 0,    /* no entry: the place isn't among the last that are kept, nor the next one */
     METRONOME_ENTERED = 1, /* an entry */
-    METRONOME_NOT_YET = 2  /* no entry yet: it is the place behind the last one */
+    METRONOME_NOT_YET = 2  /* no entry yet: the place comes after the last one */
 };
 
 typedef struct metronome_entry {
-    uint32_t kind; /* a metronome_entry_kind; unless it is ENTERED all else is 0 */
-    uint32_t mutator; /* whose command it is, or 0 for what the collector is asked to do */
+    uint32_t kind; /* a metronome_entry_kind; if it isn't ENTERED, all else is 0 */
+    uint32_t mutator; /* the mutator that gave the command, or 0 for a request to the collector */
     metronome_command command;
     metronome_answer answer;
-    metronome_shape shape; /* where the answer is DESCRIBED */
+    metronome_shape shape; /* if the answer is DESCRIBED */
 } metronome_entry;
 
-/* ---- Seats. Where NO_HEAP is the status for a handle that holds no seat, here and below, BAD_HANDLE is the status for what is no
- * handle ---- */
+/* ---- Seats. Each function, here and below, that returns NO_HEAP for a handle without a seat returns BAD_HANDLE for memory
+ * that isn't a handle ---- */
 
-/* Makes a heap, and its first seat where the handle holds none, for a program that was built for this version. The seat hasn't the
- * turn. Programs call metronome_seat_create.
- * OK, OPEN, NO_MEMORY, BAD_SCHEDULE, BAD_HANDLE, OTHER_VERSION, or BAD_SETTING and the place of a setting, as
- * metronome_create_for; the handle stays as it was unless it is OK. */
+/* Makes a heap and its first seat, if the handle holds none, for a program that was built for this version. The seat doesn't
+ * have the turn. Programs call metronome_seat_create.
+ *
+ * Returns the statuses of metronome_create_for: OK, OPEN, NO_MEMORY, BAD_SCHEDULE, BAD_HANDLE, OTHER_VERSION, or BAD_SETTING
+ * plus the place of a setting. If it isn't OK, the handle stays as it was. */
 uint32_t metronome_seat_create_for(metronome_seat *seat, const metronome_settings *settings, uint32_t version) METRONOME_NONNULL;
 
-/* The same, for this header's version. */
+/* Does the same as metronome_seat_create_for, for this header's version. */
 METRONOME_NONNULL static inline uint32_t metronome_seat_create(metronome_seat *seat, const metronome_settings *settings) {
     return metronome_seat_create_for(seat, settings, METRONOME_VERSION);
 }
 
-/* The same, of a heap that keeps the last `ring` entries of its log, for metronome_seat_entry: 72 bytes each, all taken here.
- * metronome_seat_create keeps none. Programs call metronome_seat_create_logged. */
+/* Does the same as metronome_seat_create_for, for a heap that keeps the last `ring` entries of its log for
+ * metronome_seat_entry. They take 72 bytes each, all taken here. metronome_seat_create keeps none. Programs call
+ * metronome_seat_create_logged. */
 uint32_t metronome_seat_create_logged_for(metronome_seat *seat, const metronome_settings *settings, size_t ring,
                                           uint32_t version) METRONOME_NONNULL;
 
-/* The same, for this header's version. */
+/* Does the same as metronome_seat_create_logged_for, for this header's version. */
 METRONOME_NONNULL static inline uint32_t metronome_seat_create_logged(metronome_seat *seat, const metronome_settings *settings,
                                                                       size_t ring) {
     return metronome_seat_create_logged_for(seat, settings, ring, METRONOME_VERSION);
 }
 
-/* Makes one more seat at the same heap, where `made` holds none. It calls for the mutators of `seat` from number `from` on, and
- * `seat` keeps those below. Where `from` is the number after its last one, `made` gets none.
- * OK; or, in this order: NO_HEAP or BAD_HANDLE of seat; OPEN or BAD_HANDLE of made; INSIDE; NOT_YOURS where `from` is below the
- * seat's first mutator, or beyond the number after its last; NO_MEMORY. Both handles stay as they were then. */
+/* Makes one more seat at the same heap, if `made` holds none. It calls for the mutators of `seat` from number `from` on, and
+ * `seat` keeps those below. If `from` is the number after its last mutator, `made` gets none.
+ *
+ * Returns OK, or the first of these that applies; both handles then stay as they were:
+ *   * NO_HEAP or BAD_HANDLE: `seat` holds none, or isn't a handle.
+ *   * OPEN or BAD_HANDLE: `made` holds a seat, or isn't a handle.
+ *   * INSIDE: `seat` has the turn.
+ *   * NOT_YOURS: `from` is below the seat's first mutator, or beyond the number after its last.
+ *   * NO_MEMORY: Memory was refused. */
 uint32_t metronome_seat_another(metronome_seat *seat, metronome_seat *made, uint32_t from) METRONOME_NONNULL;
 
-/* Takes the turn if no seat has it. It never waits. TAKEN is also told where another seat had it while the call ran.
- * OK, TAKEN, INSIDE, NO_HEAP. */
+/* Takes the turn if no seat has it. It never waits. Returns OK, TAKEN, INSIDE or NO_HEAP. It may also return TAKEN if
+ * another seat had the turn only while the call ran. */
 uint32_t metronome_seat_enter(metronome_seat *seat) METRONOME_NONNULL;
 
-/* Gives the turn back. OK, OUTSIDE, NO_HEAP. */
+/* Gives the turn back. Returns OK, OUTSIDE or NO_HEAP. */
 uint32_t metronome_seat_leave(metronome_seat *seat) METRONOME_NONNULL;
 
-/* The length of the log, as it wraps at 2^63: how many commands, beginnings and quanta all seats have done, also such as the heap
- * refused, but not those that were refused before they came to it. It needs no turn; what a seat does counts once it gives the turn
- * back.
- * OK; INSIDE or NO_HEAP, and *place is left as it was. */
+/* Stores in *place the length of the log, modulo 2^63: how many commands, begins and quanta all seats have done. A command
+ * that the heap refused counts; one that was refused before it came to the heap doesn't. It needs no turn. The calls of a
+ * seat count once it gives the turn back. Returns OK; or INSIDE or NO_HEAP, and *place stays as it was. */
 uint32_t metronome_seat_place(metronome_seat *seat, uint64_t *place) METRONOME_NONNULL;
 
-/* Closes a seat; where it had the turn, the turn is given back first. Nobody calls for its mutators any more. With the last seat of a
- * heap its memory goes back. Where the handle holds none nothing is done. A thread that waits at a gate isn't woken:
- * metronome_gate_wake does it. */
+/* Closes a seat. If it had the turn, the turn is given back first. No seat calls for its mutators any more. The last seat of
+ * a heap gives the heap's memory back. If the handle holds no seat, nothing is done. A thread that waits at a gate isn't
+ * woken: call metronome_gate_wake. */
 void metronome_seat_destroy(metronome_seat *seat) METRONOME_NONNULL;
 
-/* ---- Commands of mutators, in the turn. Each is what the command of the same name in metronome.h is, and has its answers. Before
- * all reasons that are named there it is refused, in this order, as NO_HEAP or BAD_HANDLE, OUTSIDE, or NOT_YOURS ---- */
+/* ---- Commands of mutators, in the turn. Each does what the command of the same name in metronome.h does, and returns the
+ * same. Before the reasons there, it is refused as NO_HEAP or BAD_HANDLE, as OUTSIDE, or as NOT_YOURS, in this order ---- */
 
 metronome_answer metronome_seat_new_plain(metronome_seat *seat, uint32_t mutator, uint32_t dst, uint32_t refs,
                                           uint32_t words) METRONOME_NONNULL;
@@ -172,30 +183,30 @@ metronome_answer metronome_seat_same(metronome_seat *seat, uint32_t mutator, uin
 metronome_answer metronome_seat_describe(metronome_seat *seat, uint32_t mutator, uint32_t a,
                                          metronome_shape *shape) METRONOME_NONNULL;
 
-/* A mutator of the seat becomes live, as by metronome_join. */
+/* Makes a mutator of the seat live, as metronome_join does. */
 metronome_answer metronome_seat_join(metronome_seat *seat, uint32_t mutator) METRONOME_NONNULL;
 
-/* A mutator of the seat is live no more, as by metronome_leave. */
+/* Makes a mutator of the seat leave, as metronome_leave does: it is then no longer live. */
 metronome_answer metronome_seat_retire(metronome_seat *seat, uint32_t mutator) METRONOME_NONNULL;
 
 /* ---- The log, in the turn of any seat ---- */
 
-/* What there is at a place of the log. Places count from 0, and each has one of what metronome_seat_place counts: a command, or what
- * the collector was asked to do by metronome_seat_begin or metronome_seat_quantum. A program that keeps the next place that it hasn't read goes on from
- * place to place until the entry is NOT_YET there; for those that are GONE it came too late.
- * OK; OUTSIDE or NO_HEAP, and *entry is left as it was. */
+/* Stores in *entry what the log has at a place. Places count from 0. Each has one of the commands, begins and quanta that
+ * metronome_seat_place counts. To read the log, a program keeps the next place that it hasn't read, and goes on from place
+ * to place until the entry is NOT_YET there. An entry that is GONE was read too late. Returns OK; or OUTSIDE or NO_HEAP, and
+ * *entry stays as it was. */
 uint32_t metronome_seat_entry(metronome_seat *seat, uint64_t place, metronome_entry *entry) METRONOME_NONNULL;
 
 /* ---- The collector, in the turn of any seat, as in metronome.h ---- */
 
-/* OK, BUSY, OUTSIDE, NO_HEAP. */
+/* Begins a cycle. Returns OK, BUSY, OUTSIDE or NO_HEAP. */
 uint32_t metronome_seat_begin(metronome_seat *seat) METRONOME_NONNULL;
 
-/* OK; BAD_BUDGET, OUTSIDE or NO_HEAP, and *spent is left as it was. */
+/* Does a quantum. Returns OK; or BAD_BUDGET, OUTSIDE or NO_HEAP, and *spent stays as it was. */
 uint32_t metronome_seat_quantum(metronome_seat *seat, uint32_t budget, metronome_spent *spent) METRONOME_NONNULL;
 
-/* ---- Figures, in the turn of any seat, as in metronome.h: OK; OUTSIDE or NO_HEAP, and what the last pointer leads to is left as
- * it was ---- */
+/* ---- Figures, in the turn of any seat, as in metronome_figures.h. Each returns OK; or OUTSIDE or NO_HEAP, and stores
+ * nothing ---- */
 
 uint32_t metronome_seat_phase(metronome_seat *seat, uint32_t *phase) METRONOME_NONNULL;
 uint32_t metronome_seat_units(metronome_seat *seat, uint64_t *units) METRONOME_NONNULL;

@@ -1,9 +1,9 @@
 /*
- * metronome_shared.hpp: the shared heap of metronome_shared.h for C++17: seats, which are moved and not copied, and turns, which
- * are given back when they go out of scope. Plain C++ over these calls, of which nothing is proved.
+ * metronome_shared.hpp: the shared heap of metronome_shared.h for C++17. A seat can be moved, but not copied. A turn is
+ * given back when it goes out of scope. This is plain C++ over those calls, and nothing of it is proved.
  *
- * As in metronome.hpp `try_NAME` throws nothing and answers a metronome_status, and NAME answers what it finds, or throws a Refusal.
- * Mutators and slots are named by their numbers: what a slot holds stays from turn to turn.
+ * As in metronome.hpp, `try_NAME` throws nothing and returns a metronome_status; NAME returns its result, or throws a
+ * Refusal. Mutators and slots are named by their numbers. A slot keeps its reference from turn to turn.
  */
 #ifndef METRONOME_SHARED_HPP
 #define METRONOME_SHARED_HPP
@@ -18,14 +18,14 @@
 
 namespace barleynight {
 
-// Where the threads of one heap wait for the turn. It outlives the turns.
+// A gate, at which the threads of one heap wait for the turn. It must outlive the turns.
 class Gate {
 public:
     Gate() = default;
     Gate(const Gate &) = delete;
     Gate &operator=(const Gate &) = delete;
 
-    // A fair gate, as by METRONOME_GATE_FAIR.
+    // Makes a fair gate, as METRONOME_GATE_FAIR does.
     static Gate fair(std::uint32_t turns) noexcept { return Gate(turns); }
 
     metronome_gate *handle() noexcept { return &gate; }
@@ -36,8 +36,8 @@ private:
     metronome_gate gate = METRONOME_GATE;
 };
 
-// A seat at a shared heap, or none: of a closed one each call is refused as NO_HEAP. A thread at a time uses it. The heap is there
-// until its last seat is gone.
+// A seat at a shared heap. If it is closed, each call is refused as NO_HEAP. Only one thread at a time may use it. The heap
+// stays until its last seat is closed.
 class Seat {
 public:
     Seat() = default;
@@ -50,23 +50,23 @@ public:
     Seat &operator=(const Seat &) = delete;
     ~Seat() { metronome_seat_destroy(&seat); }
 
-    // The first seat of a new heap: it calls for all mutators.
+    // Opens the first seat of a new heap. It calls for all mutators.
     std::uint32_t try_open(const metronome_settings &settings) noexcept { return metronome_seat_create(&seat, &settings); }
 
-    // The same, of a heap that keeps so many of the last entries of its log.
+    // Opens the first seat of a new heap that keeps the last `ring` entries of its log.
     std::uint32_t try_open_logged(const metronome_settings &settings, std::size_t ring) noexcept {
         return metronome_seat_create_logged(&seat, &settings, ring);
     }
 
-    // One more seat, which calls for this one's mutators from a number on.
+    // Opens one more seat. It takes over this seat's mutators from number `from` on.
     std::uint32_t try_another(std::uint32_t from, Seat &made) noexcept {
         return &made == this ? std::uint32_t{METRONOME_OPEN} : metronome_seat_another(&seat, &made.seat, from);
     }
 
-    // The length of the log.
+    // Stores the length of the log in `place`.
     std::uint32_t try_place(std::uint64_t &place) noexcept { return metronome_seat_place(&seat, &place); }
 
-    // The handle for calls of metronome_shared.h. It is only read and written by these.
+    // Returns the handle for calls of metronome_shared.h. Only these calls may read or write it.
     metronome_seat *handle() noexcept { return &seat; }
 
 #ifdef __cpp_exceptions
@@ -89,10 +89,10 @@ private:
     metronome_seat seat = METRONOME_NO_SEAT;
 };
 
-// The turn of a seat, from where it is got at a gate until it goes out of scope. The seat and the gate outlive it.
+// The turn of a seat, taken at a gate and kept until it goes out of scope. The seat and the gate must outlive it.
 class Turn {
 public:
-    // Waits for the turn. INSIDE where the seat has it already; NO_HEAP.
+    // Waits for the turn. Returns OK, INSIDE if the seat has it already, or NO_HEAP.
     static std::uint32_t try_enter(Gate &gate, Seat &seat, std::optional<Turn> &turn) noexcept {
         const std::uint32_t status = metronome_gate_enter(gate.handle(), seat.handle());
         if (status == METRONOME_OK) turn.emplace(Turn(gate.handle(), seat.handle()));
@@ -107,7 +107,8 @@ public:
         if (seat != nullptr) metronome_gate_leave(gate, seat);
     }
 
-    // A command: one of the 18 of metronome_shared.h, with what it takes behind the seat. What is found goes to `answer`.
+    // Does one of the 18 commands of metronome_shared.h, with its arguments after the seat. Stores the result in `answer`,
+    // unless the command is refused.
     template <typename... Taken, typename... Given>
     std::uint32_t try_call(metronome_answer &answer, metronome_answer (*command)(metronome_seat *, Taken...),
                            Given... given) noexcept {
@@ -116,12 +117,12 @@ public:
         return detail::status_of(found);
     }
 
-    // What there is at a place of the log.
+    // Stores the log's entry at this place in `entry`.
     std::uint32_t try_entry(std::uint64_t place, metronome_entry &entry) noexcept {
         return metronome_seat_entry(seat, place, &entry);
     }
 
-    // BUSY where a cycle is running already.
+    // Begins a cycle. Returns BUSY if one is running already.
     std::uint32_t try_begin() noexcept { return metronome_seat_begin(seat); }
     std::uint32_t try_quantum(std::uint32_t budget, metronome_spent &spent) noexcept {
         return metronome_seat_quantum(seat, budget, &spent);
@@ -158,7 +159,7 @@ public:
         return entry;
     }
 
-    // Whether a cycle began: none was running.
+    // Returns whether a cycle began, because none was running.
     bool begin() {
         const std::uint32_t status = try_begin();
         if (status != METRONOME_BUSY) detail::need(status);

@@ -12,9 +12,9 @@ pub record MovesAll (c : Config) : Type 0 where
   pub always : c.pages < c.defrag_below
   pub all : c.pages ≤ c.defrag_pages
 
--- There are as many pages as this many blocks of each class take, in one of three ways: with as many more for each
--- class as a cycle may empty; with no more, if enough stay free that moving never begins; or with the one of each class
--- that may be left, and as many more, once for all classes, as a cycle may empty.
+-- There are as many pages as this many blocks of each class take, in one of three ways. The first adds, for each class,
+-- as many pages as a cycle may empty. The second adds none, if enough pages stay free that moving never begins. The third
+-- adds the one page of each class that may be left, and once, for all classes, as many as a cycle may empty.
 abbrev pub FitsTogether : Config → (ℕ → ℕ) → Type 0
 FitsTogether c blocks =
     (pages_for blocks (spare_in c) CLASSES ≤ c.pages)

@@ -18,10 +18,11 @@ use Rattle.fragmentation.specs.Suffice.{pages_of}
 abbrev pub words_of : (ℕ → ℕ) → ℕ
 words_of blocks = class_sum (λ class. size_of class * blocks class) CLASSES
 
--- The classes of which blocks are made; the most words of live objects' blocks when a cycle begins, or LEAST_PAGE_FILL
--- for each whole page that they take; the most words of blocks that are requested for each quantum that counts, from a
--- cycle's beginning to its sweep's end, where words left at one quantum may be requested at a later one; how many
--- besides; and how many from a cycle's beginning until the next begins.
+-- The limits of a flow. `makes` has the classes of which blocks are made. `live_words` is the most words of live objects'
+-- blocks when a cycle begins, or LEAST_PAGE_FILL for each whole page that they take. `quantum_words` is the most words of
+-- blocks requested for each quantum that counts, from a cycle's beginning to its sweep's end; words left at one quantum
+-- may be requested at a later one. `burst` is the most words besides. `cycle_words` is the most words from a cycle's
+-- beginning until the next begins.
 pub record Flow : Type 0 where
   pub makes : ℕ → Bool
   pub live_words : ℕ
@@ -29,8 +30,8 @@ pub record Flow : Type 0 where
   pub burst : ℕ
   pub cycle_words : ℕ
 
--- The graph heap to which the events lead; whether a cycle runs whose sweep hasn't ended; and, since the last cycle
--- began, how many quanta that count were done, and how many words of blocks were requested.
+-- The graph heap to which the events lead, and whether a cycle runs whose sweep hasn't ended. Since the last cycle began:
+-- the number of quanta done that count, and of words of blocks requested.
 pub record FlowMeter : Type 0 where
   pub graph : Graph
   pub awaiting_sweep_end : Bool
@@ -110,7 +111,7 @@ abbrev pub live_most : Flow → ℕ
 live_most f = PAGE_WORDS * (f.live_words / LEAST_PAGE_FILL + 1)
 
 -- The most quanta of at least k units that a cycle takes to its sweep's end, if marking takes the words of live objects
--- and of those made by then: a quantum spends k units, and each word that is made at it may be marked too.
+-- and of those made by then. A quantum spends k units, and each word that is made at it may be marked, too.
 abbrev pub marked_quanta : Flow → ℕ → ℕ → ℕ → ℕ
 marked_quanta f roots pages k =
     sweep_units roots pages (live_most f + (f.quantum_words + f.burst)) / (k - f.quantum_words) + 1
@@ -121,28 +122,28 @@ abbrev pub sweep_quanta : Flow → ℕ → ℕ → ℕ → ℕ
 sweep_quanta f roots pages k = if nat_lt f.quantum_words k
     then min (unmoved_quanta roots pages k) (marked_quanta f roots pages k) else unmoved_quanta roots pages k
 
--- The most units that moving spends on this many pages: a look at every page for each class, and once more; and for
--- each page either as many looks, if it is chosen, or the words that are moved to it. No more words are moved than live
--- objects have and are made until the next cycle begins.
+-- The most units that moving spends on this many pages. It looks at every page for each class, and once more. For each
+-- page it looks as often again, if it is chosen, or moves words to it. No more words are moved than live objects have and
+-- are made until the next cycle begins.
 abbrev pub flow_moving : Flow → ℕ → ℕ
 flow_moving f pages = (CLASSES + 1 + pages) * pages
     + min (PAGE_WORDS * pages) (live_most f + f.cycle_words) * (PAGE_WORDS - pages) / PAGE_WORDS + 1
 
--- the most quanta of at least k units that a whole cycle takes: those to its sweep's end, and those that end in moving,
--- each of which may leave 255 units
+-- The most quanta of at least k units that a whole cycle takes. Some take it to its sweep's end; the others end in
+-- moving, and each of these may leave 255 units.
 abbrev pub flow_quanta : Flow → ℕ → ℕ → ℕ → ℕ
 flow_quanta f roots pages k =
     sweep_quanta f roots pages k + quanta_for (flow_moving f pages) k
 
--- The pages that suffice, if a cycle takes at most this many quanta to its sweep's end: those for live objects, and
--- those for objects made from one cycle's beginning to the beginning of the second after it, and then to the end of
--- that one's sweep. And for each class of which blocks are made, those that may be filled in part.
+-- The pages that suffice, if a cycle takes at most this many quanta to its sweep's end. They are for live objects, and
+-- for objects made from one cycle's beginning to the beginning of the second after it, and then to the end of that one's
+-- sweep. Some more are for each class of which blocks are made: those that may be filled in part.
 abbrev pub flow_pages : Flow → ℕ → ℕ
 flow_pages f quanta = (f.live_words + (2 * f.cycle_words + traced_words f quanta)) / LEAST_PAGE_FILL
     + PARTLY_FILLED_PAGES * classes_made f.makes
 
--- A flow fits on this many root cells and pages, if quanta of at least k units count: to its sweep's end a cycle makes
--- no more words than may be made until the next one, and there are as many pages as the flow takes.
+-- A flow fits on this many root cells and pages, if quanta of at least k units count. To its sweep's end, a cycle makes
+-- no more words than may be made until the next one. There are as many pages as the flow takes.
 pub record FlowFitsOn (f : Flow) (roots pages k : ℕ) : Type 0 where
   pub traced : traced_words f (sweep_quanta f roots pages k) ≤ f.cycle_words
   pub enough : flow_pages f (sweep_quanta f roots pages k) ≤ pages

@@ -7,9 +7,10 @@ use Rattle.heap_model.specs.Event.{Event, Command_done, Cycle_begun, Begin_refus
 use Rattle.space.specs.Demand.{LiveWithin, blocks_of, asked_for}
 use Rattle.heap_model.specs.Phases.{awaits_sweep_end}
 
--- The graph heap to which the events lead; how many cycles began; whether one runs whose sweep hasn't ended; how many
--- objects there were when the last cycle began, when that one began whose sweep ended last, and at that sweep's end;
--- which cycle that was; and, for each class, the need up to that sweep's end since the cycle before began.
+-- The graph heap to which the events lead, the number of cycles that began, and whether a cycle runs whose sweep hasn't
+-- ended. The number of objects when the last cycle began (`last`), when the cycle began whose sweep ended last (`base`),
+-- and at that sweep's end (`swept`). `number` is that cycle's number. `before` is the need of each class up to that
+-- sweep's end since the cycle before began.
 pub record Season : Type 0 where
   pub graph : Graph
   pub cycles : ℕ

@@ -12,8 +12,8 @@ pub record GathersAll (h : HeapState) : Type 0 where
   pub always : length h.store.pages < h.defrag_below
   pub all : length h.store.pages ≤ h.defrag_pages
 
--- The pages of a class whose blocks were gathered, for this many blocks: the whole pages that these take; and one more
--- if they fill a page, because one page may be left whose blocks found no place.
+-- The pages of a class whose blocks were gathered, for this many blocks. They are the whole pages that the blocks take,
+-- and one more if the blocks fill a page: one page may be left whose blocks found no place.
 abbrev pub gathered_pages : ℕ → ℕ → ℕ
 gathered_pages class blocks =
     if nat_lt blocks (blocks_in class) then whole_pages class blocks else whole_pages class blocks + 1
@@ -29,8 +29,8 @@ season_pages s asked =
 abbrev pub WithinPages : ℕ → Season → (ℕ → ℕ) → Type 0
 WithinPages pages s asked = season_pages s asked ≤ pages
 
--- A joint demand: in each class, the blocks that were live when the cycle began whose sweep ended last, with those made
--- since and those requested, are at most this many.
+-- A joint demand limits three kinds of blocks together in each class: those that were live when the cycle began whose
+-- sweep ended last, those made since, and those requested.
 abbrev pub WithinBlocks : (ℕ → ℕ) → Lives → Season → (ℕ → ℕ) → Type 0
 WithinBlocks blocks live s asked =
     (class : ℕ) → class < CLASSES → needed_since live s class + asked class ≤ blocks class
@@ -43,7 +43,7 @@ sparse_pages blocks = class_sum (λ class. gathered_pages class (blocks class)) 
 abbrev pub pages_of : (ℕ → ℕ) → ℕ
 pages_of blocks = class_sum (λ class. whole_pages class (blocks class)) CLASSES
 
--- The most pages that live objects take when a cycle begins, all classes together; and the most for the objects made
+-- The most pages that live objects take when a cycle begins, all classes together. And the most pages of the objects made
 -- from then, or from the start, to the end of the next cycle's sweep, with the one requested.
 pub record PageDemand : Type 0 where
   pub live : ℕ

@@ -92,10 +92,10 @@ pub fn moving_suffices()
 {}
 
 /// The space bound for a demand in pages, in a heap that moves after each sweep and may empty as many pages as it has.
-/// Let live objects take at most some number of pages whenever a cycle begins; and those made from then, or from the
-/// start, to the end of the next cycle's sweep at most another, with the one requested. Then the pages of live objects,
-/// twice those made, and one for each class suffice: no new object is refused for lack of space, whatever the sizes of
-/// objects are, and however these change.
+/// The demand limits two numbers of pages: those that live objects take whenever a cycle begins, and those of objects
+/// made from then, or from the start, to the end of the next cycle's sweep, with the one requested. The pages of live
+/// objects, twice those made, and one for each class suffice. Then no new object is refused for lack of space, whatever
+/// the sizes of objects are, and however these change.
 pub fn page_demand_suffices()
     ensures { (h : HeapState) (es : List Event) (new : Course) (b : PageDemand) (live : Lives) → IsOpening h
         → 0 < length h.store.pages → GathersAll h → Runs (opened h) es new
@@ -111,20 +111,21 @@ pub fn pages_have_words()
 {}
 
 /// In a heap that moves after each sweep and may empty as many pages as it has, no new object is refused for lack of
-/// space in a run that keeps to a flow which fits. A flow limits, over all size classes together: the words that are
-/// live whenever a cycle begins; the words requested for each quantum of at least k units until a cycle's sweep ends;
-/// and those requested from one cycle's beginning to the next. The sizes of objects may be any, and may shift.
+/// space in a run that keeps to a flow which fits. A flow limits three numbers of words, over all size classes together.
+/// They are the words live whenever a cycle begins, those requested for each quantum of at least k units until a cycle's
+/// sweep ends, and those requested from one cycle's beginning to the next. The sizes of objects may be any, and may
+/// shift.
 pub fn flow_suffices()
     ensures { (h : HeapState) (es : List Event) (new : Course) (f : Flow) (k : ℕ) → 0 < k → IsOpening h
         → 0 < length h.store.pages → GathersAll h → Runs (opened h) es new
         → AllMetered k (KeepsFlow f) (opening_meter h.limits) es → FlowFits f k h → EveryNewFindsRoom es }
 {}
 
-/// The most quanta of a cycle in a run that keeps to a flow, with quanta of at least k units: `sweep_quanta` to its
-/// sweep's end, and `flow_quanta` as a whole, if a cycle makes no more words to its sweep's end than may be made until
-/// the next one. Marking and moving take no more words than live and made objects have, however many pages there are.
-/// Moving spends on a page either a look at every page, if it is chosen, or the words that go there. If smaller quanta
-/// are done as well, those of k units or more still keep to these numbers.
+/// The most quanta of a cycle in a run that keeps to a flow, with quanta of at least k units. A cycle takes
+/// `sweep_quanta` to its sweep's end. It takes `flow_quanta` as a whole, if it makes no more words to its sweep's end
+/// than may be made until the next cycle. Marking and moving take no more words than live and made objects have, however
+/// many pages there are. Moving spends on a page either a look at every page, if it is chosen, or the words that go
+/// there. If smaller quanta are done as well, those of k units or more still keep to these numbers.
 pub fn flow_cycles_end()
     ensures sweep { (h : HeapState) (es : List Event) (new : Course) (f : Flow) (k : ℕ) → LEAST_BUDGET ≤ k → IsOpening h
         → 0 < length h.store.pages → Runs (opened h) es new
@@ -144,9 +145,9 @@ pub fn flow_cycles_end()
         < flow_quanta f (length h.roots) (length h.store.pages) k }
 {}
 
-/// The space bound for a joint demand, whatever moves. Take a run in which, at each command, the blocks that were live
-/// when the cycle began whose sweep ended last, with those made since and those requested, are within a number of each
-/// class. If there are as many pages as these numbers take, no new object is refused for lack of space.
+/// The space bound for a joint demand, whatever moves. At each command, the demand limits three kinds of blocks together
+/// in each class: those that were live when the cycle began whose sweep ended last, those made since, and those
+/// requested. If there are as many pages as these numbers take, no new object is refused for lack of space.
 pub fn joint_suffices()
     ensures { (h : HeapState) (es : List Event) (new : Course) (blocks : ℕ → ℕ) (live : Lives) → IsOpening h
         → 0 < length h.store.pages → Runs (opened h) es new
@@ -163,8 +164,8 @@ pub fn joint_suffices_unmoved()
         → pages_for blocks 0 CLASSES + below_of h ≤ length h.store.pages → EveryNewFindsRoom es }
 {}
 
-/// The same bound with fewer pages, however many a cycle may empty: one page more than its blocks take for each class
-/// that has a page's blocks or more; and as many as a cycle may empty, once for all classes.
+/// The same bound with fewer pages, however many a cycle may empty. Each class with a page's blocks or more takes one
+/// page more than its blocks, and all classes together take as many more as a cycle may empty.
 pub fn sparse_suffices()
     ensures { (h : HeapState) (es : List Event) (new : Course) (blocks : ℕ → ℕ) (live : Lives) → IsOpening h
         → 0 < length h.store.pages → Runs (opened h) es new
@@ -172,8 +173,8 @@ pub fn sparse_suffices()
         → sparse_pages blocks + spare_of h ≤ length h.store.pages → EveryNewFindsRoom es }
 {}
 
-/// In a heap of a configuration no reply of a run is the refusal for lack of space, if the run keeps to a joint demand
-/// that fits. Nor is one if each cycle gathers every class, and the run keeps within the configuration's pages, to a
+/// In a heap of a configuration, no reply of a run is the refusal for lack of space if the run keeps to a joint demand
+/// that fits. The same holds if each cycle gathers every class, and the run keeps within the configuration's pages, to a
 /// demand in pages for which the configuration has enough, or to a flow that fits.
 pub fn configured_pages_suffice()
     ensures joint { (config : Config) (h : HeapState) (es : List Event) (new : Course) (blocks : ℕ → ℕ) (live : Lives)

@@ -10,9 +10,9 @@ use Rattle.heap_model.specs.Spent.{IsWithin}
 use Rattle.heap_model.specs.Placed.{IsPlaced}
 use Rattle.heap_model.specs.Marks.{AreClosed}
 
--- The heap represents the graph heap at present, and the one when the last cycle began. There are pages, and each is
--- well formed; the invariant holds; the units spent are at most those of a cycle up to this place of the phase; the
--- place fits the pages; and the pages that a sweep has closed carry no mark.
+-- The heap represents the graph heap at present, and the one when the last cycle began. There are pages, and each is well
+-- formed; the invariant holds. The units spent are at most those of a cycle up to this place of the phase. The place fits
+-- the pages, and the pages that a sweep has closed carry no mark.
 pub record Represents (h : HeapState) (present snapshot : Graph) : Type 0 where
   pub pages : ArePages h.store.pages
   pub some : 0 < length h.store.pages

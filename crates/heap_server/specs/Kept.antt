@@ -21,8 +21,8 @@ abbrev pub cycles_on : Phase → ℕ
 cycles_on phases.Idle = 0
 cycles_on _ = 1
 
--- The invariant under the lock: there is a mutator; the heap is sound; each entry of the history was counted as a call;
--- a chain of events, with the cycles begun, the quanta done and the units spent, leads to the heap; and each cycle that
+-- The invariant under the lock. There is a mutator, and the heap is sound. Each entry of the history was counted as a
+-- call. A chain of events, with the cycles begun, the quanta done and the units spent, leads to the heap. Each cycle that
 -- was begun has ended or is running.
 pub record IsKept (settings : HeapSettings) (v : LockedView) : Type 0 where
   pub some : 0 < settings.limits.mutators

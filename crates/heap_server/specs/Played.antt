@@ -23,8 +23,8 @@ IsPart [] ys = Unit {0}
 IsPart (x ∷ xs) [] = ⊥
 IsPart (x ∷ xs) (y ∷ ys) = ((x ≡ y) × IsPart xs ys) ⊎ IsPart (x ∷ xs) ys
 
--- the seat has made no more calls than its script has commands; and among the entries that it has seen are those of as
--- many first commands of the script
+-- The seat has made no more calls than its script has commands. The entries that it has seen include those of as many
+-- first commands of the script.
 pub record HasPlayed (s : SeatView) (script : List Command) : Type 0 where
   pub within : s.calls ≤ length script
   pub told : IsPart (take s.calls script) (commands_of (mine s.seen s.mutator))

@@ -23,7 +23,7 @@ use std::marker::Model;
 use std::sync::ledger::{Book, Share};
 
 /// A mutator's place at a server. Contracts see the mutator's number, how many calls the seat has made, and the part of
-/// the running history that it has seen: this has no fewer entries of its mutator than it has made calls.
+/// the running history that it has seen. That part has no fewer entries of its mutator than the seat has made calls.
 #[derive(Drop)]
 pub struct Seat<N: Naming> {
     pub(crate) mutator: u32,

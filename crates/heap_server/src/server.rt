@@ -136,8 +136,8 @@ impl<N: Naming> Server<N> {
         self.locked.lock(rt).quantum(pacer, budget)
     }
 
-    /// Makes room for this many more calls. Other threads may use it up. A call that finds room takes no memory while
-    /// it holds the lock; only the system may have to find a page of that room when a call first writes to it.
+    /// Makes room for this many more calls. Other threads may use it up. A call that finds room takes no memory while it
+    /// holds the lock. Only the system may have to find a page of that room when a call first writes to it.
     pub fn reserve_history(&self, calls: usize, rt: &impl Wait) -> Result<(), NoMemory> {
         self.locked.lock(rt).reserve(calls)
     }

@@ -22,10 +22,11 @@ fn write_page_lines<K: Sink>(heap: &Heap, sink: &mut K) -> Result<(), WriteFaile
     Ok(())
 }
 
-/// Writes a report of the heap and its collector to a sink, in lines that end with LF: the phase; the units of work
-/// since the last cycle began; the pages and how many are free; each page in use with the size of its blocks in words
-/// and how many are allocated; the root cells and how many aren't null; and how many objects, parts and old copies
-/// there are. It takes no memory. It fails only if the sink does; then the sink has taken a beginning of the report.
+/// Writes a report of the heap and its collector to a sink, in lines that end with LF. It has the phase, the units of
+/// work since the last cycle began, the pages, and how many are free. Each page in use has a line with the size of its
+/// blocks in words and how many are allocated. Then come the root cells and how many aren't null, and the numbers of
+/// objects, parts and old copies. It takes no memory. It fails only if the sink does; then the sink has taken a beginning
+/// of the report.
 pub fn report<K: Sink>(heap: &Heap, sink: &mut K) -> Result<(), WriteFault>
     ensures ok { OnOk result (K.taken sink.new ≡ K.taken sink.old ++ report_of heap.now) }
     ensures err { OnErr result (GrowsByPart (K.taken sink.old) (K.taken sink.new) (report_of heap.now)) }

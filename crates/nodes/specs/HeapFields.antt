@@ -34,8 +34,8 @@ pub record IsHeap (h : HeapState) : Type 0 where
   pub fits : (id : ℕ) → fits (object_of present.objects id).shape ≡ true
   pub small : cycle_limit h < 2 ^ 41
 
--- The invariant of the fields between two steps: they are a heap; each mutator has a buffer, whose records are linked
--- one to the next; unused links are 0; and outside roots and marking no part is grey.
+-- The invariant of the fields between two steps. They are a heap. Each mutator has a buffer, whose records are linked one
+-- to the next; unused links are 0. Outside roots and marking no part is grey.
 pub record AreHeapFields (a : HeapFields) : Type 0 where
   pub heap : IsHeap (state_of a)
   pub buffers : length a.grey.buffers ≡ a.roots.limits.mutators

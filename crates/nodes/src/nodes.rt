@@ -46,10 +46,10 @@ fn address(page: usize, index: usize, size: usize) -> usize
     2048 * page + index * size
 }
 
-/// The blocks of a heap. Contracts see the pages and the words. A method that writes says how the record of its one
-/// block changes, and that every other allocated block keeps its own. Table and arena always go together: there is
-/// memory for each page; each page in use has its words; the list of each page runs through exactly its free blocks;
-/// and in an allocated block word 0 is an address, and word 1 a header with no other bit set.
+/// The blocks of a heap. Contracts see the pages and the words. A method that writes says how the record of its one block
+/// changes, and that every other allocated block keeps its own. Table and arena always go together. There is memory for
+/// each page, and each page in use has its words. The list of each page runs through exactly its free blocks. In an
+/// allocated block, word 0 is an address, and word 1 a header with no other bit set.
 #[derive(Drop)]
 pub struct Nodes {
     table: PageTable,

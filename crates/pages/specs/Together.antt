@@ -26,8 +26,8 @@ pages_in rows words = map (λ p. page_by words (PAGE_WORDS * p.0) p.1) (enumerat
 abbrev pub joined : List (Option PageRow) → List ℕ → Store
 joined rows words = record { pages = pages_in rows words; words = words }
 
--- The table and the arena go together: each page in use has its 2048 words; no page behind the last has any; and the
--- list of each page in use runs through exactly its free blocks, each once.
+-- The table and the arena go together. Each page in use has its 2048 words, and no page behind the last has any. The list
+-- of each page in use runs through exactly its free blocks, each once.
 pub record Together (rows : List (Option PageRow)) (words : List ℕ) : Type 0 where
   pub present : (k : ℕ) → IfSome (row_at rows k) (λ _. PAGE_WORDS * k + PAGE_WORDS ≤ length words)
   pub within : length words ≤ PAGE_WORDS * length rows

@@ -25,9 +25,9 @@ pub struct Block {
     pub index: usize,
 }
 
-/// The pages of a heap: a record for each page in use; for each class a bit for each page that isn't evacuating and has
-/// a free block, and the number of free blocks on these; a bit for each free page, and their number. Contracts see the
-/// list of the records. With the words of the arena they are the pages.
+/// The pages of a heap. Each page in use has a record. For each class there is a bit for each page that isn't evacuating
+/// and has a free block, and the number of free blocks on these pages. There is a bit for each free page, and their
+/// number. Contracts see the list of the records. With the words of the arena they are the pages.
 #[derive(Drop)]
 pub struct PageTable {
     rows: Vec<Option<PageRow>>,
@@ -202,9 +202,9 @@ impl PageTable {
         index
     }
 
-    /// Takes a block of a class: a free one of the first page of the class that isn't evacuating and has one; else one
-    /// of the first free page, which gets the class. If there is no such page, it returns None and nothing changes. The
-    /// words of allocated blocks stay.
+    /// Takes a block of a class: a free one of the first page of the class that isn't evacuating and has one. If there is
+    /// none, it takes one of the first free page, which gets the class. If there is no free page, it returns None and
+    /// nothing changes. The words of allocated blocks stay.
     #[inline(always)]
     pub fn take(&mut self, arena: &mut Arena, class: Class) -> Option<Block>
         requires together { Together self.old arena.old.words }

@@ -194,12 +194,13 @@ fn run_text(
     .concat(alloc)?)
 }
 
-/// Plays the lines of a trace on a new heap of a configuration, one after the other. It writes no reply, and returns
-/// the data of the run: members of an object in JSON, each on lines of its own and with a comma behind it. They are the
-/// settings; the length of the run; how many commands were refused for each reason; samples of the heap, each of as
-/// many moments as the stride says; the quanta that found a cycle running; the cycles, with the figures of their
-/// report; the least shares of the mutators in windows of round lengths, beside the promised ones; and the pages and
-/// the shapes at the end. A fault is the one with which playing the trace ends; or memory was refused.
+/// Plays the lines of a trace on a new heap of a configuration, one after the other. It writes no reply, and returns the
+/// data of the run: members of an object in JSON, each on lines of its own and followed by a comma.
+/// The data begin with the settings, the length of the run, and how many commands were refused for each reason. Then come
+/// samples of the heap, each of as many moments as the stride says; the quanta that found a cycle running; and the
+/// cycles, with the figures of their report. Last come the least shares of the mutators in windows of round lengths,
+/// beside the promised ones, and the pages and the shapes at the end. A fault is the one with which playing the trace
+/// ends; or memory was refused.
 pub fn run_data<S: Source>(
     alloc: Global,
     config: &Config,

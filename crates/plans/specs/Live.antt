@@ -36,8 +36,8 @@ pub record TellsMostLive (config : Config) (given : Given) (run : NewRun config 
   pub words : IsMostLive (run_by run.played).steps found.words
   pub blocks : AreBlocks found.blocks (blocks_of (present_of (run_by run.played).now).objects)
 
--- the lines of an input are played on a new player, which gives the most live words and the blocks that were made; or
--- it ends with a fault
+-- The lines of an input are played on a new player, which gives the most live words and the blocks that were made. Or
+-- playing them ends with a fault.
 abbrev pub MostLiveFound : Config → Given → Result MostLive PlayFault → Type 0
 MostLiveFound = Surveyed TellsMostLive
 
@@ -45,8 +45,8 @@ MostLiveFound = Surveyed TellsMostLive
 abbrev pub AreClasses : List ℕ → List ℕ → Type 0
 AreClasses blocks used = (class : ℕ) → class < CLASSES → among used class ≡ nat_lt 0 (slice_index blocks class)
 
--- the report of the plans for the most live words of a run; and the fewest pages with a plan if blocks are made only of
--- the classes that the run used
+-- The report of the plans for the most live words of a run. It also has the fewest pages with a plan, if blocks are made
+-- only of the classes that the run used.
 pub record IsRunPlans (c : Config) (live : MostLive) (text : List ℕ) : Type 0 where
   pub report : List ℕ
   pub of_all : IsPlansReport None c live.words report

@@ -31,8 +31,9 @@ fewest_line (Some pages) = codes "fewest " ++ (decimal pages ++ (
 abbrev pub tenths_of : ℕ → ℕ → ℕ
 tenths_of units words = div_ceil (10 * units) words
 
--- a plan on a configuration's pages, for this many live words: the most quanta that a cycle takes, the words that may
--- be requested at each of them and in a whole cycle, and the tenths of a unit that the collector spends for each word
+-- The line of a plan on a configuration's pages, for this many live words. It has the most quanta that a cycle takes, the
+-- words that may be requested at each of them and in a whole cycle, and the tenths of a unit that the collector spends
+-- for each word.
 abbrev pub plan_line : Config → ℕ → Option Plan → List ℕ
 plan_line c live None = codes "pages " ++ (decimal c.pages ++ codes ": no plan\n")
 plan_line c live (Some plan) = codes "pages " ++ (decimal c.pages
@@ -42,8 +43,8 @@ plan_line c live (Some plan) = codes "pages " ++ (decimal c.pages
     ++ (codes " tenths " ++ (decimal (tenths_of (c.collector_ticks * c.rate) plan.quantum_words)
     ++ codes "\n")))))))))
 
--- the fastest plan on a number of pages, with a configuration that has as many, in which every cycle moves and may
--- empty all of them, and blocks are made of these classes alone
+-- The fastest plan on a number of pages, with a configuration that has as many. Every cycle moves and may empty all of
+-- them, and blocks are made of these classes alone.
 pub record FastestOn (makes : ℕ → Bool) (c : Config) (live pages : ℕ) : Type 0 where
   pub on : Config
   pub is_on : IsOnPages c pages true on

@@ -1,5 +1,5 @@
-//! Reports and data of the plans by which a heap paces itself: on how few pages there is one, and the plans on some
-//! numbers of pages; and for how many live words a trace needs one.
+//! Reports and data of the plans by which a heap paces itself. They say on how few pages there is a plan, which plan
+//! there is on some numbers of pages, and for how many live words a trace needs one.
 #![tactic(auto)]
 
 mod bars;

@@ -12,8 +12,8 @@ use paced::words_of_shape;
 use sizing::blocks::{Blocks, add, needed_by, none};
 use std::alloc::Global;
 
-/// The needs of a run that its plan is made for: the most words of live objects' blocks, headers included, and how many
-/// blocks of each size class were made.
+/// The needs of a run that its plan is made for. They are the most words of live objects' blocks, headers included, and
+/// how many blocks of each size class were made.
 #[derive(Clone, Copy, Debug, PartialEq, Eq)]
 pub struct MostLive {
     pub words: u64,

@@ -95,11 +95,11 @@ fn plans(
     table(alloc, config, live_words, classes, &numbers[..count])
 }
 
-/// Returns the report of the plans by which a heap of a configuration paces itself, if the blocks of live objects have
-/// at most this many words whenever a cycle begins, headers included. It has the units of a quantum; the fewest pages
-/// with a plan, and the keys to set for them, or that no number of pages has one; and a line for each of some numbers
-/// of pages, in rising order: the configuration's own, the fewest, and 5/4, 3/2, 2 and 3 times as many, as far as a
-/// heap may have them. Except for the pages, and the moving that a plan needs, all is as the configuration has it. If
+/// Returns the report of the plans by which a heap of a configuration paces itself, if the blocks of live objects have at
+/// most this many words whenever a cycle begins, headers included. It has the units of a quantum. It has the fewest pages
+/// with a plan, and the keys to set for them, or says that no number of pages has one. It has a line for each of some
+/// numbers of pages, in rising order: the configuration's own, the fewest, and 5/4, 3/2, 2 and 3 times as many, as far as
+/// a heap may have them. Except for the pages, and the moving that a plan needs, all is as the configuration has it. If
 /// size classes are given, the plans are for a program that requests blocks of these alone, and the report has their
 /// number.
 pub fn plans_report(

@@ -7,8 +7,8 @@ use size_classes::Config;
 use std::alloc::Global;
 use trace::{Player, Survey};
 
-/// Finds the least number of words within which the blocks of live objects stay over the run, whenever a cycle may
-/// begin, and how many blocks of each size class were made: `run_plans` reports plans for these words and classes. If
+/// Finds the least number of words within which the blocks of live objects stay over the run, whenever a cycle may begin.
+/// Also counts the blocks of each size class that were made. `run_plans` reports plans for these words and classes. If
 /// the number is 2^64 - 1 or more, it is reported as 2^64 - 1.
 impl Survey for LiveMeter {
     type Findings = MostLive;

@@ -8,8 +8,9 @@ use Rattle.quanta.specs.declared.schedule.TheConstants.{CLOCK_LIMIT}
 use Rattle.quanta.specs.declared.interval.Interval.{Interval}
 use Rattle.quanta.specs.Intervals.{IsSpaced}
 
--- A timetable: the ticks of a quantum; the least ticks of the mutators between two quanta; the time; when a quantum is
--- due while a cycle runs; the intervals of the quanta so far; and for how many more there is memory.
+-- A timetable. It has the ticks of a quantum, the least ticks of the mutators between two quanta, and the time. It has
+-- the time at which a quantum is due while a cycle runs, the intervals of the quanta so far, and the number of more
+-- intervals for which there is memory.
 pub record Timetable : Type 0 where
   pub collector_ticks : ℕ
   pub mutator_ticks : ℕ

@@ -1,15 +1,16 @@
--- The most units and quanta that a cycle takes, by the numbers of root cells and pages, of pages that it may empty, and
--- of the units of a quantum.
+-- The most units and quanta that a cycle takes. They depend on the numbers of root cells and pages, of pages that it may
+-- empty, and of the units of a quantum.
 use Rattle.std.specs.Prelude.{ℕ, ◌+◌, ◌-◌, ◌*◌, ◌/◌}
 use Rattle.size_classes.specs.declared.class.TheConstants.{CLASSES, MOST_BLOCKS, PAGE_WORDS}
 
--- the most units of a whole cycle: one for each root cell; three for each word of the pages; for each page one for each
--- class, one for each page that may be emptied; and four
+-- The most units of a whole cycle: one for each root cell, three for each word of the pages, and four. For each page
+-- there is one for each class, and one for each page that may be emptied.
 abbrev pub cycle_units : ℕ → ℕ → ℕ → ℕ
 cycle_units roots pages emptied = roots + 3 * (PAGE_WORDS * pages) + (emptied + CLASSES) * pages + 4
 
--- the most units of roots, marking and sweeping, if marking spends `marking`: one for each root cell; for each page as
--- many as one of the smallest class has blocks, and one; as many blocks once more, and four where phases change
+-- The most units of roots, marking and sweeping, if marking spends `marking`. The others are one for each root cell, for
+-- each page one more than the blocks of a page of the smallest class, as many as these blocks once more, and four for
+-- changes of phase.
 abbrev pub sweep_units : ℕ → ℕ → ℕ → ℕ
 sweep_units roots pages marking = roots + marking + (MOST_BLOCKS + 1) * pages + (MOST_BLOCKS + 4)
 

@@ -72,9 +72,9 @@ abbrev pub IsPaceStated : Pace → Type 0
 IsPaceStated p = (class : ℕ) → class < CLASSES → (p.live class < 2 ^ 32) × (p.busy class < 2 ^ 64)
     × (p.idle class < 2 ^ 64)
 
--- The measurements of events: the least numbers that they needed, or that no numbers that can be stated are as large;
--- the least pace to which they keep, or that no table states one; and the least budget of a quantum, or that there is
--- none.
+-- The measurements of events. They are the least numbers that the events needed, or that no numbers that can be stated
+-- are as large. They are the least pace to which the events keep, or that no table states one. And they are the least
+-- budget of a quantum, or that there is none.
 pub record IsMeasured (l : Limits) (es : List Event) (m : Measured) : Type 0 where
   pub needed : MatchOption m.needed (CanBeStated l es → ⊥) (AreLeast l es)
   pub pace : MatchOption m.pace ((p : Pace) (k : ℕ) → IsPaceStated p → AllKeepPace p k (opening_beat l) es → ⊥)

@@ -40,9 +40,9 @@ pub record Suffices (n : Needed) : Type 0 where
       → EachFindsRoom c (KeepPageDemand (page_demand_in n))
 
 -- The promise for a run with these events and measurements, on a new heap of a configuration. If the configuration has
--- the pages that it must have, no reply of this run is the refusal for lack of space, nor is one of any run that needs
--- no more. The same holds of the pace, with quanta of no fewer units than any had. And the numbers of pages suffice on
--- other configurations.
+-- the pages that it must have, no reply of this run is the refusal for lack of space, nor is a reply of any run that
+-- needs no more. The same holds of the pace, with quanta of no fewer units than any had. And the numbers of pages suffice
+-- on other configurations.
 pub record Promises (config : Config) (es : List Event) (m : Measured) : Type 0 where
   pub needed : (n : Needed) → m.needed ≡ Some n → needed_pages config n ≤ config.pages
       → AllHaveRoom es × EachFindsRoom config (NeedNoMore n)

@@ -12,9 +12,9 @@ use Rattle.sizing.specs.Measured.{together_in, page_demand_in}
 abbrev pub still_pages : Needed → ℕ
 still_pages n = pages_for (together_in n) 0 CLASSES
 
--- The pages that suffice with moving as a configuration has it, the fewest of three: with as many more for each class
--- as a cycle may empty; with enough that moving never begins; or with the one of each class that may be left, and as
--- many more, once, as a cycle may empty.
+-- The pages that suffice with moving as a configuration has it: the fewest of three numbers. The first adds, for each
+-- class, as many pages as a cycle may empty. The second is enough that moving never begins. The third adds the one page
+-- of each class that may be left, and once as many as a cycle may empty.
 abbrev pub moved_pages : Config → Needed → ℕ
 moved_pages c n =
     min (pages_for (together_in n) (spare_in c) CLASSES)

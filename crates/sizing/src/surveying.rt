@@ -8,9 +8,9 @@ use size_classes::Config;
 use std::alloc::Global;
 use trace::{Player, Survey};
 
-/// Finds the need of the run. The run keeps to the numbers that are returned, and to no numbers of which one is less.
-/// If the configuration has the pages that it must have (`Needed::pages_in`), or the pace fits `Measured::slowest` of
-/// it, no reply of this run is the refusal for lack of space, nor is one of any run that needs no more.
+/// Finds the need of the run. The run keeps to the numbers that are returned, and to no numbers of which one is less. If
+/// the configuration has the pages that it must have (`Needed::pages_in`), or the pace fits `Measured::slowest` of it, no
+/// reply of this run is the refusal for lack of space. Neither is a reply of any run that needs no more.
 impl Survey for Meter {
     type Findings = Measured;
 

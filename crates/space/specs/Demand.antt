@@ -10,8 +10,9 @@ use Rattle.size_classes.specs.Need.{needed}
 use Rattle.heap_model.specs.Collector.{contains}
 use Rattle.heap_model.specs.Event.{change_by}
 
--- For each size class: the most blocks that live objects need when a cycle begins; and the most blocks of the objects
--- that are allocated from then, or from the start, to the end of the next cycle's sweep, with the one requested.
+-- Two limits for each size class. One is the most blocks that live objects need when a cycle begins. The other is the
+-- most blocks of the objects that are allocated from then, or from the start, to the end of the next cycle's sweep, with
+-- the one requested.
 pub record Demand : Type 0 where
   pub live : ℕ → ℕ
   pub allocated : ℕ → ℕ

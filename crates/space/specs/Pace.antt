@@ -11,9 +11,9 @@ use Rattle.heap_model.specs.State.{HeapState}
 use Rattle.heap_model.specs.Event.{Event, Command_done, Cycle_begun, Begin_refused, Quantum_done, Quantum_refused}
 use Rattle.space.specs.Demand.{Demand, LiveWithin, asked_for}
 
--- For each size class: the most blocks that live objects need when a cycle begins; the most that are requested while a
--- cycle runs, from its beginning or a quantum to the next quantum; and the most that are requested from the end of a
--- cycle until the next begins.
+-- Three limits for each size class: the most blocks that live objects need when a cycle begins; those requested while a
+-- cycle runs, from its beginning or a quantum to the next quantum; and those requested from the end of a cycle until the
+-- next begins.
 pub record Pace : Type 0 where
   pub live : ℕ → ℕ
   pub busy : ℕ → ℕ

@@ -11,8 +11,8 @@ use Rattle.heap_model.specs.Phases.{awaits_sweep_end}
 use Rattle.heap_model.specs.Event.{Event, Command_done, Cycle_begun, Begin_refused, Quantum_done, Quantum_refused}
 use Rattle.space.specs.Demand.{Demand, LiveWithin, blocks_of, asked_for}
 
--- The graph heap to which the events lead; how many objects there were when the last cycle began; and how many there
--- were when the cycle began whose sweep ended last. Both numbers are 0 before the first.
+-- The graph heap to which the events lead. The number of objects when the last cycle began, and when the cycle began
+-- whose sweep ended last. Both numbers are 0 before the first cycle.
 pub record Tally : Type 0 where
   pub graph : Graph
   pub last : ℕ

@@ -50,9 +50,9 @@ pub fn space_suffices_at_a_pace()
         → space_for (demand_of p (moved_quanta h k)) (spare_of h) ≤ length h.store.pages → EveryNewFindsRoom es }
 {}
 
-/// If as many pages stay free besides those of a pace as moving begins below, no sweep is followed by moving, and each
-/// quantum that doesn't end its cycle spends its whole budget. So a run that keeps to the pace keeps to a smaller
-/// demand, and no new object is refused for lack of space.
+/// If as many pages stay free besides those of a pace as moving begins below, no sweep is followed by moving. Then each
+/// quantum that doesn't end its cycle spends its whole budget. So a run that keeps to the pace keeps to a smaller demand,
+/// and no new object is refused for lack of space.
 pub fn space_suffices_at_an_unmoved_pace()
     ensures demand { (h : HeapState) (es : List Event) (new : Course) (p : Pace) (k : ℕ) → LEAST_BUDGET ≤ k
         → IsOpening h → 0 < length h.store.pages → Runs (opened h) es new → AllKeepPace p k (opening_beat h.limits) es

@@ -107,9 +107,9 @@ impl Needs {
     }
 }
 
-/// Returns the needs of a pace in a heap of a configuration with this many pages, in the way that takes fewer: with the
-/// pages that moving may leave sparse, or with as many free ones as moving begins below. In the second case moving
-/// never begins, and fewer quanta suffice for a cycle.
+/// Returns the needs of a pace in a heap of a configuration with this many pages, in the way that takes fewer. One way
+/// counts the pages that moving may leave sparse; the other counts as many free pages as moving begins below. In the
+/// second way moving never begins, and fewer quanta suffice for a cycle.
 pub fn pace_needs(config: &Config, pace: &Pace, pages: u32) -> Needs
     requires { pages ≤ MOST_HEAP_PAGES }
     ensures { IsNeeded config.now (pace_in pace.now) pages result }

@@ -13,9 +13,9 @@ pub const MOST_QUANTA: u64 = 300_000_000_000_000;
 /// More quanta than a cycle can take up to its sweep's end.
 pub const MOST_UNMOVED_QUANTA: u64 = 10_600_000;
 
-/// For each size class: the most blocks that live objects need when a cycle begins; the most that are requested while a
-/// cycle runs, from its beginning or a quantum to the next quantum; and the most that are requested from the end of a
-/// cycle until the next begins.
+/// Three limits for each size class: the most blocks that live objects need when a cycle begins; those requested while a
+/// cycle runs, from its beginning or a quantum to the next quantum; and those requested from the end of a cycle until the
+/// next begins.
 #[derive(Clone, Copy, Debug, PartialEq, Eq)]
 pub struct Pace {
     pub live: [u32; CLASSES],

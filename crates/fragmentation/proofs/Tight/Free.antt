@@ -169,7 +169,8 @@ usable_free class p u = by_position (position not p.allocated) refl
         let f : free_on class (Some p) ≡ count_by not p.allocated = ap (λ b. cond b (count_by not p.allocated) 0) t in
         omega (arith, m, one, f)
 
--- where no page may be chosen, since each one that stays is a target, the class is tight: only the first can have free blocks, and it has an allocated one
+-- If no page may be chosen, since each one that stays is a target, the class is tight: only the first page can have free
+-- blocks, and it has an allocated one.
 pub receivers_tight : (pages : List (Option Page)) (class : ℕ) → class < CLASSES → ArePages pages → AreUsed pages (length pages) → ReceivesFirst pages → ((k : ℕ) → k < length pages → is_choosable class (page_at pages k) ≡ false) → IsTight pages class
 receivers_tight pages class small w used first none = by_position (position (is_usable class) pages) refl
   where

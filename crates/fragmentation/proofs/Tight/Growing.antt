@@ -76,8 +76,8 @@ block_stays old new class page index k t = elim (took old new class page index t
         by_class true e = let same = same_number class k e in inr (same, set_stay ∙ ap (λ b. staying_pages old k + one_if (b && true)) e, subst (λ z. free_blocks old z ≡ 0) same (no_blocks old class f.none))
         by_class false e = inl (let o : one_if ((class == k) && true) ≡ 0 = ap (λ b. one_if (b && true)) e in omega (arith, set_stay, o))
 
--- and the blocks of an object: no class has fewer pages than before, nor more, unless these are no more than `need` blocks take, where what
--- is allocated and what they need are no more
+-- The blocks of an object are taken. No class has fewer pages that stay than before. It has as many as before, or no more
+-- than `need` blocks take.
 record Grew (old new : List (Option Page)) (need : ℕ → ℕ) : Type 0 where
   more : (k : ℕ) → staying_pages old k ≤ staying_pages new k
   staying : (k : ℕ) → k < CLASSES → (staying_pages new k ≡ staying_pages old k) ⊎ (staying_pages new k ≤ whole_pages k (need k))

@@ -25,8 +25,8 @@ to_move pages class (phases.Sweeping page block) = 0
 to_move pages class (phases.Moving (moves.Pass k page best chosen)) = 0
 to_move pages class (phases.Moving (moves.Emptying k page block chosen)) = allocated_from class block (page_at pages page)
 
--- Since a sweep ended, when a class had at most `first` pages, `made` of its blocks were made: only these open pages; and moving takes no
--- more free blocks than those of whole pages that there were.
+-- A sweep has ended, when a class had at most `first` pages, and `made` of its blocks were made since. Only these open
+-- pages. Moving takes no more free blocks than those of whole pages that there were.
 pub record IsFew (pages : List (Option Page)) (phase : Phase) (first made : ℕ → ℕ) : Type 0 where
   pub few : (class : ℕ) → class < CLASSES → used_pages pages class ≤ first class + whole_pages class (made class)
   pub fair : (class : ℕ) → class < CLASSES → blocks_in class * used_pages pages class + to_move pages class phase ≤ blocks_in class * first class + made class + free_blocks pages class

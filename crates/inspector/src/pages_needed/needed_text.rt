@@ -144,11 +144,11 @@ fn told_of(alloc: Global, config: &Config, needed: &Option<Needed>) -> Result<St
 }
 
 /// Returns the report of a run's needs. Each class with needed blocks has a line: its size in words, how many blocks
-/// together, and the pages that they take. Then come: the pages that suffice in each way, and for which runs; the
-/// fewest without moving or with moving after each sweep, and the keys to set for them; how many pages the
-/// configuration must have, out of those that it has, and whether they suffice for this run and each that needs no
-/// more. If there are no numbers, it says that the blocks are too many. Last come the pages on which the trace of the
-/// run finds room, with the keys to set.
+/// together, and the pages that they take. Then come the pages that suffice in each way, and for which runs. Next are the
+/// fewest pages without moving or with moving after each sweep, and the keys to set for them. A line says how many pages
+/// the configuration must have, out of those that it has, and whether they suffice for this run and each that needs no
+/// more. If there are no numbers, it says that the blocks are too many. Last come the pages on which the trace of the run
+/// finds room, with the keys to set.
 pub fn needed_report(
     alloc: Global,
     config: &Config,

@@ -66,11 +66,11 @@ fn lines_with(alloc: Global, config: &Config, pace: &Pace) -> Result<String, All
     .concat(alloc)
 }
 
-/// Returns the report of a pace in a heap of a configuration, with quanta of its schedule's units. Each class with
-/// needed blocks has a line: its size in words, the blocks of live objects, those requested while a cycle runs up to
-/// the next quantum, and those between two cycles. Then come: the quanta of a cycle from which the pages are
-/// calculated; how many pages are needed, out of those there are, and for which runs they suffice; the least number of
-/// pages that suffices, and from how many on each does. If there is no pace, it says that the blocks are too many.
+/// Returns the report of a pace in a heap of a configuration, with quanta of its schedule's units. Each class with needed
+/// blocks has a line: its size in words, the blocks of live objects, those requested while a cycle runs up to the next
+/// quantum, and those between two cycles. Then come the quanta of a cycle from which the pages are calculated. A line
+/// says how many pages are needed, out of those there are, and for which runs they suffice. The last has the least number
+/// of pages that suffices, and from how many on each does. If there is no pace, it says that the blocks are too many.
 pub fn pace_report(
     alloc: Global,
     config: &Config,

@@ -41,8 +41,8 @@ impl PageTable {
         self.free_blocks[class.number()]
     }
 
-    /// Returns whether there is room for the parts of an object: needed blocks for which no free one is left take whole
-    /// pages, and there are as many free pages.
+    /// Returns whether there is room for the parts of an object. If no free block is left for them, needed blocks take
+    /// whole pages, and there are as many free pages.
     #[inline(always)]
     pub fn room(&self, parts: &Parts) -> bool
         ensures { Tells self.now (λ pages. result ≡ has_room pages (blocks_needed parts.now (parts_in parts.now))) }

@@ -153,11 +153,11 @@ impl<'a> Drawing<'a> {
     }
 }
 
-/// Writes a graph heap to a sink as a DOT document, for Graphviz, in lines that end with LF. It has the objects that
-/// can be reached, at most `most` of them, nearest to the roots first, each with its identity and its shape; a box for
-/// each root that holds one of them; each reference between them, with the index of its cell; and how many objects
-/// aren't drawn, if there are any. It takes memory only for the search and the roots, before the first write. It fails
-/// if a write failed, and then the sink has taken a beginning of the document, or if memory was refused.
+/// Writes a graph heap to a sink as a DOT document, for Graphviz, in lines that end with LF. It has the objects that can
+/// be reached, at most `most` of them, nearest to the roots first, each with its identity and its shape. It has a box for
+/// each root that holds one of them, and each reference between them, with the index of its cell. It says how many
+/// objects aren't drawn, if there are any. It takes memory only for the search and the roots, before the first write. It
+/// fails if a write failed, and then the sink has taken a beginning of the document, or if memory was refused.
 pub fn draw_graph<K: Sink>(
     alloc: Global,
     graph: &Reference,

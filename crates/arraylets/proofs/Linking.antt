@@ -20,7 +20,7 @@ use Rattle.heap_model.proofs.State.{allocated_pages}
 use Rattle.nodes.specs.Links.{KeepsLinks}
 use Rattle.arraylets.specs.Made.{LinksPart}
 
--- the links stay where nothing is done, and after two steps, each of which keeps them
+-- the links stay if nothing is done, and after two steps, each of which keeps them
 pub links_same : (s : Store) → KeepsLinks s s
 links_same s = record { len = omega arith; each = λ b h. refl; fresh = λ b was now. absurd (let e : true ≡ false = sym now ∙ was in cc) }
 
@@ -31,7 +31,7 @@ links_then s t u still x y = record { len = omega (arith, x.len, y.len); each = 
     by_block b true between was now = y.each b between ∙ x.fresh b was between
     by_block b false between was now = y.fresh b between now
 
--- a block stays allocated where another is added
+-- a block stays allocated if another is added
 pub added_allocated : (s t : Store) (a : ℕ) (block : BlockRecord) → Adds s t a block → (b : ℕ) → is_allocated s b ≡ true → is_allocated t b ≡ true
 added_allocated s t a block added b h = added.same b (λ e. clash (ap (is_allocated s) (sym e) ∙ h) added.free) ∙ h
   where

@@ -61,7 +61,7 @@ is_number bits G None o n e none some parses = none (sym e)
 is_number bits G (Some u) o (Some v) e none some parses = parses u (Ok v) (some u (sym e))
 is_number bits G (Some u) o None e none some parses = let r = some u (sym e) in parses u (Err r.0) r.1
 
--- all words, where there are any
+-- all words, if there are any
 pub words_in : {A : Type 0} (o : Option A) (v : A → List (List ℕ)) (d : A) (all : Option (List (List ℕ))) (r : A) → option_map v o ≡ all → v d ≡ [] → r ≡ unwrap_or o d → v r ≡ unwrap_or all []
 words_in None v d all r e none is = ap v is ∙ none ∙ ap (λ a. unwrap_or a []) e
 words_in (Some x) v d all r e none is = ap v is ∙ ap (λ a. unwrap_or a []) e

@@ -11,7 +11,7 @@ no_candidate : (pages : List (Option Page)) (class page : ℕ) (best : Option Ca
 no_candidate pages class page best none =
     ap (λ (o : Option Page). if is_choosable class o then emptier best (record { page = page; allocated = allocated_on o }) else best) none
 
--- looks at more pages find the same where all of these are free
+-- looks at more pages find the same if all of these are free
 pub free_behind : (pages : List (Option Page)) (class from : ℕ) (best : Option Candidate) (n m : ℕ) → n ≤ m → ((k : ℕ) → from + n ≤ k → k < from + m → page_at pages k ≡ None)
     → candidate_after_pages pages class from best m ≡ candidate_after_pages pages class from best n
 unfolding candidate_after_pages

@@ -87,7 +87,7 @@ counted_allocated r s live w k class l =
     let d : made_since s.base s class ≡ blocks_of (drop (length o.origin.objects) (present_of r).objects) class = ap (λ z. made_since z s class) o.base ∙ ap (λ (z : Graph). blocks_of (drop (length o.origin.objects) z.objects) class) k.graph in
     omega (arith, x, d)
 
--- where what is present keeps its objects
+-- The graph heap at present keeps its objects.
 module _ (r new : Course) (shapes : KeepsShapes (present_of r).objects (present_of new).objects) where
   abbrev was_live : (origin : Graph) (most : ℕ → ℕ) → WasLive r origin most → WasLive new origin most
   was_live origin most w = record { live = w.live; kept = shapes_then _ _ _ w.kept shapes }
@@ -226,7 +226,7 @@ counted_quantum r new budget units phase s live w k q = by_phase (awaits_sweep_e
     by_phase true e = on e (traced e)
     by_phase false e = by_tracing s.awaiting_sweep_end refl e
 
--- where the event begins a cycle, what is live needs no more than was said
+-- if the event begins a cycle, what is live needs no more than was said
 abbrev pub BeginsWithin : Lives → Season → Event → Type 0
 BeginsWithin live s Cycle_begun = LiveWithin s.graph (live (s.cycles + 1))
 BeginsWithin live s _ = Unit {0}
@@ -238,7 +238,7 @@ counted_does live r Begin_refused new s w k lives does = subst (λ z. IsCounted 
 counted_does live r (Quantum_done budget units phase) new s w k lives does = counted_quantum r new budget units phase s live w k does
 counted_does live r (Quantum_refused budget) new s w k lives does = subst (λ z. IsCounted z s live) (sym does.1) k
 
--- a run that keeps to a bound, where what else is kept lets each new object find room
+-- a run that keeps to a bound, if what else is kept lets each new object find room
 module _ (Bound : Season → (ℕ → ℕ) → Type 0) (live : Lives) (Kept : Course → Season → Type 0)
     (step : (r : Course) (e : Event) (new : Course) (s : Season) → IsCourse r → IsCounted r s live → Kept r s → Keeps Bound live s e → Does r e new → Kept new (season_after live s e) × NewFindsRoom e) where
   begins_within : (s : Season) (e : Event) → Keeps Bound live s e → BeginsWithin live s e

@@ -25,6 +25,6 @@ FitsTogether c blocks =
 abbrev pub roots_in : Config → ℕ
 roots_in c = c.mutators * c.slots + c.statics
 
--- a flow fits in a configuration, where quanta of the schedule's budget count
+-- a flow fits in a configuration, if quanta of the schedule's budget count
 abbrev pub FlowFitsIn : Config → Flow → Type 0
 FlowFitsIn c f = FlowFitsOn f (roots_in c) c.pages (c.collector_ticks * c.rate)

@@ -3,7 +3,7 @@ use Rattle.std.proofs.Common.{◌≡◌, ℕ, ◌-◌, ◌<◌, List, length, sl
 use Rattle.std.proofs.lemmas.List.{set_past}
 use Rattle.graph_heap.specs.Graph.{Object, put_object}
 
--- where there is no such object nothing is written
+-- if there is no such object nothing is written
 pub put_object-past : (xs : List Object) (id : ℕ) (o : Object) → length xs < id → put_object xs id o ≡ xs
 put_object-past xs id o h =
     let s : put_object xs id o ≡ slice_set xs (id - 1) o = grind arith in

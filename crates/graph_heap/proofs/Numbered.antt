@@ -138,7 +138,7 @@ module _ (es : List (ℕ × StoredObject)) (h : AreFrom 1 es) where
       ap (map object_in) (set_from 1 id es n h some) ∙ map-set object_in (values_of es) (id - 1) n ∙ ap (slice_set (seen es) (id - 1)) (is ∙ ap f (sym (object_is id o e)))
       ∙ sym (put_is id (f (object_of (seen es) id)) some)
 
-  -- where there is none nothing is written
+  -- if there is none nothing is written
   pub put_nothing : (id : ℕ) (x : Object) → looked id ≡ None → seen es ≡ put_object (seen es) id x
   put_nothing id x e = elim (same_or id 0) [
     | inl z ↦ ap (λ b. cond b (seen es) (slice_set (seen es) (id - 1) x)) (sym (ap (λ i. i == 0) z))

@@ -45,7 +45,7 @@ with_cell objects id i l = elim (zero_or id) [
     le_or : (a b : ℕ) → (a ≤ b) ⊎ (b < a)
     le_or a b = grind arith
 
--- an identity is among those of objects that were found exactly where its object stands at a place
+-- an identity is among those of objects that were found exactly if its object stands at a place
 module _ (all : List Found) where
   long : length (map (λ (f : Found). f.id) all) ≡ length all
   long = length-map all (λ (f : Found). f.id)

@@ -32,7 +32,7 @@ length_slots (suc m) n =
     let next : suc m * n ≡ m * n + n = grind arith in
     omega (arith, l, a, b, next)
 
--- a mutator has slots, where there is one
+-- a mutator has slots, if there is one
 pub some_slots : (m n cell : ℕ) → cell < m * n → 0 < n
 some_slots m zero cell l = absurd (let none : m * 0 ≡ 0 = grind arith in omega (arith, l, none))
 some_slots m (suc n) cell l = omega arith

@@ -30,7 +30,7 @@ pub record IsFound (g : Graph) (f : Found) : Type 0 where
   pub holds : Holds g f.holder f.id
   pub last : EndsAt g f.holder f.distance
 
--- the default where no object was found
+-- the default if no object was found
 abbrev pub none_found : Found
 none_found = record { id = 0; distance = 0; holder = Root 0 }
 

@@ -100,7 +100,7 @@ action_count h after cost (Chooses_none class page best chosen at few last is) =
 action_count h after cost (Moves_block class page block chosen i to j p q new e at evacuating next place there empty w0 pages) = ap length pages ∙ length-set h.store.pages to _
 action_count h after cost (Ends_moving done) = refl
 
--- a page that is in use stays in use where another page changes, or where it changes to one in use
+-- a page that is in use stays in use if another page changes, or if it changes to one in use
 in_use : (old new : List (Option Page)) (page k : ℕ) (p v : Page) → page_at old page ≡ Some p → k < length old → new ≡ set old k (Some v) → (q : Page) × (page_at new page ≡ Some q)
 in_use old new page k p v at l e = by_place (page == k) (ap (λ z. page_at z page) e ∙ set_page old k page (Some v) l)
   where
@@ -108,7 +108,7 @@ in_use old new page k p v at l e = by_place (page == k) (ap (λ z. page_at z pag
     by_place true f = (v, f)
     by_place false f = (p, f ∙ at)
 
--- a page that is evacuating stays so where another changes that isn't
+-- a page that is evacuating stays so if another changes that isn't
 stays_evacuating : (old new : List (Option Page)) (page k : ℕ) (p q v : Page) → page_at old page ≡ Some p → p.evacuating ≡ true → page_at old k ≡ Some q → k < length old → new ≡ set old k (Some v) → q.evacuating ≡ false
     → (r : Page) × (page_at new page ≡ Some r) × (r.evacuating ≡ true)
 stays_evacuating old new page k p q v at is there l e off = by_place (page == k) refl (ap (λ z. page_at z page) e ∙ set_page old k page (Some v) l)
@@ -157,7 +157,7 @@ closed_unmarked (Some q) = by_allocated (allocated_on (Some q) == 0)
     by_allocated true = record { evacuating = refl; is_target = refl }
     by_allocated false = record { evacuating = refl; is_target = refl }
 
--- where one page changes, those before it are as they were
+-- if one page changes, those before it are as they were
 before_same : (old new : List (Option Page)) (k j : ℕ) (v : Option Page) → k < length old → new ≡ set old k v → j < k → page_at new j ≡ page_at old j
 before_same old new k j v l e less = let t : (j == k) ≡ false = grind arith in ap (λ z. page_at z j) e ∙ set_page old k j v l ∙ rw t refl
 

@@ -55,7 +55,7 @@ opening_kept l roots n k = elim (kept_cases roots (view (opening l)) (view (open
 opening_root : (h : HeapState) → IsOpening h → (j : ℕ) → (seen h).root j ≡ 0
 opening_root h o j = ap (λ z. get_or z j 0) o.roots ∙ no_refs (root_cells h.limits) j
 
--- where null alone is allocated, and nothing else is kept, each block lies where null lies
+-- if null alone is allocated, and nothing else is kept, each block lies where null lies
 null_alone : (h : Heap) (g : PartGraph) → Grows h.roots g g → h.next ≡ g.next → 0 < h.next → h.allocated 0 ≡ true → h.forward 0 ≡ 0 → h.name 0 ≡ null → h.width 0 ≡ 0 → h.words 0 ≡ [] → h.shape 0 ≡ Plain 0 0
     → g.words null ≡ [] → ((n : Name) → g.shape n ≡ Plain 0 0) → ((n : Name) → g.width n ≡ 0) → ((n : Name) → Kept h.roots g g n → n ≡ null) → ((x : ℕ) → h.allocated x ≡ true → x ≡ 0) → ((j : ℕ) → h.root j ≡ 0)
     → Base h g g (λ n. 0)

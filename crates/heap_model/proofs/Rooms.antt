@@ -1,4 +1,4 @@
--- Room for blocks: where there is room, a page can give a block, and the rest has room once it is taken.
+-- Room for blocks: if there is room, a page can give a block, and the rest has room once it is taken.
 use Rattle.std.proofs.Common.{◌≡◌, ◌≢◌, ℕ, zero, suc, ◌+◌, ◌-◌, ◌*◌, ◌/◌, ◌<◌, ◌≤◌, ◌⊎◌, inl, inr, Bool, true, false, not, ◌&&◌, cond, eqb, leb, List, [], ◌∷◌, Option, Some, None, length, get_or, set, replicate, ap, ◌∙◌, sym, subst, arith, refl, mul-zero, add-one}
 use Rattle.std.specs.Prelude.{position, is_some, count_by, sum_by, IsSome, slice_get}
 use Rattle.std.specs.List.{position_or_len}
@@ -37,13 +37,13 @@ first_less a b c d e f = omega arith
 second_less : (a b c d : ℕ) → a ≡ b → c + 1 ≡ d → a + c + 1 ≡ b + d
 second_less a b c d e f = omega arith
 
--- where each class needs as many pages as before, so do all
+-- if each class needs as many pages as before, so do all
 terms_same : (old new : List (Option Page)) (m n : ℕ → ℕ) (classes : ℕ) → ((k : ℕ) → k < classes → class_pages new n k ≡ class_pages old m k) → pages_needed new n classes ≡ pages_needed old m classes
 terms_same old new m n zero e = refl
 terms_same old new m n (suc c) e =
     plus_same (pages_needed new n c) (pages_needed old m c) (class_pages new n c) (class_pages old m c) (terms_same old new m n c (λ k l. e k (omega arith))) (e c (omega arith))
 
--- where one class needs one page less, so do all
+-- if one class needs one page less, so do all
 terms_less : (old new : List (Option Page)) (m n : ℕ → ℕ) (class classes : ℕ) → class < classes → class_pages new n class + 1 ≡ class_pages old m class
     → ((k : ℕ) → k < classes → k ≢ class → class_pages new n k ≡ class_pages old m k) → pages_needed new n classes + 1 ≡ pages_needed old m classes
 terms_less old new m n class zero l here others = absurd (omega arith)
@@ -70,7 +70,7 @@ term_below pages need (suc c) class h = elim (last c class h) [
 pub room_same : (pages : List (Option Page)) (m n : ℕ → ℕ) → ((k : ℕ) → k < CLASSES → m k ≡ n k) → has_room pages m ≡ has_room pages n
 room_same pages m n e = ap (λ x. leb x (free_pages pages)) (terms_same pages pages n m CLASSES (λ k l. ap (λ x. whole_pages k (x - free_blocks pages k)) (e k l)))
 
--- some item passes where a sum of what the passing ones add is above 0
+-- some item passes if a sum of what the passing ones add is above 0
 first_within : {A : Type 0} (p : A → Bool) (f : A → ℕ) (xs : List A) → ((x : A) → p x ≡ false → f x ≡ 0) → 0 < sum_by f xs → position_or_len p xs < length xs
 first_within p f [] none h = absurd (omega arith)
 first_within p f (x ∷ xs) none h = by_test (p x) refl (λ r. first_within p f xs none r)
@@ -127,7 +127,7 @@ free_one pages need class small some room z =
     let o = whole_one (need class - free_blocks pages class) (blocks_in class) (omega (arith, z, some)) (blocks_some class small) in
     omega (arith, t, r, o)
 
--- where there is room and a block is needed, a page gives it
+-- if there is room and a block is needed, a page gives it
 pub room_gives : (pages : List (Option Page)) (need : ℕ → ℕ) (class : ℕ) → class < CLASSES → 0 < need class → has_room pages need ≡ true → IsSome (page_for pages class)
 room_gives pages need class small some room = elim (eq-zero-or-pos (free_blocks pages class)) [
   | inl z ↦ either_some _ _ (inr (first_passing is_free (λ o. one_if (is_free o)) pages counted (free_one pages need class small some room z)))
@@ -284,7 +284,7 @@ room_fresh old m n class page index small room here others none l at o =
     other : (k : ℕ) → k ≢ class → free_blocks new k ≡ free_blocks old k
     other k d = as_many (free_blocks new k) (free_blocks old k) 0 (free_on k v) (blocks_set old page k None v l at) refl (other_on (with_allocated (fresh_page class) index true) k (other_class class class k refl d))
 
--- where there is room, there is room for the rest once a block is taken
+-- if there is room, there is room for the rest once a block is taken
 pub room_left : (old new : List (Option Page)) (m n : ℕ → ℕ) (class page index : ℕ) → class < CLASSES → has_room old m ≡ true → m class ≡ n class + 1 → ((k : ℕ) → k < CLASSES → k ≢ class → n k ≡ m k)
     → TakesBlock old class page index new → has_room new n ≡ true
 room_left old new m n class page index small room here others w =

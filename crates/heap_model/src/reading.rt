@@ -22,8 +22,8 @@ pub fn root_reads()
         → Reads (seen h) (slice_index h.roots j) (name_of (slice_index g.roots j)) }
 {}
 
-/// While blocks are moved, each address that reads as a name goes on to read as that name, also where
-/// nothing reaches it any more.
+/// While blocks are moved, each address that reads as a name goes on to read as that name, even if nothing reaches it any
+/// more.
 pub fn moves_keep_names()
     ensures { (h after : HeapState) (cost : ℕ) (present snapshot : Graph) (place : Moving) (x : ℕ) (n : Name)
         → Represents h present snapshot → h.phase ≡ phases.Moving place → Action h cost after

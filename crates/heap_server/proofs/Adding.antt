@@ -53,7 +53,7 @@ torn_from : (A B : Type 0) (n m : ℕ) → n ≢ m → (b : Bool) → (n == m) �
 torn_from A B n m off true is h = absurd (off (grind (arith, nat_tests)))
 torn_from A B n m off false is h = h
 
--- where another number was found
+-- Another number was found.
 pub where_torn : (A B : Type 0) (n m : ℕ) → n ≢ m → MatchBool (n == m) A B → B
 where_torn A B n m off h = torn_from A B n m off (n == m) refl h
 
@@ -61,7 +61,7 @@ done_from : (A B : Type 0) (n m : ℕ) → n ≡ m → (b : Bool) → (n == m) �
 done_from A B n m on true is h = h
 done_from A B n m on false is h = absurd (grind (arith, nat_tests))
 
--- where the number was found
+-- The number was found.
 pub where_done : (A B : Type 0) (n m : ℕ) → n ≡ m → MatchBool (n == m) A B → A
 where_done A B n m on h = done_from A B n m on (n == m) refl h
 

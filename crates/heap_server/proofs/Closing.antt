@@ -88,7 +88,7 @@ each_told (s ∷ ss) h each le =
     let second = sum_by-cons (λ (t : SeatView). t.calls) s ss in
     All-cons (WasTold h) s ss (record { begins = one.begins; calls = omega (arith, own, rest, here, first, second, le) }) (each_told ss h more (omega (arith, own, rest, here, first, second, le)))
 
--- where as many calls were counted as the history has, it has just these
+-- if as many calls were counted as the history has, it has just these
 pub counted_told : (ss : List SeatView) (h : List Entry) (n : ℕ) → All (IsKnown h) ss → IsPermutation (mutators_of ss) (upto n) → length h ≡ sum_by (λ s. s.calls) ss → All (WasTold h) ss
 counted_told ss h n each all counted =
     each_told ss h each (omega (arith, by_mutators h ss, sum_by-IsPermutation (λ m. length (mine h m)) (mutators_of ss) (upto n) all, spread h n))

@@ -37,7 +37,7 @@ played_at [] (c ∷ scripts) i d h lt le = absurd (omega arith)
 played_at (s ∷ ss) (c ∷ scripts) zero d h lt le = h.0
 played_at (s ∷ ss) (c ∷ scripts) (suc i) d h lt le = played_at ss scripts i d h.1 (omega arith) (omega arith)
 
--- where as many entries are a mutator's as its seat has calls, they are the first commands of the script
+-- if as many entries are a mutator's as its seat has calls, they are the first commands of the script
 front_of : (script : List Command) (s : SeatView) (h : List Entry) (m : ℕ) → HasPlayed s script → WasTold h s → s.mutator ≡ m → commands_of (mine h m) ≡ take s.calls script
 front_of script s h m p w is =
     let told = told_grows (take s.calls script) s.seen h s.mutator w.begins p.told in
@@ -63,7 +63,7 @@ empty_of : {A : Type 0} (xs : List A) → length xs ≤ 0 → xs ≡ []
 empty_of [] le = refl
 empty_of (x ∷ xs) le = absurd (omega arith)
 
--- where the first mutators have as many entries as there are, no other has one
+-- if the first mutators have as many entries as there are, no other has one
 none_left : (h : List Entry) (k m : ℕ) → k ≤ m → length h ≤ sum_by (λ i. length (mine h i)) (upto k) → mine h m ≡ []
 none_left h k m le all =
     let f : ℕ → ℕ = λ i. length (mine h i) in

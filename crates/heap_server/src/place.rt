@@ -56,7 +56,7 @@ impl Play<Entry, u64> for LoadStep {
     ghost then = { Loads };
 }
 
-/// A step that appends an entry to the log, where its length is still the one that was loaded.
+/// A step that appends an entry to the log, if its length is still the one that was loaded.
 pub struct AppendStep;
 
 impl Play<Entry, u64> for AppendStep {

@@ -60,8 +60,7 @@ pub fn collect<N: Naming, G: Gate, R: Wait>(
     used
 }
 
-/// Plays each script from the seat at its place, each in a thread of its own where one can be started, and
-/// else in turn.
+/// Plays each script from the seat at its place, in a thread of its own if one can be started, and in turn otherwise.
 fn play_scripts<N: Naming + Send + Sync, G: Gate + Sync, R: Threads + Wait + Sync>(
     rt: &R,
     server: &Server<N>,

@@ -22,7 +22,7 @@ blocks_line n class = if together_in n class == 0 then []
     else codes "size " ++ (decimal (size_of class) ++ (codes " blocks " ++ (decimal (together_in n class)
     ++ (codes " pages " ++ (decimal (whole_pages class (together_in n class)) ++ codes "\n")))))
 
--- how many pages suffice where blocks are never moved
+-- how many pages suffice if blocks are never moved
 abbrev pub still_line : ℕ → List ℕ
 still_line pages =
     codes "without moving " ++ (decimal pages ++ codes ": for each run that needs no more blocks of any size\n")

@@ -15,7 +15,7 @@ one_more : (front back : List ℕ) (x : ℕ) → answers.Header ≡ header_of (f
 one_more [] back x = refl
 one_more (y ∷ front) back x = refl
 
--- where no cell of the part is left, and a part is grey
+-- No cell of the part is left, and a part is grey.
 pub header_next : (h : HeapState) (part cell x : ℕ) (front back : List ℕ) → (seen h).width part ≤ cell → h.grey ≡ front ++ x ∷ back → answers.Header ≡ scanned_at h (phases.Marking part cell)
 header_next h part cell x front back past e =
     one_more front back x ∙ ap header_of (sym e)

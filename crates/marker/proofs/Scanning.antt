@@ -81,11 +81,11 @@ marking_ends a part cell units is done none = Ends_marking part cell refl (all_s
 pub width_there : (a : HeapFields) (part : ℕ) → part ≢ 0 → (seen (state_of a)).width part ≡ width_at (record_of a.nodes (part - 1))
 width_there a part ne = some_of part 0 (width_at (record_of a.nodes (part - 1))) ne
 
--- where cells are left there is a part in scan
+-- if cells are left there is a part in scan
 pub some_left : (a : HeapFields) (part cell width : ℕ) → width ≡ (seen (state_of a)).width part → cell < width → part ≢ 0
 some_left a part cell width is left e = let none : width ≡ 0 = is ∙ ap (seen (state_of a)).width e in absurd (omega (arith, left, none))
 
--- where none are left all were scanned
+-- if none are left all were scanned
 pub past_all : (a : HeapFields) (part cell width : ℕ) → width ≡ (seen (state_of a)).width part → width ≤ cell → part ≢ 0 → width_at (record_of a.nodes (part - 1)) ≤ cell
 past_all a part cell width is past ne = omega (arith, past, is, width_there a part ne)
 

@@ -54,11 +54,11 @@ module _ (s : Store) (whole : IsStore s) (k i : ℕ) (p : Page) (there : page_at
   pub words_there : address_of p.class k i + size_of p.class ≤ length s.words
   words_there = let w : 2048 * k + 2048 ≤ length s.words = whole.words k p (slice_get-get_or s.pages k None page_below ∙ ap Some there) in omega (arith, fit, w)
 
-  -- where an address begins in its page, it is the block's
+  -- if an address begins in its page, it is the block's
   pub address_is : (b : ℕ) → b / 2048 ≡ k → b % 2048 ≡ i * size_of p.class → b ≡ address_of p.class k i
   address_is b e f = omega (arith, e, f)
 
-  -- where it begins and ends in its page, by the size that the code knows
+  -- An address begins and ends in its page, by the size that the code knows.
   pub block_by : (size : ℕ) → size ≡ size_of p.class → (k < 1048576) × (i * size + size ≤ 2048)
   block_by size e =
       let f : (i + 1) * size ≤ 2048 = subst (λ n. (i + 1) * n ≤ 2048) (sym e) fit in

@@ -53,7 +53,7 @@ count_none p a (suc n) none =
     ∙ ap (λ b. count_below p (a + n) + (if b then 1 else 0)) last ∙ (let e : count_below p (a + n) + 0 ≡ count_below p (a + n) = omega arith in e)
     ∙ count_none p a n (λ b l u. none b l (omega (arith, u)))
 
--- where no block is allocated, nothing is counted
+-- if no block is allocated, nothing is counted
 none_allocated : (s : Store) (a n : ℕ) → ((b : ℕ) → a ≤ b → b < a + n → is_allocated s b ≡ false) → copies_below s (a + n) ≡ copies_below s a
 unfolding is_main is_old is_object
 none_allocated s a n none =

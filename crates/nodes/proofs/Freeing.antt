@@ -185,7 +185,7 @@ allocated_by s whole k i class size (Some p) there ec es h =
 abbrev one_if : Bool → ℕ
 one_if b = cond b 1 0
 
--- no block is allocated where none counts
+-- no block is allocated if none counts
 none_counted : (flags : List Bool) → count_by (λ b. b) flags ≡ 0 → (j : ℕ) → get_or flags j false ≡ false
 none_counted [] e j = refl
 none_counted (b ∷ flags) e zero = first b (let c : count_by (λ x. x) (b ∷ flags) ≡ one_if b + count_by (λ x. x) flags = sum_by-cons one_if b flags in omega (arith, c, e))

@@ -36,7 +36,7 @@ count_by rows words t is = sym (length-pages rows words) ∙ ap (λ (x : Store).
 pub below_by : (rows : List (Option PageRow)) (words : List ℕ) (t : Store) → joined rows words ≡ t → (page : ℕ) → page < length t.pages → page < length rows
 below_by rows words t is page h = omega (arith, h, count_by rows words t is)
 
--- where the words of allocated blocks stayed
+-- The words of allocated blocks stayed.
 module _ (pages : List (Option Page)) (words new : List ℕ) (kept : KeepsAllocated pages words new) (b : ℕ) (allocated : is_allocated (record { pages = pages; words = words }) b ≡ true) where
   pub word_kept : (j : ℕ) → j < size_at (record { pages = pages; words = words }) b → get_or new (b + j) 0 ≡ get_or words (b + j) 0
   unfolding size_at is_allocated
@@ -57,7 +57,7 @@ module _ (pages : List (Option Page)) (words new : List ℕ) (kept : KeepsAlloca
       ap record_in (words_at-there new words b (size_at (record { pages = pages; words = words }) b) (omega (arith, fits, kept.len)) fits
       (λ n low high. let at : n ≡ b + (n - b) = omega (arith, low) in ap (λ m. get_or new m 0) at ∙ word_kept (n - b) (omega (arith, low, high)) ∙ ap (λ m. get_or words m 0) (sym at)))
 
--- where the same blocks are allocated, with the same words
+-- The same blocks are allocated, with the same words.
 pub same_headers : (rows : List (Option PageRow)) (words : List ℕ) (t : Store) → joined rows words ≡ t → AreBlockRecords rows words → (new : Store) → KeepsBlocks t new → (b : ℕ) → is_allocated new b ≡ true → IsHeader (get_or words (b + 1) 0)
 same_headers rows words t is are new kept b allocated = are.headers b (ap (λ (x : Store). is_allocated x b) is ∙ sym (kept.allocated b) ∙ allocated)
 

@@ -1,4 +1,4 @@
--- Which parts are grey stays, where the links of allocated blocks do, or where no part is grey.
+-- The same parts stay grey, if the links of allocated blocks stay, or if no part is grey.
 use Rattle.std.proofs.Common.{◌≡◌, ℕ, ◌+◌, ◌-◌, Bool, true, false, length, ap, ◌∙◌, sym, subst, refl, inl, inr}
 use Rattle.std.proofs.lemmas.Bool.{cases_eq}
 use Rattle.heap_model.specs.declared.phase.Phase.{Phase}
@@ -45,11 +45,11 @@ module _ (a : HeapFields) (w : AreHeapFields a) (off : records a.phase ≡ false
   unfolding contains
   unlinked b h = w.linked.unused b h (ap (λ xs. contains xs (b + 1)) (w.empty off))
 
-  -- where links stay with the blocks that are allocated still
+  -- Links stay with the blocks that are allocated still.
   pub linked_left : (new : Store) → LeavesLinks a.nodes new → AreLinked new a.grey
   linked_left new left = none_linked new a.grey (buffers_none a.nodes a.grey (w.empty off)) (λ b now c. let q = left b now in q.1 ∙ unlinked b q.0)
 
-  -- where a block is copied
+  -- A block is copied.
   pub linked_copied : (new : Store) (from to : ℕ) → MovesBlock a.nodes new from to → is_allocated a.nodes from ≡ true → CopiesLink a.nodes new from to → AreLinked new a.grey
   linked_copied new from to moves allocated copies =
       none_linked new a.grey (buffers_none a.nodes a.grey (w.empty off))
@@ -67,7 +67,7 @@ grey_stays a w off new =
 pub store_still : (a : HeapFields) → AreHeapFields a → records a.phase ≡ false → (new : Store) → state_of (record a { nodes = new }) ≡ record (state_of a) { store = new }
 store_still a w off new = ap (λ xs. record (state_of a) { store = new; grey = xs }) (grey_stays a w off new)
 
--- the same, where the links of allocated blocks stay
+-- The links of allocated blocks stay.
 pub store_kept : (a : HeapFields) → AreAllocated a → (new : Store) → length new.pages ≡ length a.nodes.pages → KeepsLinks a.nodes new → state_of (record a { nodes = new }) ≡ record (state_of a) { store = new }
 store_kept a allocated new pages links = ap (λ xs. record (state_of a) { store = new; grey = xs }) (grey_kept a allocated new pages links)
 

@@ -1,4 +1,4 @@
--- The links of allocated blocks: where one is read or written, and where another word of a block is.
+-- The links of allocated blocks, if one is read or written, and if another word of a block is.
 use Rattle.std.proofs.Common.{◌≡◌, ◌≢◌, ℕ, ◌+◌, ◌<◌, ◌≤◌, true, false, List, Option, length, set, get_or, ap, ◌∙◌, sym, subst, arith, refl, length-set, inl, inr}
 use Rattle.std.proofs.lemmas.Bool.{cases_eq}
 use Rattle.std.proofs.lemmas.List.{get_or-set_same, get_or-set_other}

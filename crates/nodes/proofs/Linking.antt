@@ -11,7 +11,7 @@ use Rattle.nodes.specs.Grey.{MutatorRecords, GreySet, in_buffers, inserted, grey
 use Rattle.nodes.proofs.Sorting.{contains-inserted, length-inserted, once-inserted}
 use Rattle.nodes.proofs.Threading.{in_buffer, record_grey, same_buffer, buffered, buffered_first, comes_first, link_written}
 
--- where the buffers are empty
+-- The buffers are empty.
 pub none_linked : (s : Store) (g : GreySet) → in_buffers g.buffers ≡ [] → ((b : ℕ) → is_allocated s b ≡ true → contains (grey_in s g) (b + 1) ≡ false → get_or s.words (b + 3) 0 ≡ 0) → AreLinked s g
 unfolding contains
 none_linked s g none unused = record {
@@ -19,7 +19,7 @@ none_linked s g none unused = record {
   unused = unused;
 }
 
--- where the links of grey parts stay, and each other link is 0
+-- The links of grey parts stay, and each other link is 0.
 pub linked_kept : (s new : Store) (g : GreySet) → AreLinked s g → grey_in new g ≡ grey_in s g → ((x : ℕ) → contains (grey_in s g) x ≡ true → get_or new.words (x - 1 + 3) 0 ≡ get_or s.words (x - 1 + 3) 0)
     → ((b : ℕ) → is_allocated new b ≡ true → contains (grey_in s g) (b + 1) ≡ false → get_or new.words (b + 3) 0 ≡ 0) → AreLinked new g
 linked_kept s new g linked same kept unused = record {
@@ -124,7 +124,7 @@ linked_more s new g m x within linked stays last end unused grey = record {
         subst (λ xs. get_or new.words (get_or xs i 0 - 1 + 3) 0 ≡ get_or xs (i + 1) 0) (sym same)
         (elim (cases_eq i (length items)) [ inl q ↦ at_end i q | inr ne ↦ before i (let l : i < length (items ++ x ∷ []) = subst (λ xs. i < length xs) now below in omega (arith, l, ne, count)) ])
 
--- the last record, where there is one
+-- the last record, if there is one
 last_at : (xs : List ℕ) (n x : ℕ) → suc n ≡ length xs → slice_get xs n ≡ Some x → (rest : List ℕ) × (xs ≡ rest ++ x ∷ [])
 last_at [] n x l e = absurd (omega (arith, l))
 last_at (y ∷ []) zero x l e = ([], ap (λ z. z ∷ []) (let t : Some y ≡ Some x = e in cc))

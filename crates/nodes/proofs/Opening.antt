@@ -25,7 +25,7 @@ no_object_fits id = grind arith
 small_limit : (h : HeapState) → length h.store.pages ≤ 1048576 → length h.roots ≤ 16640 → h.defrag_pages ≤ 1048576 → cycle_limit h < 2 ^ 41
 small_limit h p r d = let z : (h.defrag_pages + CLASSES) * length h.store.pages ≤ (1048576 + CLASSES) * length h.store.pages = mul-le-mul_right (length h.store.pages) (omega (arith, d)) in omega (arith, z)
 
--- no block is allocated where all pages are free
+-- no block is allocated if all pages are free
 none_allocated : (s : Store) → s.pages ≡ replicate (length s.pages) None → (b : ℕ) → is_allocated s b ≡ false
 unfolding is_allocated
 none_allocated s free b = ap (λ o. allocated_in o (b % 2048)) (ap (λ pages. page_at pages (b / 2048)) free ∙ page_none (length s.pages) (b / 2048))

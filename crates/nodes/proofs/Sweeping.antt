@@ -27,7 +27,7 @@ pub record IsSound (s : Store) : Type 0 where
   pub whole : IsStore s
   pub headers : (b : ℕ) → is_allocated s b ≡ true → IsHeader (get_or s.words (b + 1) 0)
 
--- an allocated block is marked where its header has the colour
+-- an allocated block is marked if its header has the colour
 marked_by : (h : HeapState) (s : Store) (colour : Bool) → h.mark_parity ≡ colour → IsStore s → (page block : ℕ) (p : Page) → page_at s.pages page ≡ Some p → slice_get p.allocated block ≡ Some true
     → (seen (record h { store = s })).marked (address_of p.class page block + 1) ≡ has_colour s.words colour (address_of p.class page block)
 marked_by h s colour es whole page block p there allocated =
@@ -134,7 +134,7 @@ module _ (s t new : Store) (is : s ≡ t) (whole : IsStore s) (headers : (b : �
   pub left_by : LeavesLinks t new
   left_by = subst (λ (x : Store). LeavesLinks x new) is (looks_leave colour page from s n new looks sound)
 
-  -- and where the page was closed then
+  -- The page was closed then.
   pub left_and_closed : (pages : List (Option Page)) → KeepsBlocks new (record new { pages = pages }) → LeavesLinks t (record new { pages = pages })
   left_and_closed pages kept b now = left_by b (sym (kept.allocated b) ∙ now)
 

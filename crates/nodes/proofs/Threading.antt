@@ -26,7 +26,7 @@ linked_first : (words : List ℕ) (n x : ℕ) → x ≢ 0 → linked_from words 
 unfolding linked_from
 linked_first words n x some = let e : (x == 0) ≡ false = ne_eqb x 0 some in rw e refl
 
--- where the links of its parts stay, the list does
+-- if the links of its parts stay, the list does
 linked_same : (words new : List ℕ) (n x : ℕ) → ((y : ℕ) → y ≢ 0 → contains (linked_from words n x) y ≡ true → get_or new (y - 1 + 3) 0 ≡ get_or words (y - 1 + 3) 0) → linked_from new n x ≡ linked_from words n x
 unfolding linked_from contains
 linked_same words new zero x e = refl
@@ -149,14 +149,14 @@ module _ (s : Store) (g : GreySet) where
       or_true true = refl
       or_true false = refl
 
-  -- where the links of the grey parts stay, the same parts are grey
+  -- if the links of the grey parts stay, the same parts are grey
   pub grey_same : (new : Store) → length new.pages ≡ length s.pages → ((y : ℕ) → y ≢ 0 → contains (grey_in s g) y ≡ true → get_or new.words (y - 1 + 3) 0 ≡ get_or s.words (y - 1 + 3) 0) → grey_in new g ≡ grey_in s g
   unfolding grey_in
   grey_same new pages links =
       ap (λ n. sorted (linked_from new.words (2048 * n) g.first ++ in_buffers g.buffers)) pages
       ∙ ap (λ xs. sorted (xs ++ in_buffers g.buffers)) (linked_same s.words new.words most g.first (λ y some c. links y some (in_linked y c)))
 
-  -- where no part is grey, list and buffers are empty
+  -- if no part is grey, list and buffers are empty
   pub first_none : 0 < length s.pages → grey_in s g ≡ [] → g.first ≡ 0
   unfolding linked_from
   first_none some e = by_null (g.first == 0) refl
@@ -247,7 +247,7 @@ module _ (s : Store) (g : GreySet) where
     buffered_first x items = buffered_between [] items x
 
 module _ (s : Store) (g : GreySet) (words : List ℕ) (x : ℕ) (some : x ≢ 0) where
-  -- where the link of a part that isn't grey is written, the same parts are grey
+  -- if the link of a part that isn't grey is written, the same parts are grey
   pub link_written : (link : ℕ) → words ≡ set s.words (x - 1 + 3) link → contains (grey_in s g) x ≡ false → grey_in (record { pages = s.pages; words = words }) g ≡ grey_in s g
   link_written link is fresh =
       grey_same s g (record { pages = s.pages; words = words }) refl

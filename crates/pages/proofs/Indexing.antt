@@ -168,7 +168,7 @@ none_free None false e = absurd (cc)
 none_free (Some r) true e = absurd (cc)
 none_free (Some r) false e = refl
 
--- a page is usable exactly where it has a free block that counts
+-- a page is usable exactly if it has a free block that counts
 some_left : (known stays : Bool) (blocks allocated : ℕ) → ltb 0 (cond (known && stays) (blocks - allocated) 0) ≡ (known && (stays && ltb allocated blocks))
 some_left true true blocks allocated = elim (cases_lt allocated blocks) [
   | inl l ↦ lt-ltb 0 (blocks - allocated) (omega (arith, l)) ∙ sym (lt-ltb allocated blocks l)

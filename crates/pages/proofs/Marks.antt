@@ -6,7 +6,7 @@ use Rattle.std.proofs.lemmas.Bool.{cases_eq, ne_eqb}
 use Rattle.std.proofs.lemmas.Nat.{and_le_l, and_le_r}
 use Rattle.pages.specs.FreeList.{free_mark, flags_of, AreFree}
 
--- where the bits of both are looked at as one, and all are set, all are in each
+-- if the bits of both are looked at as one, and all are set, all are in each
 pub in_both : (a b : ℕ) → free_mark ≤ bit_and a b → (free_mark ≤ a) × (free_mark ≤ b)
 in_both a b all = (let l = and_le_l a b in omega (arith, all, l), let r = and_le_r a b in omega (arith, all, r))
 

@@ -15,7 +15,7 @@ whole_none b some = grind (arith, common_steps)
 whole_one : (b : ℕ) → 0 < b → (1 + (b - 1)) / b ≡ 1
 whole_one b some = grind (arith, common_steps)
 
--- the pages for one block, where this many are free
+-- the pages for one block, if this many are free
 pages_one : ℕ → ℕ
 pages_one free = cond (ltb 0 free) 0 1
 

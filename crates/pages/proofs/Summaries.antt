@@ -30,7 +30,7 @@ some_bit n h fits = let t = bit_at-trailing_zeros w64 n h fits in (_, t.0, t.1)
 zero_word : (words : List ℕ) (k : ℕ) → get_or words (k / 64) 0 ≡ 0 → bit_in words k ≡ 0
 zero_word words k e = ap (λ x. bit_at x (k % 64)) e ∙ bit_at-zero (k % 64)
 
--- where no bit is set up to one, the words before its own are 0
+-- if no bit is set up to one, the words before its own are 0
 pub zero_before : (words : List ℕ) (k : ℕ) → ((v : ℕ) → get_or words v 0 < 2 ^ 64) → ((i : ℕ) → i ≤ k → bit_in words i ≡ 0) → (v : ℕ) → v < k / 64 → get_or words v 0 ≡ 0
 zero_before words k fits none v below = elim (cases_lt 0 (get_or words v 0)) [
   | inl l ↦ absurd (
@@ -99,7 +99,7 @@ module _ (words above : List ℕ) (s : IsSummary words above) where
       let l : 64 * w + b.0 < length words = word_there (64 * w + b.0) (word_some (get_or words (64 * w + b.0) 0) (sym (s.each (64 * w + b.0)) ∙ one)) in
       omega (arith, l)
 
-  -- where no bit is set up to bit k, and its word is 0, none is in the level above up to that word's
+  -- if no bit is set up to bit k, and its word is 0, none is in the level above up to that word's
   pub none_above : (k : ℕ) → ((v : ℕ) → get_or words v 0 < 2 ^ 64) → ((i : ℕ) → i ≤ k → bit_in words i ≡ 0) → get_or words (k / 64) 0 ≡ 0
       → (w : ℕ) → w ≤ k / 64 → bit_in above w ≡ 0
   none_above k fits none zero w le = s.each w ∙ bit_zero (get_or words w 0) (elim (cases_lt w (k / 64)) [

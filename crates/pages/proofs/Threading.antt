@@ -29,7 +29,7 @@ was_false flags i j h =
       | inr ne ↦ slice_get-get_or flags j false below ∙ ap Some (sym (get_or-set_other flags i j true false ne) ∙ now)
     ]
 
--- it is the same list where the links of the free blocks are the same
+-- it is the same list if the links of the free blocks are the same
 pub runs_same : (words new : List ℕ) (at size n : ℕ) (flags : List Bool) (link : ℕ)
     → ((i : ℕ) → slice_get flags i ≡ Some false → slice_index new (at + i * size + 3) ≡ slice_index words (at + i * size + 3))
     → RunsFree words at size n flags link → RunsFree new at size n flags link

@@ -43,7 +43,7 @@ module _ (phase : PhaseName) (these : List Turn) (q : Turn) where
   pub found_elsewhere : false ≡ is_name phase q.1.phase → found_in phase (these ++ q ∷ []) ≡ found_in phase these
   found_elsewhere e = found_more ∙ ap (λ b. found_in phase these ++ found b) (sym e) ∙ append-nil (found_in phase these)
 
--- spans are the same where each is
+-- spans are the same if each is
 pub same_spans : (a b : CycleSpans) → a.whole ≡ b.whole → a.roots ≡ b.roots → a.marking ≡ b.marking → a.sweeping ≡ b.sweeping → a.moving ≡ b.moving → a ≡ b
 same_spans a b w r m s v = rw (w, r, m, s, v) refl
 
@@ -63,11 +63,11 @@ module _ (these : List Turn) (q : Turn) (later : List Turn) where
   gone_on : q.1.opens_cycle ≡ false → events_in these (q ∷ later) ≡ events_in (these ++ q ∷ []) later
   gone_on opens = ap (λ b. flat_map cycle_events (step b)) opens
 
--- what two slices have left, pair by pair: one more, where each of them has one more
+-- what two slices have left, pair by pair: one more, if each of them has one more
 pub next_turn : {quanta later : List Interval} {starts behind : List QuantumStart} (q : Turn) → (quanta ≡ q.0 ∷ later) × (starts ≡ q.1 ∷ behind) → zip quanta starts ≡ q ∷ zip later behind
 next_turn q more = ap₂ (λ (a : List Interval) (b : List QuantumStart). zip a b) more.0 more.1
 
--- or none, where one of them has none
+-- or none, if one of them has none
 pub no_turn : (quanta : List Interval) (starts : List QuantumStart) → (quanta ≡ []) ⊎ (starts ≡ []) → zip quanta starts ≡ []
 no_turn [] starts none = refl
 no_turn (i ∷ later) starts (inl e) = absurd (cc)

@@ -20,7 +20,7 @@ pub on_err : {A E : Type 0} (r : Result A E) → OnErr r (Unit {0})
 on_err (Ok x) = tt
 on_err (Err e) = tt
 
--- a cycle is running where the phase isn't idle, and none where it is
+-- a cycle is running if the phase isn't idle, and none if it is
 pub is_running : (p : Phase) → is_idle p ≡ false → in_cycle p ≡ true
 is_running phases.Idle e = absurd (let z : true ≡ false = e in cc)
 is_running (phases.Roots next) e = refl

@@ -32,7 +32,7 @@ module _ {A : Type 0} {text : List A → List ℕ} (w : IsText text) where
     pub more : t2 ≡ t1 ++ text next → t2 ≡ t0 ++ text (done ++ next)
     more e = e ∙ ap (λ t. t ++ text next) so ∙ append_assoc t0 (text done) (text next) ∙ ap (λ t. t0 ++ t) (sym (w.both done next))
 
-    -- and a part of others after them, where more are to come
+    -- and a part of others after them, if more are to come
     pub part : (rest : List A) → GrowsByPart t1 t2 (text next) → GrowsByPart t0 t2 (text (done ++ (next ++ rest)))
     part rest g =
         let a = text done in

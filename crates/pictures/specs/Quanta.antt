@@ -26,6 +26,6 @@ quantum_of s = record {
 abbrev pub quanta_of : List Step → List Quantum
 quanta_of steps = map quantum_of (filter works steps)
 
--- a log of the quanta of steps, where memory was refused for none
+-- a log of the quanta of steps, if memory was refused for none
 abbrev pub HasQuanta : List Step → QuantumLog → Type 0
 HasQuanta steps log = log.is_refused ≡ false → log.items.items ≡ quanta_of steps

@@ -11,7 +11,7 @@ use Rattle.paced.specs.Rooms.{among, made_of, planned_flow}
 use Rattle.paced.specs.Planning.{quanta_on, IsFastestFor, IsLeastPagesFor}
 use Rattle.plans.specs.Order.{OneForEach}
 
--- how many words are live, the units of a quantum, and for how many size classes the plans are, where some are said
+-- the line with the live words, the units of a quantum, and the number of size classes, if some are given
 abbrev pub live_line : Config → ℕ → Option (List ℕ) → List ℕ
 live_line c live None =
     codes "live " ++ (decimal live ++ (codes " units " ++ (decimal (c.collector_ticks * c.rate) ++ codes "\n")))

@@ -180,7 +180,7 @@ are_grey_by a b w links same mark_parity = record {
     marked_by x true e allocated m = refl
     marked_by x false e allocated m = ap (λ c. same_colour c (record_of b.nodes (x - 1)).colour) mark_parity ∙ ap (λ (n : BlockRecord). same_colour a.mark_parity n.colour) (links.blocks.nodes (x - 1) allocated) ∙ m
 
--- where each buffer is empty
+-- Each buffer is empty.
 pub all_empty : (bs : List MutatorRecords) → ((i : ℕ) → i < length bs → (get_or bs i (record { items = [] })).items ≡ []) → in_buffers bs ≡ []
 unfolding in_buffers
 all_empty [] e = refl
@@ -197,7 +197,7 @@ empty_more g m l e i below = elim (cases_eq i m) [
 pub own_record : (s : Store) (g after : GreySet) (m part : ℕ) → m < length g.buffers → after ≡ with_buffer g m (buffer_of g m ++ part ∷ []) → grey_in s after ≡ inserted part (grey_in s g)
 own_record s g after m part l e = ap (grey_in s) e ∙ buffered s g m l (buffer_of g m) part ∙ ap (inserted part) (same_buffer s g m l)
 
--- which records it has then, where room was made before
+-- which records it has then, if room was made before
 pub own_buffer : (a mid : HeapFields) (after : GreySet) (m part : ℕ) (items : List ℕ) → m < length a.grey.buffers → mid ≡ record a { nodes = mid.nodes; grey = record (with_buffer a.grey m items) { first = mid.grey.first } } → after ≡ with_buffer mid.grey m (buffer_of mid.grey m ++ part ∷ [])
     → after.buffers ≡ (with_buffer a.grey m (items ++ part ∷ [])).buffers
 own_buffer a mid after m part items l e is =

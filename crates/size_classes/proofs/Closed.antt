@@ -34,7 +34,7 @@ none_left s l = omega arith
 clash : (s : ℕ) → s ≤ 0 → 1 < s → ⊥
 clash s l m = omega arith
 
--- a sum, where most of the addends are the same
+-- a sum, if most of the addends are the same
 module _ (total at : ℕ → ℕ) (f : ℕ) (none : total 0 ≡ 0) (next : (p : ℕ) → total (suc p) ≡ total p + at p) where
   after : (p q : ℕ) → q ≡ suc p → total q ≡ total p + at p
   after p q e = ap total e ∙ next p

@@ -11,7 +11,7 @@ use Rattle.size_classes.specs.declared.settings.Settings.{Settings}
 use Rattle.size_classes.specs.Keys.{row_of, is_between, is_allowed}
 use Rattle.size_classes.specs.Config.{setting, first_outside}
 
--- where no element fails, each passes
+-- if no element fails, each passes
 step : {X : Type 0} (b : Bool) (x : X) (rest : Option X) → cond (not b) (Some x) rest ≡ None → (b ≡ true) × (rest ≡ None)
 step true x rest e = (refl, e)
 step false x rest e = absurd (cc)

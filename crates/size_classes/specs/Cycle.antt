@@ -14,7 +14,7 @@ cycle_units roots pages emptied = roots + 3 * (PAGE_WORDS * pages) + (emptied + 
 abbrev pub sweep_units : ℕ → ℕ → ℕ → ℕ
 sweep_units roots pages marking = roots + marking + (MOST_BLOCKS + 1) * pages + (MOST_BLOCKS + 4)
 
--- the units of roots, marking and sweeping, where marking spends one for each word of the pages
+-- the units of roots, marking and sweeping, if marking spends one for each word of the pages
 abbrev pub swept_units : ℕ → ℕ → ℕ
 swept_units roots pages = sweep_units roots pages (PAGE_WORDS * pages)
 

@@ -57,7 +57,7 @@ one_of a b d pages h = by (cases_lt pages a) (cases_lt pages b)
 fits_together : (c : Config) (n : Needed) → moved_pages c n ≤ c.pages → FitsTogether c (together_in n)
 fits_together c n h = one_of (pages_for (together_in n) (spare_in c) CLASSES) (still_pages n + below_in c) (sparse_pages (together_in n) + spare_in c) c.pages h
 
--- where nothing is moved no page is spared
+-- if nothing is moved no page is spared
 still_spare : (c : Config) → c.defrag_below ≡ 0 → spare_in c ≡ 0
 still_spare c e = ap (λ z. if z == 0 then 0 else c.defrag_pages) e
 

@@ -16,7 +16,7 @@ use Rattle.sizing.specs.declared.measured.Measured.{Measured}
 abbrev pub KeepTogether : (ℕ → ℕ) → Limits → List Event → Type 0
 KeepTogether blocks l es = (live : Lives) × AllKeep (WithinBlocks blocks live) live (opening_season l) es
 
--- Events keep within this many pages, where each cycle gathers every class.
+-- Events keep within this many pages, if each cycle gathers every class.
 abbrev pub KeepGathered : ℕ → Limits → List Event → Type 0
 KeepGathered pages l es = (live : Lives) × AllKeep (WithinPages pages) live (opening_season l) es
 

@@ -23,8 +23,8 @@ abbrev pub EachFindsRoom : Config → (Limits → List Event → Type 0) → Typ
 EachFindsRoom config Keeps = (h : HeapState) (es : List Event) (new : Course) → IsOpening h
     → settings_of h ≡ settings_by config → Runs (opened h) es new → Keeps h.limits es → AllHaveRoom es
 
--- a run needs no more than this one: no more blocks of any class together, and no more pages where each cycle gathers
--- every class
+-- a run needs no more than this one: no more blocks of any class together, and no more pages if each cycle gathers every
+-- class
 abbrev pub NeedNoMore : Needed → Limits → List Event → Type 0
 NeedNoMore n l es = KeepTogether (together_in n) l es × KeepGathered n.gathered l es
 

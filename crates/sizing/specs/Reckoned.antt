@@ -8,7 +8,7 @@ use Rattle.fragmentation.specs.Suffice.{sparse_pages, demand_pages}
 use Rattle.sizing.specs.declared.needed.Needed.{Needed}
 use Rattle.sizing.specs.Measured.{together_in, page_demand_in}
 
--- the pages that suffice where blocks are never moved
+-- the pages that suffice if blocks are never moved
 abbrev pub still_pages : Needed → ℕ
 still_pages n = pages_for (together_in n) 0 CLASSES
 
@@ -24,7 +24,8 @@ moved_pages c n =
 abbrev pub moves_all : Config → Bool
 moves_all c = nat_lt c.pages c.defrag_below && nat_le c.pages c.defrag_pages
 
--- the pages that a configuration must have: those, or where each cycle gathers every class as many as that takes
+-- the pages that a configuration must have: those, or as many as gathering takes, if each cycle gathers every class and
+-- that is fewer
 abbrev pub needed_pages : Config → Needed → ℕ
 needed_pages c n = if moves_all c then min (moved_pages c n) n.gathered else moved_pages c n
 

@@ -155,7 +155,7 @@ asks_less g m (commands.Describe a) k = none_asked g m (commands.Describe a) k (
 asks_less g m commands.Join k = none_asked g m commands.Join k (λ n. n)
 asks_less g m commands.Leave k = none_asked g m commands.Leave k (λ n. n)
 
--- so where no new object is refused for lack of space, no command is
+-- so if no new object is refused for lack of space, no command is
 other_has_room : (room : Bool) (g : Graph) (m : ℕ) (c : Command) → (IsNew c → ⊥) → had_room (reply_of room g m c) ≡ true
 unfolding reply_of
 other_has_room room g m c n = (others_roomless room g m c n).0

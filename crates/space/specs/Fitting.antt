@@ -30,7 +30,7 @@ abbrev pub moved_quanta_at : Config → ℕ → ℕ → ℕ
 moved_quanta_at c pages emptied =
     moved_quanta (c.mutators * c.slots + c.statics) pages emptied (c.collector_ticks * c.rate)
 
--- the quanta of its schedule that a cycle takes at most on this many pages where moving never begins
+-- the quanta of its schedule that a cycle takes at most on this many pages if moving never begins
 abbrev pub unmoved_quanta_at : Config → ℕ → ℕ
 unmoved_quanta_at c pages = unmoved_quanta (c.mutators * c.slots + c.statics) pages (c.collector_ticks * c.rate)
 
@@ -43,7 +43,7 @@ moved_pages c p pages = space_for (demand_of p (moved_quanta_at c pages c.defrag
 abbrev pub unmoved_pages : Config → Pace → ℕ → ℕ
 unmoved_pages c p pages = space_for (demand_of p (unmoved_quanta_at c pages)) 0 + below_in c
 
--- whether a pace takes no more pages where moving never begins
+-- whether a pace takes no more pages if moving never begins
 abbrev pub is_unmoved : Config → Pace → ℕ → Bool
 is_unmoved c p pages = nat_le (unmoved_pages c p pages) (moved_pages c p pages)
 

@@ -70,7 +70,7 @@ moving_units h = cycle.moving_units (length h.store.pages) h.defrag_pages
 abbrev pub moved_quanta : HeapState → ℕ → ℕ
 moved_quanta h = cycle.moved_quanta (length h.roots) (length h.store.pages) h.defrag_pages
 
--- the quanta of budgets of at least k that a cycle takes at most where moving never begins
+-- the quanta of budgets of at least k that a cycle takes at most if moving never begins
 abbrev pub unmoved_quanta : HeapState → ℕ → ℕ
 unmoved_quanta h = cycle.unmoved_quanta (length h.roots) (length h.store.pages)
 

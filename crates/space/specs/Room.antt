@@ -7,7 +7,7 @@ use Rattle.graph_heap.specs.History.{had_room}
 use Rattle.size_classes.specs.Need.{needed}
 use Rattle.heap_model.specs.Event.{Event, Command_done, Cycle_begun, Begin_refused, Quantum_done, Quantum_refused}
 
--- the blocks of a class for which a command asks at most: those of a new object, where its shape isn't too large
+-- the blocks of a class for which a command asks at most: those of a new object, if its shape isn't too large
 abbrev pub asks : Command → ℕ → ℕ
 asks (commands.New dst shape) class = if fits shape then needed shape class else 0
 asks _ class = 0

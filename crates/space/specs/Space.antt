@@ -20,7 +20,7 @@ abbrev pub pages_for : (ℕ → ℕ) → ℕ → ℕ → ℕ
 pages_for blocks spare zero = 0
 pages_for blocks spare (suc class) = pages_for blocks spare class + class_pages spare class (blocks class)
 
--- how many pages may be left sparse: as many as a cycle may empty, and none where blocks are never moved
+-- how many pages may be left sparse: as many as a cycle may empty, and none if blocks are never moved
 abbrev pub spare_of : HeapState → ℕ
 spare_of h = if h.defrag_below == 0 then 0 else h.defrag_pages
 

@@ -115,7 +115,7 @@ fn each_seat_sees_the_other(rt: HostRuntime) -> Result<(), ServerFault> {
     turns_at(&rt, &IN_TURN)
 }
 
-/// Blocks are moved where fewer than four pages are free, so after each sweep.
+/// Blocks are moved if fewer than four pages are free, so after each sweep.
 const SPARSE: Settings = Settings {
     pages: 3,
     slots: 12,

@@ -255,7 +255,7 @@ module _ (h : HeapState) (f : Flow) (k : ℕ) (great : 0 < k) (live : Lives) (li
       swept : SweepsWithin new.heap (live_most f + t.words) new.heap.phase
       swept = (sweeps_chain (present_of r) (snapshot_of r) (live_most f + t.words) (marks h f k great live lives traced r s t v) r.heap new.heap units w.represents v.counted.tidy i.sweeping q.turn.chain).0
 
-      -- where no sweep ends
+      -- No sweep ends.
       stays : (b : Bool) → t.awaiting_sweep_end ≡ b → awaits_sweep_end phase ≡ b → IsFlowing h f k live new s (record t { awaiting_sweep_end = b; quanta = quanta_after k budget t.quanta })
       stays b at e = record {
         graph = i.graph ∙ sym present;

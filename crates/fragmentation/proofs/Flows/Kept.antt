@@ -17,7 +17,7 @@ use Rattle.fragmentation.specs.Flow.{words_of, Flow, FlowMeter, opening_meter, n
 use Rattle.fragmentation.proofs.Suffice.Paging.{pages_none}
 use Rattle.fragmentation.proofs.Flows.Words.{words_none}
 
--- what live objects need where each cycle begins, of those that begin after the nth
+-- what live objects need when each cycle begins, of those that begin after the nth
 abbrev pub lives_of : (f : Flow) (k n : ℕ) (es : List Event) (t : FlowMeter) → AllMetered k (KeepsFlow f) t es → Lives
 lives_of f k n [] t keeps = λ j class. 0
 lives_of f k n (Command_done m c reply ∷ es) t keeps = lives_of f k n es (next_meter k t (Command_done m c reply)) keeps.1

@@ -84,7 +84,7 @@ moved_at : (h : HeapState) (units : ℕ) → moving_work (at_units units h) ≡ 
 unfolding moving_work
 moved_at h units = refl
 
--- where a quantum is the first to end in moving, nothing is counted yet
+-- if a quantum is the first to end in moving, nothing is counted yet
 first_receives : (h new : HeapState) (m : Moving) → new.phase ≡ phases.Moving m → swept_units new ≡ swept_units h → Receives (swept_units h) (at_units (swept_units new) new) new.phase
 first_receives h new m e same = subst (Receives (swept_units h) (at_units (swept_units new) new)) (sym e) (by_place m)
   where
@@ -117,7 +117,7 @@ module _ (h : HeapState) (f : Flow) (k : ℕ) (great : 256 ≤ k) (some : 0 < k)
     pub receives : Receives (swept_units h) (at_units units r.heap) r.heap.phase
     pub few : t.quanta ≤ most + more
 
-  -- so it is where a cycle runs whose sweep has ended
+  -- so it is if a cycle runs whose sweep has ended
   abbrev Goes : Course → FlowMeter → Type 0
   Goes r t = in_cycle r.heap.phase ≡ true → awaits_sweep_end r.heap.phase ≡ false → HasGone r t
 

@@ -1,4 +1,4 @@
--- Marking takes no more than the words of what was live where the cycle began, and of what was made since.
+-- Marking takes no more than the words of what was live when the cycle began, and of what was made since.
 use Rattle.std.proofs.Common.{◌≡◌, ℕ, ◌+◌, ◌-◌, ◌<◌, ◌≤◌, inl, inr, true, false, ◌==◌, length, drop, ap, ◌∙◌, sym, subst, arith, refl}
 use Rattle.graph_heap.specs.Graph.{Graph}
 use Rattle.heap_model.specs.declared.phase.Phase.TheVariants as phases

@@ -67,7 +67,7 @@ live_few f blocks w = by_few w.few
         let d : f.live_words < f.live_words / LEAST_PAGE_FILL * LEAST_PAGE_FILL + LEAST_PAGE_FILL = lt-div-mul-add (omega arith) in
         omega (arith, d, l)
 
--- where no phase, unit or root cell changes
+-- No phase, unit or root cell changes.
 pub sweeps_more : (h after : HeapState) (words more : ℕ) → after.units ≡ h.units → after.phase ≡ h.phase → length after.roots ≡ length h.roots → words ≤ more → SweepsWithin h words h.phase → SweepsWithin after more after.phase
 sweeps_more h after words more units phase roots l w = subst (SweepsWithin after more) (sym phase) (by_phase h.phase w)
   where
@@ -85,12 +85,12 @@ same_roots h after limit same =
     let pages : length after.store.pages ≡ length h.store.pages = ap (λ (z : HeapSettings). z.pages) same in
     omega (arith, s, pages)
 
--- where a sweep ends, nothing is swept any more
+-- when a sweep ends, nothing is swept any more
 after_within : (h : HeapState) (words : ℕ) (b : Bool) → SweepsWithin h words (if b then phases.Moving (moves.Pass 0 0 None 0) else phases.Idle)
 after_within h words true = tt
 after_within h words false = tt
 
--- Through actions, where marking spends no more than so much.
+-- Through actions, if marking spends no more than this limit.
 module _ (present snapshot : Graph) (words : ℕ) (marks : (j : HeapState) → Represents j present snapshot → IsTidy j.store present.objects → (part cell : ℕ) → j.phase ≡ phases.Marking part cell → marking_work j ≤ words) where
   sweeps_action : (h after : HeapState) (cost : ℕ) → Represents h present snapshot → IsTidy h.store present.objects → SweepsWithin h words h.phase → Action h cost after → SweepsWithin after words after.phase
   sweeps_action h after cost r tidy w (Scans_root next k e l sh) = tt

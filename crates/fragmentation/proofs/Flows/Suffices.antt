@@ -24,7 +24,7 @@ same_number n = grind arith
 other_number : (j n : ℕ) → n < j → (j == n) ≡ false
 other_number j n l = grind arith
 
--- each of the events keeps to the flow's pace, and where it begins a cycle, what is live needs no more than was said
+-- each of the events keeps to the flow's pace, and if it begins a cycle, what is live needs no more than was said
 abbrev pub AllFlow : Flow → ℕ → Lives → Season → FlowMeter → List Event → Type 0
 AllFlow f k live s t [] = Unit {0}
 AllFlow f k live s t (e ∷ es) = Paces f t e × BeginsWithin live s e × AllFlow f k live (season_after live s e) (next_meter k t e) es

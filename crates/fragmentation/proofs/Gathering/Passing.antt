@@ -38,7 +38,7 @@ looked_more pages class page best w = by_page best w (is_choosable class (page_a
     by_page None w false e = elim w [ inl f ↦ inl (none_before f e) | inr t ↦ inr t ]
     by_page (Some b) w false e = w
 
--- where the last look of a pass chooses nothing, the class is tight
+-- if the last look of a pass chooses nothing, the class is tight
 pub pass_tight : (pages : List (Option Page)) (class : ℕ) (best : Option Candidate) → class < CLASSES → ArePages pages → AreUsed pages (length pages) → ReceivesFirst pages → HasLooked pages class (length pages) best → is_chosen pages class best ≡ false → IsTight pages class
 pass_tight pages class None small w used first (inl f) e = receivers_tight pages class small w used first f
 pass_tight pages class None small w used first (inr t) e = t

@@ -1,4 +1,4 @@
--- No new object is refused in a run that keeps within its pages, where each cycle gathers every class.
+-- No new object is refused in a run that keeps within its pages, if each cycle gathers every class.
 use Rattle.std.proofs.Common.{◌≡◌, ℕ, ◌+◌, ◌*◌, ◌<◌, ◌≤◌, ◌⊎◌, inl, inr, Bool, true, false, if◌then◌else◌, List, length, drop, ap, ◌∙◌, sym, subst, arith, refl, mul-zero}
 use Rattle.std.proofs.lemmas.List.{drop_all}
 use Rattle.size_classes.specs.declared.class.TheConstants.{CLASSES}
@@ -152,7 +152,7 @@ module _ (live : Lives) (pages : ℕ) (r new : Course) (budget units : ℕ) (pha
   same_count : length new.heap.store.pages ≡ length r.heap.store.pages
   same_count = ap (λ (z : HeapSettings). z.pages) (does_settings r (Quantum_done budget units phase) new q)
 
-  -- what is kept in any season, where its few pages and what is left are known
+  -- what is kept in any season, if its few pages and what is left are known
   kept : IsGoing new.heap g (snapshot_of r) → (t : Season) (first : ℕ → ℕ) → ((class : ℕ) → class < CLASSES → first class ≤ gathered_pages class (t.before class)) → IsFew new.heap.store.pages new.heap.phase first (λ class. blocks_of (drop t.swept (present_of new).objects) class)
       → IsLeftover new.heap.store new.heap.phase (needed_since live t) → IsMoving live pages new t
   kept y t first most few left = record { room = (let x = k.room in omega (arith, x, same_count)); gathering = y.gathering; all = y.all; first = first; most = most; few = few; left = left }

@@ -90,7 +90,7 @@ pages_none =
     let z = zeros CLASSES in
     omega (arith, l, z)
 
--- the pages that are needed and others are no more than this many, where they are so for each class
+-- the pages that are needed and others are no more than this many, if they are so for each class
 pub needed_sums : (pages : List (Option Page)) (need others most : ℕ → ℕ) (n : ℕ) → ((k : ℕ) → k < n → whole_pages k (need k - free_blocks pages k) + others k ≤ most k) → pages_needed pages need n + class_sum others n ≤ class_sum most n
 needed_sums pages need others most zero each = omega arith
 needed_sums pages need others most (suc n) each = let r = needed_sums pages need others most n (λ k l. each k (omega (arith, l))) in let x = each n (omega arith) in omega (arith, r, x)

@@ -79,7 +79,7 @@ module _ (s t : Store) (class page : ℕ) (p : Page) (at : page_at s.pages page 
   other_staying : (k : ℕ) → staying_pages t.pages k ≤ staying_pages s.pages k
   other_staying k = let u = staying_now k in omega (arith, u)
 
-  -- where no main copy of its class was left, it is emptied from its first block on; what is kept of other classes is kept
+  -- if no main copy of its class was left, it is emptied from its first block on; what is kept of other classes is kept
   pub chosen_emptied : (Other : ℕ → Type 0) → class < CLASSES → NoneStranded s class → ((k : ℕ) → k < CLASSES → Strands s t k → staying_pages t.pages k ≤ staying_pages s.pages k → Other k) → IsEmptied t class page 0 Other
   chosen_emptied Other small pure others = record {
     small = small;

@@ -69,7 +69,7 @@ leave_and_stay class (o ∷ os) =
         by_tests false true = omega arith
         by_tests false false = omega arith
 
--- where as many pages may be emptied as there are, moving isn't cut off
+-- if as many pages may be emptied as there are, moving isn't cut off
 pub never_cut : (s : Store) (page block chosen : ℕ) (need : ℕ → ℕ) → IsEmptying s page block chosen need → chosen + 1 ≤ length s.pages
 never_cut s page block chosen need w =
     let l = leave_and_stay w.class s.pages in

@@ -64,7 +64,7 @@ few_same old new p q first made w e none still = few_less old new p q first made
     (λ class l. (let u : blocks_in class * used_pages new class ≡ blocks_in class * used_pages old class = ap (λ z. blocks_in class * used_pages z class) e in let f : free_blocks new class ≡ free_blocks old class = ap (λ z. free_blocks z class) e in let z = none class in omega (arith, u, f, z)))
     (λ s. (still s, λ class t. subst (λ z. IsTight z class) (sym e) t))
 
--- where a sweep ends
+-- A sweep ends.
 pub few_starts : (pages : List (Option Page)) (p : Phase) → ((class : ℕ) → to_move pages class p ≡ 0) → IsFew pages p (used_pages pages) (λ class. 0)
 few_starts pages p none = record {
   few = λ class l. omega arith;
@@ -227,7 +227,7 @@ moved_few old new class page block chosen i to j p q first made at evacuating ne
         let b : to_move new k (phases.Moving (moves.Emptying class page (i + 1) chosen)) ≡ 0 = ap (allocated_from k (i + 1)) now ∙ ap (λ b. if b then count_by (λ b. b) (drop (i + 1) p.allocated) else 0) e in
         omega (arith, mu, f, none.0, none.1, a, b)
 
--- at a look of a pass, and where moving ends, blocks are moved
+-- When a pass looks at a page, and when moving ends, blocks are moved.
 pub at_pass_moving : (h : HeapState) (class page : ℕ) (best : Option Candidate) (chosen : ℕ) → AtPass h class page best chosen → (m : Moving) × (h.phase ≡ phases.Moving m)
 at_pass_moving h class page best chosen (In_pass class0 page0 best0 chosen0 e) = (_, e)
 at_pass_moving h class page best chosen (After_page class0 page0 block chosen0 p e at on done few) = (_, e)

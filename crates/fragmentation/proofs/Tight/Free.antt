@@ -81,7 +81,7 @@ choosable_all class p w e =
 no_page : (class : ℕ) → is_choosable class None ≡ true → ⊥
 no_page class e = absurd (cc)
 
--- a page is chosen only where as many blocks of its class are free as a page has
+-- a page is chosen only if as many blocks of its class are free as a page has
 pub chosen_free : (pages : List (Option Page)) (class : ℕ) (c : Candidate) → ArePages pages → is_chosen pages class (Some c) ≡ true → blocks_in class ≤ free_blocks pages class
 chosen_free pages class c w e = by_page (page_at pages c.page) refl
   where
@@ -99,7 +99,7 @@ chosen_free pages class c w e = by_page (page_at pages c.page) refl
         let h : allocated_on (page_at pages c.page) ≡ allocated_on (Some p) = ap allocated_on at in
         omega (arith, all, l, within, f, h)
 
--- and where it isn't, the class is tight
+-- and if it isn't, the class is tight
 pub refused_tight : (pages : List (Option Page)) (class : ℕ) (c : Candidate) → ArePages pages → is_choosable class (page_at pages c.page) ≡ true → is_chosen pages class (Some c) ≡ false → IsTight pages class
 refused_tight pages class c w good e = by_page (page_at pages c.page) refl
   where

@@ -56,7 +56,7 @@ takes_counts cells at old parts new a takes = let t = takes_bounded cells at old
         by_none k true e = absurd (let z = eqb-true (blocks k) 0 e in omega (arith, z))
         by_none k false e = let l = count_by-le-length (is_of k) old in omega (arith, l)
 
--- a block that is taken opens a page only where none of the class's blocks was free
+-- a block that is taken opens a page only if none of the class's blocks was free
 block_stays : (old new : List (Option Page)) (class page index k : ℕ) → TakesBlock old class page index new → (staying_pages new k ≡ staying_pages old k) ⊎ ((class ≡ k) × (staying_pages new k ≡ staying_pages old k + 1) × (free_blocks old k ≡ 0))
 block_stays old new class page index k t = elim (took old new class page index t) [
   | inl u ↦ inl (let s = staying_set old new page (Some u.source) (Some (with_allocated u.source index true)) within u.at u.is k in omega (arith, s))

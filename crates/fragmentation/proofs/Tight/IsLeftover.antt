@@ -71,7 +71,7 @@ pub record IsEmptying (s : Store) (page block chosen : ℕ) (need : ℕ → ℕ)
   pub some : 0 < staying_pages s.pages class
   pub count : chosen ≤ evacuating_pages s.pages
 
--- what holds outside moving; in a pass, by how many pages were chosen; and where a page is emptied from a block on
+-- what holds outside moving; in a pass, by how many pages were chosen; and if a page is emptied from a block on
 abbrev pub ByPhase : Type 0 → (ℕ → Type 0) → (ℕ → ℕ → ℕ → Type 0) → Phase → Type 0
 ByPhase Still Pass Emptying phases.Idle = Still
 ByPhase Still Pass Emptying (phases.Roots next) = Still

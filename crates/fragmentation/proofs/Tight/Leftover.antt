@@ -78,7 +78,7 @@ by_phase (phases.Sweeping page block) a p e w = a w
 by_phase (phases.Moving (moves.Pass class page best chosen)) a p e w = p chosen w
 by_phase (phases.Moving (moves.Emptying class page block chosen)) a p e w = e page block chosen w
 
--- One store goes to another, in any phase, where no less is needed. Each class keeps to its pages. Those that stay are no
+-- One store goes to another, in any phase, if no less is needed. Each class keeps to its pages. Those that stay are no
 -- fewer, and neither are those that leave.
 pub record Goes (s t : Store) (need more : ℕ → ℕ) : Type 0 where
   pub strands : (k : ℕ) → Strands s t k

@@ -7,7 +7,7 @@ use Rattle.graph_heap.specs.Graph.{Graph}
 use Rattle.graph_heap.specs.History.{after, after_entry, IsEntryOf, IsLegal}
 use Rattle.graph_heap.proofs.Histories.{after-push}
 
--- where the history is legal, its first entries lead to a graph heap, and the others are legal behind it
+-- if the history is legal, its first entries lead to a graph heap, and the others are legal behind it
 abbrev pub Follows : Graph → List Entry → ℕ → Graph → Type 0
 Follows first history count g = IsLegal first history → (g ≡ after first (take count history)) × IsLegal g (drop count history)
 

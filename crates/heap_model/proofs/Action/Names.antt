@@ -20,7 +20,7 @@ use Rattle.heap_model.proofs.Action.Moving.{move_seen}
 use Rattle.heap_model.proofs.State.{behind}
 use Rattle.heap_model.proofs.Represents.{represents_action}
 
--- where the collector rests between moves, each allocated block reads as its own name, and as no other
+-- if the collector rests between moves, each allocated block reads as its own name, and as no other
 reads_own : (h : Heap) (g s : PartGraph) (at : Name → ℕ) → Base h g s at → Resting h g s at → (x : ℕ) → h.allocated x ≡ true → Reads h x (h.name x)
 reads_own h g s at b r x l =
     let k = r.kept x l in
@@ -88,7 +88,7 @@ moves_on h after cost place e (Moves_block class page block chosen i to j p q ne
 )
 moves_on h after cost place e (Ends_moving done) = (inl refl, same_names (seen h))
 
--- what read as a name reads as it, also where nothing reaches it any more
+-- an address that read as a name goes on to read as it, even if nothing reaches it any more
 pub reads_stay : (h after : HeapState) (cost : ℕ) (present snapshot : Graph) (place : Place) (x : ℕ) (n : Name) → Represents h present snapshot → h.phase ≡ phases.Moving place → Action h cost after
     → Reads (seen h) x n → Reads (seen after) x n
 reads_stay h after cost present snapshot place x n w e action reads =

@@ -76,7 +76,7 @@ cells_put g id o p l here all k = go (k == id) refl
 pub cells_sum : (o : Object) → HasItsCells o → length o.refs + length o.words ≡ cells_of o.shape
 cells_sum o k = let r = k.refs in let w = k.words in omega arith
 
--- a store is written, where an object that is reached is put
+-- a store is written, if an object that is reached is put
 object_written : (h : HeapState) (present snapshot : Graph) (new : Store) (a id : ℕ) (n : BlockRecord) (o : Object) → Consistent h present snapshot → Reaches present id → Writes h.store new a n → IsWhole new → HasItsCells o
     → (0 < id → id ≤ length present.objects → Coherent (record (collector_of h) { heap = seen (record h { store = new }) }) (view (record present { objects = put_object present.objects id o })) (view snapshot))
     → Consistent (record h { store = new }) (record present { objects = put_object present.objects id o }) snapshot

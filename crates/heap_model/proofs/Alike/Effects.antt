@@ -166,8 +166,7 @@ let_in a d = a >>= λ ok. d
 pub same_effect : (h : HeapState) (f g : Graph) (room : Bool) (m : ℕ) (c : Command) → Agrees h f → Agrees h g → effect_of room f m c ≡ effect_of room g m c
 same_effect h f g room m c p q = ap (λ z. let_in z (admitted_effect room f m c)) (same_admitted h f g m c p q) ∙ ap (λ z. let_in (admitted g m c) z) (same_admitted_effect h f g room m c p q)
 
--- For every graph heap: a command replies the same, and where the heap goes on to agree with one, it
--- agrees with each other.
+-- For every graph heap: a command replies the same, and if the heap goes on to agree with one, it agrees with each other.
 pub step_each : (h after : HeapState) (f g : Graph) (room : Bool) (m : ℕ) (c : Command) → Agrees h f → Agrees h g → length f.roots ≡ root_cells f.limits → Agrees after (next_of room f m c)
     → (reply_of room g m c ≡ reply_of room f m c) × Agrees after (next_of room g m c)
 unfolding reply_of next_of

@@ -133,7 +133,7 @@ change_in x = x.1
 abbrev Gives : Result (Reply × Change) Refusal → Reply × Change → Type 0
 Gives r x = r ≡ Ok x
 
--- what a command changes where nothing refuses it is founded
+-- if nothing refuses a command, its change is founded
 taken : (g : Graph) (y x : Reply × Change) → Gives (Ok y) x → IsFounded g (change_in y) → IsFounded g (change_in x)
 taken g y x e w = let same : y ≡ x = ok_part y x e in subst (λ z. IsFounded g (change_in z)) same w
   where

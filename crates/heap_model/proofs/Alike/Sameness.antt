@@ -277,6 +277,6 @@ alike_changed f g (changes.Leave m) a w = record {
   object = λ id r. object_known f g a id (after_leave f m w id r);
 }
 
--- For every graph heap: where the heap goes on to agree with one, it agrees with each other.
+-- For every graph heap: if the heap goes on to agree with one, it agrees with each other.
 pub each_changed : (h after : HeapState) (f g : Graph) (c : Change) → Agrees h f → Agrees h g → IsFounded f c → Agrees after (changed f c) → Agrees after (changed g c)
 each_changed h after f g c p q w r = agrees_alike after (changed f c) (changed g c) r (alike_changed f g c (told h f g p q) w)

@@ -56,7 +56,7 @@ first_none h ps a = record {
   others = λ x l. inl l;
 }
 
--- one part more, where the cells are given
+-- one part more, if the cells are given
 first_next : (h : Heap) (ps : Parts) (a : ℕ → ℕ) (k : ℕ) (h' : Heap) (y : ℕ) (cell : ℕ → ℕ → ℕ) → MakesFirst h ps a k h' → h'.allocated y ≡ false → a k ≡ y
     → ((x i : ℕ) → h.allocated x ≡ true → cell x i ≡ h'.cell x i) → ((p i : ℕ) → p < k + 1 → i < ps.width p → cell (a p) i ≡ linked_to a (k + 1) (ps.link p i))
     → MakesFirst h ps a (k + 1) (record (block_made h' y (record { identity = h.next; part = k }) ps.shape (ps.width k) (ps.words k)) { cell = cell })

@@ -1,4 +1,4 @@
--- Shading and scanning keep the invariant; and what holds where nothing is grey.
+-- Shading and scanning keep the invariant; and facts for the case that nothing is grey.
 use Rattle.std.proofs.Common.{◌≡◌, ℕ, ◌+◌, ◌<◌, ◌≤◌, inl, inr, true, arith, sym, ap, subst, ◌∙◌}
 use Rattle.heap_model.specs.Core.{Name, PartGraph, Heap, Reach, Kept, Base, Tracing, Sweeping}
 use Rattle.heap_model.proofs.Core.Edits.{put, shade, set_root, set_cell}

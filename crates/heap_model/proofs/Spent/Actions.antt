@@ -217,7 +217,7 @@ chooses_none_within h class page best chosen few last i =
     let e = next_pass (chosen + class) (chosen + (class + 1)) (length h.store.pages) (omega arith) in
     (omega arith, omega arith, omega arith, d)
 
--- words that were moved, where blocks stay
+-- words that were moved, if blocks stay
 pub gone_same : (h k : Heap) (f g : ℕ → ℕ) (x : ℕ) → SameBlocks h k → (h.allocated x ≡ true → f x ≡ g x) → gone h f x ≡ gone k g x
 unfolding gone
 gone_same h k f g x e s =

@@ -32,7 +32,7 @@ module _ (run : Run) (s : Step) (old new : Log) (seen : HasLogged run old) (now 
   pub command_logged : (e : Entry) → IsCommand e s → new ≡ old → HasLogged (after_steps run (s ∷ []) s.after) new
   command_logged e is same = subst (IsLog (run.steps ++ s ∷ []) s.after) (sym same) (log_stays run.steps s old logged (ap is_quantum is.0) (ap is_beginning is.0))
 
-  -- a beginning, where one is running, and where none is
+  -- A cycle is begun, if none is running, or is refused.
   pub on_logged : (number : ℕ) (r : Course) → IsBegin number r s → in_cycle r.heap.phase ≡ true → new ≡ old → HasLogged (after_steps run (s ∷ []) s.after) new
   on_logged number r is on same = elim is.2 [
     | inl begun ↦

@@ -89,7 +89,7 @@ impl Nodes {
         copies
     }
 
-    /// Returns the copies with those of a page, where those before it are counted.
+    /// Adds the copies of a page to those of the pages before it.
     fn with_page(&self, before: Copies, page: usize) -> Copies
         requires page { page < length self.now.pages }
         requires before { before ≡ copies_below self.now (2048 * page) }
@@ -107,7 +107,7 @@ impl Nodes {
         copies
     }
 
-    /// Returns the copies with an allocated block, where those before it are counted.
+    /// Adds the copy in an allocated block to those of the blocks before it.
     fn with_block(&self, before: Copies, block: usize) -> Copies
         requires allocated { is_allocated self.now block ≡ true }
         requires before { before ≡ copies_below self.now block }

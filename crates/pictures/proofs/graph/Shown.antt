@@ -24,7 +24,7 @@ module _ (found : List Found) (most id : ℕ) where
       same_from_decides {P = (k : ℕ) × IsAt (take most found) id k} false (is_member nat_eq (shown_of most found) id)
       (λ no. absurd (cc), λ w. absurd (let f = first_at w.0 w.1 in none w.0 f.1.0 f.1.1)) (stands_by (take most found) id)
 
-  -- what was found at a place is shown where that is one of the first
+  -- what was found at a place is shown if that is one of the first
   pub shown_by_place : (k : ℕ) → AreOnce found → IsAt found id k → nat_lt k most ≡ is_member nat_eq (shown_of most found) id
   shown_by_place k once at =
       same_from_decides {P = (j : ℕ) × IsAt (take most found) id j} (nat_lt k most) (is_member nat_eq (shown_of most found) id) (

@@ -15,7 +15,7 @@ use Rattle.fragmentation.proofs.Suffice.Paging.{whole_more, whole_none, gathered
 use Rattle.sizing.specs.Counts.{MOST, TOO_MANY, AreBlocks, IsPages}
 use Rattle.sizing.specs.Season.{pages_gathered}
 
--- blocks that were gathered and those made since take more pages where there are more
+-- blocks that were gathered and those made since take more pages if there are more
 pub season_more : (a b f g : ℕ → ℕ) → ((k : ℕ) → k < CLASSES → a k ≤ b k) → ((k : ℕ) → k < CLASSES → f k ≤ g k) → pages_gathered a f ≤ pages_gathered b g
 season_more a b f g h e = class_sum_le (λ k. gathered_pages k (a k) + whole_pages k (f k)) (λ k. gathered_pages k (b k) + whole_pages k (g k)) CLASSES (λ k l. (let x = gathered_more k (a k) (b k) l (h k l) in let y = whole_more k (f k) (g k) l (e k l) in omega (arith, x, y)))
 
@@ -40,7 +40,7 @@ unspared class n small = by (n == 0) refl
     by true e = sym (ap (whole_pages class) (is true e refl) ∙ whole_none class small)
     by false e = omega arith
 
--- a class to which a page is spared where its blocks fill one
+-- a class to which a page is spared if its blocks fill one
 pub gathered_spared : (class n spare : ℕ) → class < CLASSES → (nat_lt n (blocks_in class) ≡ true → spare ≡ 0) → (nat_lt n (blocks_in class) ≡ false → spare ≡ 1) → class_pages spare class n ≡ gathered_pages class n
 gathered_spared class n spare small few full = by (nat_lt n (blocks_in class)) refl
   where

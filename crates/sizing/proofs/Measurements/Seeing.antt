@@ -89,7 +89,7 @@ module _ (run : Run) (s : Step) (old new : Meter) (seen : HasMeasured run old) (
   at_on : old.cycle_running ≡ in_cycle run.now.heap.phase
   at_on = seen.measures.holds.cycle_running ∙ seen.measures.are.cycle_running
 
-  -- a beginning, where none is running, and where one is
+  -- A cycle is begun, if none is running, or is refused.
   pub begin_measured : (number : ℕ) (r : Course) → IsBegin number r s → old.cycle_running ≡ false
       → ((l : Limits) (es : List Event) (x y : Course) → Measures l es x old → IsCourse x → Begins x y → Measures l (es ++ Cycle_begun ∷ []) y new) → HasMeasured (after_steps run (s ∷ []) s.after) new
   begin_measured number r is off measured = elim is.2 [

@@ -65,7 +65,7 @@ pace_idle p w q = (
 pub pace_same : (p q : Pace) → (IsPaceWithin p q × Unit {0}) ↔ IsPaceWithin p q
 pace_same p q = (λ h. h.0, λ h. (h, tt))
 
--- quanta keep to each pace where their budget is great enough
+-- quanta keep to each pace if their budget is great enough
 pub quanta_pace : (p : Pace) (k : ℕ) (b : Beat) (budget : ℕ) (qs : List Event) → AreQuanta budget qs → AllKeepPace p k b qs ↔ HaveBudgets k qs
 quanta_pace p k b budget [] each = (λ w. w, λ w. w)
 quanta_pace p k b budget (Quantum_done given units phase ∷ qs) each =

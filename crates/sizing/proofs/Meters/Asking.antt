@@ -88,7 +88,7 @@ module _ (l : Limits) (es : List Event) where
       ),
     )
 
-    -- in pages where each cycle gathers every class
+    -- The need counts pages, if each cycle gathers every class.
     abbrev gathered : ℕ
     gathered = max w.gathered (pages_gathered w.before (λ class. made_since u.swept u class + more class))
 

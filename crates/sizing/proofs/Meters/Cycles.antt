@@ -115,7 +115,7 @@ module _ (l : Limits) (es qs : List Event) (r new : Course) (old fin : Meter) (b
   beat_is : (beat_after work_beat qs ≡ (if work_beat.cycle_running then record work_beat { cycle_running = in_cycle new.heap.phase; asked = λ class. 0 } else work_beat)) × ((beat_after work_beat qs).cycle_running ≡ in_cycle new.heap.phase)
   beat_is = quanta_beat budget qs work_beat r new works.each works.some works.runs v.are.cycle_running
 
-  -- while a sweep's end is awaited, and where none was, a season stays; else its sweep has ended
+  -- while a sweep's end is awaited, and if none was, a season stays; else its sweep has ended
   season_by : (P : Season → Type 0) → (awaits_sweep_end new.heap.phase ≡ true → P work_season) → (awaits_sweep_end new.heap.phase ≡ false → work_season.awaiting_sweep_end ≡ false → P work_season)
       → (awaits_sweep_end new.heap.phase ≡ false → work_season.awaiting_sweep_end ≡ true → P (season_swept none_live work_season)) → P (season_at none_live work_season qs)
   season_by P on off ends = subst P (sym (season_is none_live).0) (by (awaits_sweep_end new.heap.phase) refl work_season.awaiting_sweep_end refl)

@@ -99,7 +99,7 @@ count_after g (changes.Word id i v) = let e = length-put g.objects id (with_word
 count_after g (changes.Join m) = omega arith
 count_after g (changes.Leave m) = omega arith
 
--- where an object is allocated, it is what was asked for; and else nothing is
+-- if an object is allocated, it is what was asked for; and else nothing is
 pub grown : (room : Bool) (g : Graph) (m : ℕ) (c : Command) (k : ℕ) → length g.objects < length (changed g (change_by room g m c)).objects → asked_by (change_by room g m c) k ≡ asked_for g m c k
 grown room g m c k more = by_makes (makes (change_by room g m c)) (count_after g (change_by room g m c)) (made_asks room g m c k)
   where

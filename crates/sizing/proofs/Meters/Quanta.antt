@@ -12,7 +12,7 @@ use Rattle.space.proofs.Paces.Pacing.{idle_phase}
 use Rattle.space.proofs.Paces.Moved.{chain_tracing}
 use Rattle.sizing.specs.Meter.{beat_after, AreQuanta}
 
--- where a sweep's end is awaited, it was before
+-- if a sweep's end is awaited, it was before
 pub runs_trace : (budget : ℕ) (qs : List Event) (r new : Course) → AreQuanta budget qs → Runs r qs new → awaits_sweep_end new.heap.phase ≡ true → awaits_sweep_end r.heap.phase ≡ true
 runs_trace budget [] r new each runs t = ap (λ (x : Course). awaits_sweep_end x.heap.phase) (sym runs) ∙ t
 runs_trace budget (Quantum_done b units phase ∷ qs) r new each runs t = chain_tracing r.heap runs.0.heap units runs.1.turn.chain (runs_trace budget qs runs.0 new each.1 runs.2 t)

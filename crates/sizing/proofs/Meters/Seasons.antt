@@ -42,7 +42,7 @@ pub record Alike (s t : Season) : Type 0 where
   pub swept : s.swept ≡ t.swept
   pub number : s.number ≡ t.number
 
--- what quanta do to a season, where a sweep's end is still awaited or not
+-- what quanta do to a season, if a sweep's end is still awaited or not
 abbrev pub rested : Lives → Bool → Season → Season
 rested live traces s = if traces then s else (if s.awaiting_sweep_end then season_swept live s else s)
 
@@ -94,7 +94,7 @@ alike_at live other s t (e ∷ es) k = alike_at live other (season_after live s 
 alike_self : (s : Season) → Alike s s
 alike_self s = record { graph = refl; cycles = refl; awaiting_sweep_end = refl; last = refl; base = refl; swept = refl; number = refl }
 
--- whatever is said to be live, a season is as where nothing is
+-- A season is the same, whatever is said to be live.
 pub alike : (live : Lives) (s : Season) (es : List Event) → Alike (season_at live s es) (season_at none_live s es)
 alike live s es = alike_at live none_live s s es (alike_self s)
 

@@ -25,7 +25,7 @@ pub record Takes (needs : Needs) (count cycle : ℕ) : Type 0 where
   pub quanta : needs.quanta ≡ cycle
 
 module _ (c : Config) (p : Pace) (count : ℕ) where
-  -- where blocks never move, no page may be left sparse, and some stay free
+  -- if blocks never move, no page may be left sparse, and some stay free
   pub unmoved_takes : (needs : Needs) (quanta free : ℕ) → quanta ≡ unmoved_quanta_at c count → free ≡ below_in c → needs.pages ≡ space_for (demand_of p quanta) 0 + free → needs.quanta ≡ quanta
       → Takes needs (unmoved_pages c p count) (unmoved_quanta_at c count)
   unmoved_takes needs quanta free q f e d = record {
@@ -33,14 +33,14 @@ module _ (c : Config) (p : Pace) (count : ℕ) where
     quanta = d ∙ q;
   }
 
-  -- where they move, some may be left sparse, and none has to stay free
+  -- if they move, some may be left sparse, and none has to stay free
   pub moved_takes : (needs : Needs) (quanta sparse : ℕ) → quanta ≡ moved_quanta_at c count c.defrag_pages → sparse ≡ spare_in c → needs.pages ≡ space_for (demand_of p quanta) sparse + 0 → needs.quanta ≡ quanta
       → Takes needs (moved_pages c p count) (moved_quanta_at c count c.defrag_pages)
   moved_takes needs quanta sparse q s e d =
       let none : needs.pages ≡ space_for (demand_of p quanta) sparse = omega (arith, e) in
       record { pages = none ∙ ap (λ n. space_for (demand_of p n) sparse) q ∙ ap (space_for (demand_of p (moved_quanta_at c count c.defrag_pages))) s; quanta = d ∙ q }
 
-  -- where blocks that never move take no more pages, what is needed is what these need
+  -- if blocks that never move take no more pages, what is needed is what these need
   pub unmoved_needed : (u m : Needs) → Takes u (unmoved_pages c p count) (unmoved_quanta_at c count) → Takes m (moved_pages c p count) (moved_quanta_at c count c.defrag_pages) → u.pages ≤ m.pages → IsNeeded c p count u
   unmoved_needed u m t s l =
       let e = no_more (unmoved_pages c p count) (moved_pages c p count) u.pages m.pages t.pages s.pages l in record {
@@ -48,7 +48,7 @@ module _ (c : Config) (p : Pace) (count : ℕ) where
         quanta = t.quanta ∙ sym (ap (λ z. if z then unmoved_quanta_at c count else moved_quanta_at c count c.defrag_pages) e);
       }
 
-  -- and else what is needed where they move
+  -- and else what is needed if they move
   pub moved_needed : (u m : Needs) → Takes u (unmoved_pages c p count) (unmoved_quanta_at c count) → Takes m (moved_pages c p count) (moved_quanta_at c count c.defrag_pages) → m.pages < u.pages → IsNeeded c p count m
   moved_needed u m t s l =
       let e = more (unmoved_pages c p count) (moved_pages c p count) u.pages m.pages t.pages s.pages l in record {

@@ -265,7 +265,7 @@ module _ (p : Pace) (k most : ℕ) where
               by_true false z a l = absurd (cc)
               by_true true z a l = let s = step_times n (p.busy class) in omega (arith, a, l, s)
 
-          -- where the quantum ends, with the objects that are counted from then on
+          -- when the quantum ends, with the objects that are counted from then on
           ended : (f : Phase) (o : Bool) (start : ℕ) → new.heap.phase ≡ f → in_cycle f ≡ o → start ≤ length t.graph.objects
               → ((class : ℕ) → class < CLASSES → blocks_of (drop t.last t.graph.objects) class ≤ (if o then (n + 1) * p.busy class else most * p.busy class))
               → ((class : ℕ) → class < CLASSES → blocks_of (drop start t.graph.objects) class ≤ (if o then most * p.busy class + p.idle class + (n + 1) * p.busy class else most * p.busy class))
@@ -312,8 +312,8 @@ module _ (p : Pace) (k most : ℕ) where
   paced_next r (Quantum_done budget units phase) new t b n w i few keeps does = paced_quantum r new budget units phase t b n w i few does
   paced_next r (Quantum_refused budget) new t b n w i few keeps does = subst (λ z. IsPaced z t b p most n) (sym does.1) i
 
-  -- A run that keeps to a pace keeps to a demand, where something is kept of its course, its tally and the quanta of its
-  -- cycle by which these never get too many.
+  -- A run that keeps to a pace keeps to a demand, if its course, its tally and the quanta of its cycle keep a fact by
+  -- which the quanta never get too many.
   pub runs_keep : (Kept : Course → Tally → ℕ → Type 0) → ((r : Course) (t : Tally) (n : ℕ) → IsCourse r → Kept r t n → in_cycle r.heap.phase ≡ true → n + 1 ≤ most)
       → ((r : Course) (e : Event) (new : Course) (t : Tally) (b : Beat) (n : ℕ) → IsCourse r → Kept r t n → KeepsPace p k b e → KeepsTo (demand_of p most) t e → Does r e new → Kept new (after_event t e) (quanta_after r e n))
       → (es : List Event) (r new : Course) (t : Tally) (b : Beat) (n : ℕ) → IsCourse r → Kept r t n → IsPaced r t b p most n → Runs r es new → AllKeepPace p k b es → AllKeepTo (demand_of p most) t es

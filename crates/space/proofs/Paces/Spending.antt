@@ -50,7 +50,7 @@ swept_kept h present snapshot w on = by_phase h.phase refl w.within on
     by_phase (phases.Sweeping page block) e v on = let a = v.0 in let b = v.1 in let d = v.2 in omega (arith, a, b, d)
     by_phase (phases.Moving m) e v on = absurd (cc)
 
--- where the next action isn't a move, it costs one unit, so that the whole budget was spent
+-- if the next action isn't a move, it costs one unit, so that the whole budget was spent
 pub all_spent : (h after : HeapState) (budget spent : ℕ) → QuantumSpends h budget after spent → ((m : Moving) → after.phase ≡ phases.Moving m → ⊥) → after.phase ≢ phases.Idle → budget ≤ spent
 all_spent h after budget spent t none away = elim t.ends [
   | inl e ↦ absurd (away e)
@@ -93,6 +93,6 @@ spent_next d r (Quantum_done budget units phase) new n spent enough does on = by
         absurd (let z : false ≡ true = sym e ∙ sym (ap (λ (z : HeapState). in_cycle z.phase) still.0) ∙ on in cc)
 spent_next d r (Quantum_refused budget) new n spent enough does on = subst (λ (z : Course). n * d ≤ z.heap.units) (sym does.1) (spent (sym (ap (λ (z : Course). in_cycle z.heap.phase) does.1) ∙ on))
 
--- so, where a cycle spends no more than a limit, a quantum more is within those that fit in it
+-- so, if a cycle spends no more than a limit, a quantum more is within those that fit in it
 pub few_quanta : (d limit n units : ℕ) → 0 < d → n * d ≤ units → units ≤ limit → n + 1 ≤ limit / d + 1
 few_quanta d limit n units some u l = let q = le-div n limit d some (omega (arith, u, l)) in omega (arith, q)

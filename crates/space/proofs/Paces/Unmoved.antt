@@ -38,7 +38,7 @@ some_evacuating pages page p at on =
     let none : one_if (is_evacuating None) ≡ 0 = refl in
     omega (arith, counts, one, none)
 
--- where no page may be left sparse, blocks aren't moved
+-- if no page may be left sparse, blocks aren't moved
 pub none_moving : (h : HeapState) (blocks : ℕ → ℕ) (m : Moving) → IsPlaced h.store.pages h.phase → HasBoundedPages h blocks 0 → h.phase ≡ phases.Moving m → ⊥
 none_moving h blocks (moves.Pass class page best chosen) placed w e =
     let l = subst (MayEvacuate 0 h.defrag_pages (evacuating_pages h.store.pages)) e w.evacuating in

@@ -31,7 +31,7 @@ class Bench:
     def built(self, name, *words, may_fail=False):
         """A program in C over the library; None where the compiler doesn't make it and may fail."""
         flags = ["-std=c11", "-O2", "-Wall", "-Wextra", "-pthread", f"-I{self.library}", f"-I{TOP}/bench/embed"]
-        program = [*words, f"{self.library}/libmetronome_c.a", "-o", f"{self.folder}/{name}"]
+        program = [*words, f"{self.library}/libmetronome.a", "-o", f"{self.folder}/{name}"]
         ran = subprocess.run(["cc", *flags, *program], stderr=subprocess.PIPE, text=True, check=False)
         if ran.returncode and not may_fail:
             sys.exit(ran.stderr)

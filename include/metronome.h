@@ -1,6 +1,6 @@
 /*
- * metronome.h: a real-time garbage-collected heap, for C11, C17 and C++17. Link with libmetronome_c.a, or with -lmetronome if
- * bin/install has installed it.
+ * metronome.h: a real-time garbage-collected heap, for C11, C17 and C++17. Link with libmetronome.a, or with -lmetronome if
+ * it is installed.
  *
  * OBJECTS. A program has no pointers to objects. It names an object by a slot that holds it. Each mutator has slots 0 to slots -
  * 1, and all mutators share the statics. An object is unreachable if no path leads to it from a slot or a static, directly or by

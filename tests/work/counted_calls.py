@@ -24,7 +24,7 @@ def kinds():
 def built(library, program, *more):
     """Builds the program that makes the calls, over a library, with more words for the compiler; its path."""
     words = ["cc", "-std=c11", "-O2", "-Wall", "-Wextra", "-Werror", "-Wl,-z,now", f"-I{library}", *SOURCES, *more]
-    subprocess.run([*words, f"{library}/libmetronome_c.a", "-o", program], check=True)
+    subprocess.run([*words, f"{library}/libmetronome.a", "-o", program], check=True)
     return program
 
 

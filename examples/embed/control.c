@@ -1,13 +1,13 @@
 /*
- * control [PERIODS [PERIOD [FILE]]]: a control loop of a stated period in microseconds, 1000 if not said, over the heap. In each
- * period it makes objects, each in the place of an older one, and spends one quantum of a stated budget.
+ * control [PERIODS [PERIOD [FILE]]]: a control loop of a stated period in microseconds, 1000 if not said, over a heap that
+ * keeps a plan. In each period it makes objects, each in the place of an older one. The collector works before a new object,
+ * as much as the plan requires.
  *
- * It prints how long it took to wake up, to work, and to do the quantum, and by what it missed a period. FILE gets a line for each
- * period, with the three times in nanoseconds: `bench/embed/loop` makes a picture of these. None of this is promised: of a
- * quantum its units are, and not the time that it takes. The process locks its memory and asks for SCHED_FIFO where it may.
+ * It prints how long it took to wake up and to work, and by how much it missed a period. FILE gets a line for each period,
+ * with both times in nanoseconds: `bench/embed/loop` makes a picture of these. No time is promised. The units of a quantum
+ * are, and that no object is refused for lack of space. The process locks its memory and asks for SCHED_FIFO where it may.
  *
- * Built with -DLIBGC=1 the same loop runs on libgc, which collects where it allocates; with -DLIBGC=2 incrementally, with one
- * GC_collect_a_little for a quantum.
+ * Built with -DLIBGC=1 the same loop runs on libgc; with -DLIBGC=2 on libgc in its incremental mode.
  */
 #define _GNU_SOURCE
 #include <sched.h>
@@ -21,8 +21,7 @@
 #define LIBGC 0
 #endif
 
-/* A sixth of the pages is live, and 350 words are made in a period, so a budget of 3000 suffices, by the rule of metronome.h. */
-enum { LIVE = 20000, OBJECTS_A_PERIOD = 50, PAGES = 512, BUDGET = 3000 };
+enum { LIVE = 20000, OBJECTS_A_PERIOD = 50 };
 
 static int failed;
 
@@ -62,10 +61,6 @@ static void make(uint32_t place, uint64_t word) {
 
 static uint64_t word_of(uint32_t place) { return cells[place]->words[1]; }
 
-static void do_quantum(void) {
-    if (LIBGC == 2) GC_collect_a_little();
-}
-
 static void close_memory(void) { printf("collections: %lu\n", (unsigned long)GC_get_gc_no()); }
 
 #else
@@ -77,14 +72,21 @@ static const char *const MEMORY = "this heap";
 /* slots: the array of all cells, and one of them */
 enum { CELLS, CELL, SLOTS };
 
+/* LIVE_WORDS is what the plan is for. A cell of the loop takes at most 8 words, 9 / 8 of its contents and its header. The array
+ * takes fewer than 23000. */
+enum { PAGES = 512, LIVE_WORDS = 8 * LIVE + 25000 };
+
 static metronome heap = METRONOME_CLOSED;
-static uint64_t cycles;
 
 static void open_memory(void) {
-    metronome_settings settings = METRONOME_SETTINGS(PAGES, 1, SLOTS);
+    metronome_settings settings = METRONOME_SETTINGS_MOVING(PAGES, 1, SLOTS);
+    metronome_flow plan;
+    need(metronome_plan(&settings, LIVE_WORDS, &plan) == METRONOME_OK, "no plan");
     need(metronome_create(&heap, &settings) == METRONOME_OK, "no heap");
     need(metronome_touch(&heap, PAGES) == METRONOME_OK, "pages not touched");
+    need(metronome_keep(&heap, &plan) == METRONOME_OK, "the plan isn't kept");
     need(metronome_new_refs(&heap, 0, CELLS, LIVE).kind == METRONOME_MADE, "no room for the array");
+    printf("a quantum of %u units for each %llu words made\n", plan.budget, (unsigned long long)plan.quantum_words);
 }
 
 /* Makes a cell with a word, in the place of an older one. */
@@ -99,14 +101,11 @@ static uint64_t word_of(uint32_t place) {
     return metronome_get(&heap, 0, CELL, 1).number;
 }
 
-static void do_quantum(void) {
-    metronome_spent spent = { 0, METRONOME_IDLE };
-    if (metronome_begin(&heap) == METRONOME_OK) cycles++;
-    if (metronome_quantum(&heap, BUDGET, &spent) != METRONOME_OK || spent.units > BUDGET) failed++;
-}
-
 static void close_memory(void) {
-    printf("cycles: %llu\n", (unsigned long long)cycles);
+    metronome_work work = { 0, 0, 0 };
+    if (metronome_kept(&heap, &work) != METRONOME_OK || work.most_quanta > 1) failed++;
+    printf("%llu cycles of %llu quanta together, at most %llu before one object\n", (unsigned long long)work.cycles,
+           (unsigned long long)work.quanta, (unsigned long long)work.most_quanta);
     metronome_destroy(&heap);
 }
 
@@ -114,9 +113,9 @@ static void close_memory(void) {
 
 /* ---- Time, in nanoseconds ---- */
 
-enum { WAKE, WORK, QUANTUM, TIMES };
+enum { WAKE, WORK, TIMES };
 
-static const char *const names[TIMES] = { "wake-up", "work", "of it the quantum" };
+static const char *const names[TIMES] = { "wake-up", "work" };
 
 static int64_t *times[TIMES];
 
@@ -152,12 +151,9 @@ static void run(uint32_t periods, int64_t period) {
             if (word_of(place) != object - LIVE) failed++;
             make(place, object);
         }
-        int64_t before = now();
-        do_quantum();
         int64_t end = now(), late = end - due - period;
         times[WAKE][n] = woke - due;
         times[WORK][n] = end - woke;
-        times[QUANTUM][n] = end - before;
         if (late <= 0) continue;
         missed++;
         if (late > longest_miss) longest_miss = late;
@@ -190,7 +186,7 @@ static void write_times(const char *path, uint32_t periods) {
     FILE *file = fopen(path, "w");
     need(file != NULL, "the file can't be written");
     for (uint32_t n = 0; n < periods; n++)
-        fprintf(file, "%lld %lld %lld\n", (long long)times[WAKE][n], (long long)times[WORK][n], (long long)times[QUANTUM][n]);
+        fprintf(file, "%lld %lld\n", (long long)times[WAKE][n], (long long)times[WORK][n]);
     need(ferror(file) == 0 && fclose(file) == 0, "the file can't be written");
 }
 

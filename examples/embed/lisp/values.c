@@ -5,159 +5,125 @@
 #include <string.h>
 #include <time.h>
 
+uint64_t objects;
+int64_t longest_call;
+int are_calls_timed;
+
+#ifdef LIBGC
+root statics[STATICS];
+#else
 metronome heap = METRONOME_CLOSED;
 metronome_row row = METRONOME_ROW(0, 0, OF_ROW);
-uint64_t made;
-double longest_pause;
+#endif
 
 _Noreturn void fail(const char *what) {
     fprintf(stderr, "lisp: %s\n", what);
     exit(1);
 }
 
-/* A status, which must be that all was done. */
-static void need(uint32_t status) {
-    char text[LONGEST_TEXT];
-    metronome_text(status, text, sizeof text);
-    if (status != METRONOME_OK) fail(text);
-}
-
-uint64_t ask(metronome_answer answer, uint32_t kind) {
-    if (answer.kind == METRONOME_REFUSED) need((uint32_t)answer.number);
-    if (answer.kind != kind) fail("not the answer that was awaited");
-    return answer.number;
-}
-
-uint32_t local(void) {
-    uint32_t slot = 0;
-    need(metronome_take_slot(&row, &slot));
-    return slot;
-}
-
-void end(metronome_frame frame) { need(metronome_close_frame(&heap, &row, frame)); }
-
-/* ---- Values ---- */
-
-void copy(uint32_t to, uint32_t from) { ask(metronome_copy(&heap, 0, to, from), METRONOME_DONE); }
-void clear(uint32_t slot) { ask(metronome_clear(&heap, 0, slot), METRONOME_DONE); }
-void load(uint32_t to, uint32_t from, uint32_t i) { ask(metronome_load(&heap, 0, to, from, i), METRONOME_REF); }
-void store(uint32_t to, uint32_t i, uint32_t from) { ask(metronome_store(&heap, 0, to, i, from), METRONOME_DONE); }
-void load_static(uint32_t to, uint32_t k) { ask(metronome_load_static(&heap, 0, to, k), METRONOME_REF); }
-void store_static(uint32_t k, uint32_t from) { ask(metronome_store_static(&heap, 0, k, from), METRONOME_DONE); }
-uint64_t get(uint32_t slot, uint32_t i) { return ask(metronome_get(&heap, 0, slot, i), METRONOME_WORD); }
-void put(uint32_t slot, uint32_t i, uint64_t word) { ask(metronome_put(&heap, 0, slot, i, word), METRONOME_DONE); }
-int same(uint32_t a, uint32_t b) { return (int)ask(metronome_same(&heap, 0, a, b), METRONOME_IS); }
-
-/* Microseconds of this thread's processor time. */
-static double now(void) {
+int64_t processor_time(void) {
     struct timespec t;
     clock_gettime(CLOCK_THREAD_CPUTIME_ID, &t);
-    return (double)t.tv_sec * 1e6 + (double)t.tv_nsec / 1e3;
+    return (int64_t)t.tv_sec * 1000000000 + t.tv_nsec;
 }
 
-/* Tells the pace that an object of so many cells is about to be made. Where there is no room all the same, `ask` fails. */
-static void pace(uint32_t cells) {
-    static metronome_pacing pacing = METRONOME_PACING(3 * PAGES / 4, (BUDGET - 255) / 20, BUDGET);
-    double began = now();
-    need(metronome_pace(&heap, &pacing, cells + 4));
-    double pause = now() - began;
-    if (pause > longest_pause) longest_pause = pause;
+/* Keeps the time since a call began, if it is the longest. */
+static void note_call(int64_t began) {
+    int64_t took = processor_time() - began;
+    if (took > longest_call) longest_call = took;
 }
 
-void make(uint32_t slot, enum kind kind, uint32_t refs, uint32_t words) {
-    pace(refs + words);
-    made = ask(metronome_new_plain(&heap, 0, slot, refs, words), METRONOME_MADE);
-    put(slot, KIND, kind);
+void make(root *to, enum kind kind, uint64_t number, uint32_t refs, const root *first, uint32_t count) {
+    int64_t began = are_calls_timed ? processor_time() : 0;
+    new_object(to, kind, number, refs, first, count);
+    if (are_calls_timed) note_call(began);
+    objects++;
 }
 
-enum kind kind_of(uint32_t slot) {
-    metronome_answer word = metronome_get(&heap, 0, slot, KIND);
-    if (word.kind == METRONOME_REFUSED && word.number == METRONOME_NULL_SLOT) return NIL;
-    metronome_shape shape;
-    ask(metronome_describe(&heap, 0, slot, &shape), METRONOME_DESCRIBED);
-    return shape.kind == METRONOME_WORD_ARRAY ? STRING : (enum kind)ask(word, METRONOME_WORD);
+void expect(root it, enum kind kind, const char *what) {
+    if (kind_of(it) != kind) fail(what);
 }
 
-void expect(uint32_t slot, enum kind kind, const char *what) {
-    if (kind_of(slot) != kind) fail(what);
+/* ---- Numbers ---- */
+
+void make_integer(root *to, int64_t value) { make(to, INTEGER, (uint64_t)value, 0, NULL, 0); }
+
+void make_real(root *to, double value) {
+    uint64_t bits;
+    memcpy(&bits, &value, sizeof bits);
+    make(to, REAL, bits, 0, NULL, 0);
 }
 
-void make_integer(uint32_t slot, int64_t n) {
-    make(slot, INTEGER, 0, 2);
-    put(slot, NUMBER, (uint64_t)n);
+double real_of(root it) {
+    uint64_t bits = number_of(it);
+    double value;
+    if (kind_of(it) == INTEGER) return (double)(int64_t)bits;
+    expect(it, REAL, "not a number");
+    memcpy(&value, &bits, sizeof value);
+    return value;
 }
 
-int64_t integer_of(uint32_t slot) {
-    expect(slot, INTEGER, "not a number");
-    return (int64_t)get(slot, NUMBER);
+/* ---- Pairs ---- */
+
+void cons(root *to, root car, root cdr) {
+    const root parts[] = { car, cdr };
+    make(to, PAIR, 0, 2, parts, 2);
 }
 
-void cons(uint32_t to, uint32_t car, uint32_t cdr) {
-    make(NEW_PAIR, PAIR, 2, 1);
-    store(NEW_PAIR, CAR, car);
-    store(NEW_PAIR, CDR, cdr);
-    copy(to, NEW_PAIR);
+void car(root *to, root pair) {
+    expect(pair, PAIR, "not a pair");
+    load(to, pair, CAR);
 }
 
-void append(uint32_t list, uint32_t last, uint32_t value) {
-    cons(MOVED, value, MOVED);
-    if (kind_of(list) == NIL) copy(list, MOVED);
-    else store(last, CDR, MOVED);
-    copy(last, MOVED);
-    clear(MOVED);
+void cdr(root *to, root pair) {
+    expect(pair, PAIR, "not a pair");
+    load(to, pair, CDR);
 }
 
-void item(uint32_t to, uint32_t list, int i) {
+void item(root *to, root list, uint32_t i) {
     copy(to, list);
-    for (; i > 0; i--) load(to, to, CDR);
-    load(to, to, CAR);
+    for (; i > 0; i--) cdr(to, *to);
+    car(to, *to);
 }
 
-/* ---- Strings: word 0 is the length in bytes, and eight bytes lie in each further word ---- */
-
-void make_string(uint32_t slot, const char *text, uint64_t length) {
-    uint32_t words = (uint32_t)(1 + (length + 7) / 8);
-    pace(words);
-    made = ask(metronome_new_words(&heap, 0, slot, words), METRONOME_MADE);
-    put(slot, 0, length);
-    for (uint64_t i = 0; i < length; i += 8) {
-        uint64_t word = 0;
-        memcpy(&word, text + i, length - i < 8 ? length - i : 8);
-        put(slot, (uint32_t)(1 + i / 8), word);
-    }
-}
-
-uint64_t text_of(uint32_t slot, char *text) {
-    expect(slot, STRING, "not a string");
-    uint64_t length = get(slot, 0);
-    if (length >= LONGEST_TEXT) fail("a string is too long");
-    for (uint64_t i = 0; i < length; i += 8) {
-        uint64_t word = get(slot, (uint32_t)(1 + i / 8));
-        memcpy(text + i, &word, length - i < 8 ? length - i : 8);
-    }
-    text[length] = 0;
+uint32_t length_of(root list) {
+    frame here = open_frame();
+    root rest = local();
+    uint32_t length = 0;
+    for (copy(&rest, list); kind_of(rest) == PAIR; cdr(&rest, rest)) length++;
+    close_frame(here);
     return length;
 }
 
-/* ---- The row in the heap: an array of what its slots hold, and then of what was moved before ---- */
+/* ---- Vectors: the number is the length, and the cells lie in an array ---- */
 
-void move_out(void) {
-    pace(OF_ROW + 1);
-    made = ask(metronome_new_refs(&heap, 0, MOVED, OF_ROW + 1), METRONOME_MADE);
-    for (uint32_t slot = 0; slot < OF_ROW; slot++) store(MOVED, slot, slot);
-    end(0);
-    load_static(0, DEEPER);
-    store(MOVED, OF_ROW, 0);
-    store_static(DEEPER, MOVED);
-    clear(MOVED);
-    clear(0);
+void make_vector(root *to, int64_t length) {
+    frame here = open_frame();
+    root cells = local();
+    if (length < 0 || length > 1000000) fail("no length of a vector");
+    int64_t began = are_calls_timed ? processor_time() : 0;
+    new_array(&cells, (uint32_t)length);
+    if (are_calls_timed) note_call(began);
+    make(to, VECTOR, (uint64_t)length, 1, &cells, 1);
+    close_frame(here);
 }
 
-void move_back(uint32_t taken) {
-    load_static(MOVED, DEEPER);
-    load(0, MOVED, OF_ROW);
-    store_static(DEEPER, 0);
-    while (row.next < taken) local();
-    for (uint32_t slot = 0; slot < taken; slot++) load(slot, MOVED, slot);
-    clear(MOVED);
+/* Loads the cells of a vector that has a cell i. */
+static void load_cells(root *to, root vector, int64_t i) {
+    expect(vector, VECTOR, "not a vector");
+    if (i < 0 || (uint64_t)i >= number_of(vector)) fail("the vector has no such cell");
+    load(to, vector, CELLS);
+}
+
+void vector_load(root *to, root vector, int64_t i) {
+    load_cells(to, vector, i);
+    load(to, *to, (uint32_t)i);
+}
+
+void vector_store(root vector, int64_t i, root value) {
+    frame here = open_frame();
+    root cells = local();
+    load_cells(&cells, vector, i);
+    store(cells, (uint32_t)i, value);
+    close_frame(here);
 }

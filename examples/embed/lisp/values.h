@@ -1,90 +1,72 @@
 /*
- * The values of the Lisp. Every one lies in the heap, and is named by a slot, which a frame gives back.
+ * values.h: the values of the Lisp over heap.h: numbers, symbols, pairs and vectors.
  */
 #ifndef VALUES_H
 #define VALUES_H
 
-#ifndef RECORDED
-#define RECORDED 0
-#endif
+#include "heap.h"
 
-#if RECORDED
-#include "metronome_record.h"
-#else
-#include "metronome.h"
-#endif
+enum { LONGEST_NAME = 32, LONGEST_TEXT = 1024 };
 
-enum { PAGES = 64, BUDGET = 1000, LONGEST_TEXT = 256 };
+/* The references of a pair, of a symbol, of a vector, of a closure. */
+enum { CAR, CDR };
+enum { VALUE };
+enum { CELLS };
+enum { BODY, OUTER };
 
-/* The slots: those of the row, which frames take, and then those that one function uses at a time: what is evaluated in which
- * scope, a new pair, and the row on its way into the heap. */
-enum { OF_ROW = 64, VAL = OF_ROW, ENV, NEW_PAIR, MOVED, SLOTS };
+/* How many objects were made, and the longest call that made one, in nanoseconds of processor time, if it is looked for. */
+extern uint64_t objects;
+extern int64_t longest_call;
+extern int are_calls_timed;
 
-/* The statics: the symbols, in a list, and what was moved out of the row. */
-enum { SYMBOLS, DEEPER, STATICS };
+/* Nanoseconds of this thread's processor time. */
+int64_t processor_time(void);
 
-/* What a value is. Strings are arrays of words, and null is the empty list; each other value has its kind in word 0. */
-enum kind { NIL, STRING, INTEGER, SYMBOL, PAIR, CLOSURE, PRIMITIVE };
+/* Makes an object as new_object does, and counts it. */
+void make(root *to, enum kind kind, uint64_t number, uint32_t refs, const root *first, uint32_t count);
 
-/* the references of each kind, and its words */
-enum { CAR, CDR };                /* a pair */
-enum { PARAMETERS, BODY, SCOPE }; /* a closure */
-enum { SPELLING, VALUE };         /* a symbol */
-enum { KIND, NUMBER, BOUND };     /* an integer's, a primitive's and a special form's number; whether a symbol has a value */
+/* Fails unless a value has this kind. */
+void expect(root it, enum kind kind, const char *what);
 
-extern metronome heap;
-extern metronome_row row;
+void make_integer(root *to, int64_t value);
+void make_real(root *to, double value);
+double real_of(root it);
 
-/* The identity of the last object, and the longest call of the pace in microseconds of processor time. */
-extern uint64_t made;
-extern double longest_pause;
+/* Makes a pair; *to may be one of its parts. */
+void cons(root *to, root car, root cdr);
 
-/* Tells what went wrong, and ends the program. */
-_Noreturn void fail(const char *what);
+/* Loads a part of a pair. */
+void car(root *to, root pair);
+void cdr(root *to, root pair);
 
-/* The number of an answer, which must be of this kind. */
-uint64_t ask(metronome_answer answer, uint32_t kind);
+/* Loads item i of a list. */
+void item(root *to, root list, uint32_t i);
 
-/* A slot of the frame that is open. */
-uint32_t local(void);
+/* Returns how many items a list has. */
+uint32_t length_of(root list);
 
-/* Closes a frame. */
-void end(metronome_frame frame);
+/* Makes a vector of `length` cells, all null. */
+void make_vector(root *to, int64_t length);
 
-void copy(uint32_t to, uint32_t from);
-void clear(uint32_t slot);
-void load(uint32_t to, uint32_t from, uint32_t i);
-void store(uint32_t to, uint32_t i, uint32_t from);
-void load_static(uint32_t to, uint32_t k);
-void store_static(uint32_t k, uint32_t from);
-uint64_t get(uint32_t slot, uint32_t i);
-void put(uint32_t slot, uint32_t i, uint64_t word);
-int same(uint32_t a, uint32_t b);
+/* Loads cell i of a vector, or stores a value in it. */
+void vector_load(root *to, root vector, int64_t i);
+void vector_store(root vector, int64_t i, root value);
 
-/* A new value of a kind, with so many references and words. */
-void make(uint32_t slot, enum kind kind, uint32_t refs, uint32_t words);
-enum kind kind_of(uint32_t slot);
-void expect(uint32_t slot, enum kind kind, const char *what);
+/* ---- Symbols (symbols.c) ---- */
 
-void make_integer(uint32_t slot, int64_t n);
-int64_t integer_of(uint32_t slot);
+/* Makes the statics. The first symbols are the special forms, in the order of their numbers. */
+void make_symbols(void);
 
-/* The pair of what two slots hold; `to` may be one of them. */
-void cons(uint32_t to, uint32_t car, uint32_t cdr);
+/* Loads the symbol of a name, the same one each time. Its number is its place in the order in which symbols were made. */
+void symbol(root *to, const char *name);
+const char *name_of(root symbol);
 
-/* A list with one more item at its end; `last` holds its last pair. */
-void append(uint32_t list, uint32_t last, uint32_t value);
+/* ---- Texts (texts.c) ---- */
 
-/* Item i of a list. */
-void item(uint32_t to, uint32_t list, int i);
+/* Reads the next value of a text, and returns the rest of the text, or null if no value is left. */
+const char *read_value(root *to, const char *text);
 
-void make_string(uint32_t slot, const char *text, uint64_t length);
-
-/* Copies a string out, and answers its length. */
-uint64_t text_of(uint32_t slot, char *text);
-
-/* Moves what the row holds into the heap, so that all its slots are free, and back, so that as many as before are taken. */
-void move_out(void);
-void move_back(uint32_t taken);
+/* Writes a value into a text of LONGEST_TEXT bytes. */
+void print_value(char *text, root value);
 
 #endif

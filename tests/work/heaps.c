@@ -6,10 +6,11 @@
 enum { MOVED = 14, LEAVES = 250, KEPT = 500 };
 
 metronome heap = METRONOME_CLOSED;
+int scale = 1;
 
 void need(int holds, const char *what) {
     if (holds) return;
-    fprintf(stderr, "work: %s\n", what);
+    fprintf(stderr, "%s\n", what);
     exit(1);
 }
 
@@ -45,10 +46,14 @@ void create(int pages, int mutators, int emptied, int room) {
     metronome_settings settings = METRONOME_SETTINGS(pages, mutators, SLOTS);
     settings.statics = 2;
     settings.defrag_below = emptied ? 4097 : 0;
-    settings.defrag_pages = emptied;
+    settings.defrag_pages = emptied * scale;
     need(metronome_create(&heap, &settings) == METRONOME_OK, "no heap");
     metronome_touch(&heap, (size_t)pages);
-    if (room && pages > room) fill(pages, room);
+    if (room && pages > room * scale) fill(pages, room * scale);
+}
+
+static int least(int one, int other) {
+    return one < other ? one : other;
 }
 
 static void begin(void) {
@@ -69,7 +74,7 @@ static void fill_slots(int mutators, int each) {
 
 static void objects(int pages, int mutators) {
     create(pages, mutators, 0, SPARE);
-    fill_slots(mutators < 4 ? 1 : 4, SLOTS);
+    fill_slots(mutators < 4 ? 1 : least(mutators, 4 * scale), SLOTS);
     begin();
 }
 
@@ -78,8 +83,8 @@ static void nulls(int pages, int mutators) {
     begin();
 }
 
-/* Each mutator overwrites as many references in an array, each to an object that isn't marked. The objects to which the first
- * mutator's slots lead aren't marked either. */
+/* Each mutator overwrites as many references in an array, each to an object that isn't marked. The objects to which the
+ * slots of the first `scale` mutators lead aren't marked either. */
 static void overwrite(int pages, int mutators, int each, int room) {
     enum { EMPTY = SLOTS - 2, ARRAY };
     uint32_t count = (uint32_t)(mutators * each);
@@ -91,7 +96,7 @@ static void overwrite(int pages, int mutators, int each, int room) {
         metronome_store(&heap, 0, ARRAY, i, EMPTY);
     }
     metronome_clear(&heap, 0, EMPTY);
-    fill_slots(1, EMPTY);
+    fill_slots(least(mutators, scale), EMPTY);
     for (uint32_t mutator = 1; mutator < (uint32_t)mutators; mutator++) metronome_load_static(&heap, mutator, ARRAY, 1);
     begin();
     for (uint32_t i = 0; i < count; i++) metronome_store(&heap, i / (uint32_t)each, ARRAY, i, EMPTY);
@@ -108,8 +113,9 @@ static void records(int pages, int mutators) {
 /* An array of references to objects of no cells, an object each. */
 static void leaves(int pages, int mutators) {
     create(pages, mutators, 0, SPARE);
-    make_array(0, 2 * LEAVES);
-    for (uint32_t i = 0; i < 2 * LEAVES; i++) {
+    const uint32_t count = 2 * LEAVES * (uint32_t)scale;
+    make_array(0, count);
+    for (uint32_t i = 0; i < count; i++) {
         make(0, 1, 0);
         metronome_store(&heap, 0, 0, i, 1);
     }
@@ -120,7 +126,7 @@ static void leaves(int pages, int mutators) {
 /* A list of objects, each of which refers to the next one. */
 static void list(int pages, int mutators) {
     create(pages, mutators, 0, SPARE);
-    for (uint32_t i = 0; i < 2 * LEAVES; i++) {
+    for (int i = 0; i < 2 * LEAVES * scale; i++) {
         need(metronome_new_plain(&heap, 0, 1, 1, 0).kind == METRONOME_MADE, "no object");
         metronome_store(&heap, 0, 1, 0, 0);
         metronome_copy(&heap, 0, 0, 1);
@@ -128,10 +134,11 @@ static void list(int pages, int mutators) {
     begin();
 }
 
-/* Pages of the smallest blocks, of which a part is kept, an object in each `every` blocks, and the rest not. */
-static void keep_some(int array, int pages, int every) {
+/* Two pages of the smallest blocks, `scale` times, of which an object in each `every` blocks is kept, and the rest not. */
+static void keep_some(int every) {
+    const int array = LARGEST * scale;
     make_array(0, (uint32_t)array);
-    for (int page = 0, kept = 0; page < pages; page++) {
+    for (int page = 0, kept = 0; page < 2 * scale; page++) {
         for (int block = 0; block < PAGE_WORDS / HEADER; block++) {
             make(0, 1, 0);
             if (block % every == 0 && kept < array) metronome_store(&heap, 0, 0, (uint32_t)kept++, 1);
@@ -143,7 +150,7 @@ static void keep_some(int array, int pages, int every) {
 /* References to objects that were moved: in roots and marking each is followed to the copy. */
 static void moved(int pages, int mutators) {
     create(pages, mutators, 2, SPARE);
-    keep_some(LARGEST, 2, 5);
+    keep_some(5);
     for (uint32_t i = 0; i < LARGEST; i++) metronome_load(&heap, 0, i + 2, 0, i);
     begin();
     finish();
@@ -153,7 +160,7 @@ static void moved(int pages, int mutators) {
 /* Pages of objects of `words` words, all of which are freed, except the first of each page if `keeps` says so. */
 static void garbage(int pages, int mutators, int room, uint32_t words, int keeps) {
     create(pages, mutators, 0, room);
-    int of_page = PAGE_WORDS / (int)(words + HEADER), used = pages < room ? pages : room;
+    int of_page = PAGE_WORDS / (int)(words + HEADER), used = least(pages, room * scale);
     for (int i = 0, kept = 0; i < (used - 1) * of_page; i++) {
         make(0, SLOTS - 1, words);
         if (keeps && i % of_page == 0 && kept < SLOTS - 1) metronome_copy(&heap, 0, (uint32_t)kept++, SLOTS - 1);
@@ -183,7 +190,7 @@ static void nothing(int pages, int mutators) {
 /* Pages of the smallest blocks, all of which are emptied, with one object on each, in its first block or in its last. */
 static void sparse(int pages, int mutators, int at) {
     create(pages, mutators, MOVED, MOVED);
-    int used = pages < MOVED ? pages : MOVED;
+    int used = least(pages, MOVED * scale);
     for (int page = 0; page < used; page++) {
         for (int block = 0; block < PAGE_WORDS / HEADER; block++) {
             make(0, SLOTS - 1, 0);
@@ -205,7 +212,7 @@ static void last(int pages, int mutators) {
 /* Two pages of which one is emptied, with many blocks. */
 static void halves(int pages, int mutators) {
     create(pages, mutators, 1, SPARE);
-    keep_some(LARGEST, 2, 4);
+    keep_some(4);
     begin();
 }
 
@@ -223,18 +230,18 @@ static void full(int pages, int mutators) {
 const struct kind kinds[] = {
     { "full", "pages full of objects of 252 words", ROOTS, SWEEPING, 512, full },
     { "objects", "an object in each slot", ROOTS, ROOTS, 4, objects },
-    { "few_records", "the same, and 7 records of each mutator", ROOTS, ROOTS, 4, few_records },
-    { "records", "the same, and 64 records of each mutator", ROOTS, ROOTS, 16, records },
+    { "few_records", "an object in each slot, and 7 records of each mutator", ROOTS, ROOTS, 4, few_records },
+    { "records", "an object in each slot, and 64 records of each mutator", ROOTS, ROOTS, 16, records },
     { "nulls", "null in each slot", ROOTS, ROOTS, 4, nulls },
     { "leaves", "an array of references", MARKING, MARKING, 4, leaves },
     { "list", "a list", MARKING, MARKING, 4, list },
     { "moved", "objects that were moved", ROOTS, MARKING, 4, moved },
     { "small_garbage", "blocks of 4 words, all freed", SWEEPING, SWEEPING, 4, small_garbage },
     { "large_garbage", "blocks of 256 words, all freed", SWEEPING, SWEEPING, 64, large_garbage },
-    { "thinned", "the same, but one of each page", SWEEPING, SWEEPING, 64, thinned },
+    { "thinned", "blocks of 256 words, all freed except one of each page", SWEEPING, SWEEPING, 64, thinned },
     { "nothing", "free pages", SWEEPING, MOVING, 512, nothing },
-    { "first", "14 pages, each with 4 words in its first block", MOVING, MOVING, 14, first },
-    { "last", "the same, in its last block", MOVING, MOVING, 14, last },
-    { "halves", "a page with 128 blocks of 4 words", MOVING, MOVING, 4, halves },
+    { "first", "pages with 4 words each, in the first block", MOVING, MOVING, 14, first },
+    { "last", "pages with 4 words each, in the last block", MOVING, MOVING, 14, last },
+    { "halves", "pages with 128 blocks of 4 words, half of them emptied", MOVING, MOVING, 4, halves },
     { 0, 0, 0, 0, 0, 0 },
 };

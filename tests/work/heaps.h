@@ -9,12 +9,16 @@ enum { SLOTS = 256, BUDGET = 256, PAGE_WORDS = 2048, HEADER = 4, RECORDS = 64, L
 /* The heap that was made last. */
 extern metronome heap;
 
+/* How many times as much each kind of heap has as a quantum of BUDGET units needs. It is 1 unless a program sets it, to
+ * 16 at most, for quanta of as many times these units. A kind then takes as many times its pages. */
+extern int scale;
+
 /* Ends with a message if a condition doesn't hold. */
 void need(int holds, const char *what);
 
-/* Makes a heap that empties up to `emptied` pages. All its pages are touched, so no call clears one. Objects that are made later go
- * on pages that are free now: `room` of them, if the heap has more, and the others are then full of objects to which a static
- * leads; all if `room` is 0. */
+/* Makes a heap that empties up to `emptied` times `scale` pages. All its pages are touched, so no call clears one.
+ * Objects that are made later go on pages that are free now: `room` times `scale` of them, if the heap has more, and
+ * the others are then full of objects to which a static leads; all if `room` is 0. */
 void create(int pages, int mutators, int emptied, int room);
 
 /* Makes an object of word cells. */

@@ -1,6 +1,7 @@
 //! The command line as `clap` reads it: the subcommands, and the arguments of each.
-ghost use Rattle.std.specs.Prelude.{◌≡◌, false, [], codes, IfOk};
-ghost use Rattle.clap.specs.Words.{app_of, rule_of};
+ghost use Rattle.std.specs.Prelude.{◌≡◌, true, false, [], codes, IfOk};
+ghost use Rattle.clap.specs.Words as clap;
+ghost use Rattle.clap.specs.Words.{App, Shape, app_of, rule_of};
 ghost use Rattle.command_line.specs.Program as words;
 ghost use Rattle.command_line.specs.Program.{IsArgument, IsSubcommand, metronome};
 
@@ -11,20 +12,31 @@ use std::alloc::{AllocError, Global};
 pub fn program<'a>(alloc: Global) -> Result<Command<'a>, AllocError>
     ensures { IfOk result (λ command. app_of command ≡ metronome) }
 {
-    Command::new(alloc, "metronome")
+    let top = Command::new(alloc, "metronome")
         .about("A real-time garbage-collected heap: plays, checks and measures its traces")
         .version("2")
-        .subcommand_required(true)
-        .subcommand(play(alloc)?)?
-        .subcommand(check(alloc)?)?
-        .subcommand(threads(alloc)?)?
-        .subcommand(inspect(alloc)?)?
-        .subcommand(cycles(alloc)?)?
-        .subcommand(path(alloc)?)?
-        .subcommand(mmu(alloc)?)?
-        .subcommand(draw(alloc)?)?
-        .subcommand(pages(alloc)?)?
-        .subcommand(plan(alloc)?)
+        .subcommand_required(true);
+    let program = with_subcommand(Ok(top), play(alloc));
+    let program = with_subcommand(program, check(alloc));
+    let program = with_subcommand(program, threads(alloc));
+    let program = with_subcommand(program, inspect(alloc));
+    let program = with_subcommand(program, cycles(alloc));
+    let program = with_subcommand(program, path(alloc));
+    let program = with_subcommand(program, mmu(alloc));
+    let program = with_subcommand(program, draw(alloc));
+    let program = with_subcommand(program, pages(alloc));
+    with_subcommand(program, plan(alloc))
+}
+
+/// Returns a command with one more subcommand, unless memory for one of them was refused.
+fn with_subcommand<'a>(
+    command: Result<Command<'a>, AllocError>,
+    more: Result<Command<'a>, AllocError>,
+) -> Result<Command<'a>, AllocError>
+    ensures { (before : App) (shape : Shape) → shape.is_plain ≡ true → IfOk command.entry (λ c. app_of c ≡ before)
+        → IfOk more.entry (IsSubcommand shape) → IfOk result (λ c. app_of c ≡ clap.with_subcommand before shape) }
+{
+    command?.subcommand(more?)
 }
 
 fn play<'a>(alloc: Global) -> Result<Command<'a>, AllocError>

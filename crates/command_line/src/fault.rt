@@ -2,7 +2,7 @@
 use thiserror::Error;
 
 /// Why the words of a subcommand give no job.
-#[derive(Debug, PartialEq, Eq, Drop, Error)]
+#[derive(Debug, Drop, Error)]
 pub enum Refusal {
     /// They are refused: the text for the user.
     #[error("{0}")]
@@ -13,7 +13,7 @@ pub enum Refusal {
 }
 
 /// Why words give no job.
-#[derive(Debug, PartialEq, Eq, Drop, Error)]
+#[derive(Debug, Drop, Error)]
 pub enum WordsFault {
     /// Help or the version was asked for: the text, for standard output.
     #[error("{0}")]

@@ -5,7 +5,7 @@ ghost use Rattle.command_line.specs.Job.{words_of};
 use size_classes::Class;
 
 /// How the data of a run are written.
-#[derive(Clone, Copy, Debug, PartialEq, Eq)]
+#[derive(Clone, Copy)]
 pub enum Form {
     /// As a page that a browser opens.
     Page,
@@ -14,7 +14,7 @@ pub enum Form {
 }
 
 /// How a heap is reported.
-#[derive(Clone, Copy, Debug, PartialEq, Eq)]
+#[derive(Clone, Copy)]
 pub enum Report {
     /// Page by page, with its phase, its roots and its objects.
     Pages,
@@ -25,7 +25,7 @@ pub enum Report {
 }
 
 /// The base from which the pages that suffice are calculated.
-#[derive(Clone, Copy, Debug, PartialEq, Eq)]
+#[derive(Clone, Copy)]
 pub enum Sizing {
     /// The needs of the trace.
     Demand,
@@ -36,7 +36,7 @@ pub enum Sizing {
 }
 
 /// A drawing of the run of a trace.
-#[derive(Clone, Copy, Debug, PartialEq, Eq)]
+#[derive(Clone, Copy)]
 pub enum Drawing {
     /// The run's data; with the plans for this many words of live blocks, if it is said.
     Run { form: Form, live: Option<u64> },
@@ -47,7 +47,7 @@ pub enum Drawing {
 }
 
 /// The words that every subcommand has: the names of its files, and two flags.
-#[derive(Clone, Copy, Debug, PartialEq, Eq)]
+#[derive(Clone, Copy)]
 pub struct Words<'a> {
     /// The file of the configuration.
     pub config: &'a str,
@@ -60,7 +60,7 @@ pub struct Words<'a> {
 }
 
 /// A job: a case for each subcommand, with its words and numbers.
-#[derive(Debug, PartialEq, Eq, Drop)]
+#[derive(Drop)]
 pub enum Job<'a> {
     /// Play a trace, and write its replies, or with `history` its entries.
     Play {

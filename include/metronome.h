@@ -50,7 +50,7 @@
  * heap) and metronome_keep.h (plans, by which the collector paces itself). Unless METRONOME_CALLS_ALONE is defined, it also
  * includes metronome_over_calls.h (frames of slots, and a pace) and metronome_blocks.h (a walk over objects).
  *
- * docs/EMBEDDING.md says what is proved of each function. Nothing is proved of the `static inline` functions: they are only
+ * docs/CONTRACTS.md says what is proved of each function. Nothing is proved of the `static inline` functions: they are only
  * tested.
  */
 #ifndef METRONOME_H
@@ -123,7 +123,7 @@ enum metronome_status {
     METRONOME_NULL_SLOT = 2,        /* The slot that names the object holds null: for example at the end of a list. Else it is a
                                      * mistake */
     METRONOME_BAD_INDEX = 3,        /* The object has no cell of that number: a mistake, or the end of an array */
-    METRONOME_WRONG_KIND = 4,       /* The object has no cells of that kind: a mistake */
+    METRONOME_WRONG_KIND = 4,       /* The object is an array of the other kind: a mistake */
     METRONOME_TOO_LARGE = 5,        /* More than 252 cells were named, or more than 4000000 for an array. Use an array, or several
                                      * calls */
     METRONOME_IDENTITIES_SPENT = 6, /* The next identity is above the setting. This heap can make no more objects */

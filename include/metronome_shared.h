@@ -31,7 +31,7 @@
  * A new seat takes a few hundred bytes. No other call takes memory. A page is cleared when an object is first made on it: no
  * call on a seat does what metronome_touch does.
  *
- * docs/EMBEDDING.md says what is proved of each function. The `static inline` functions here are only tested. Calls on seats
+ * docs/CONTRACTS.md says what is proved of each function. The `static inline` functions here are only tested. Calls on seats
  * aren't recorded (metronome_record.h).
  */
 #ifndef METRONOME_SHARED_H

@@ -1,5 +1,5 @@
 //! A real-time garbage-collected heap, over the installed archive of `metronome.h`. This crate is plain Rust, and
-//! nothing is proved of it. docs/EMBEDDING.md of the library says what is proved of the calls below it.
+//! nothing is proved of it. docs/CONTRACTS.md of the library says what is proved of the calls below it.
 //!
 //! A [`Heap`] goes from thread to thread, but is used in one at a time. A [`Mutator`] is a row of slots, and a [`Root`]
 //! is one of these slots. The object that a root holds is kept. When the root goes out of scope, its slot holds null

@@ -37,19 +37,6 @@ class Bench:
             sys.exit(ran.stderr)
         return None if ran.returncode else f"{self.folder}/{name}"
 
-    @functools.cached_property
-    def calls(self):
-        """The program that measures calls, of the crate of that name, which is proved and built first where it isn't."""
-        folder = f"{TOP}/crates/bench_calls"
-        program, is_built = f"{folder}/out/bench_calls", f"{TOP}/bin/package/is-built"
-        if subprocess.run([is_built, program], check=False).returncode:
-            read = subprocess.run([is_built, "--sum"], stdout=subprocess.PIPE, text=True, check=True).stdout.strip()
-            how = {"stdin": subprocess.DEVNULL, "capture_output": True, "text": True}
-            ran = subprocess.run(["rt", "run"], cwd=folder, check=False, **how)
-            if subprocess.run([is_built, "--mark", program, read], check=False).returncode:
-                sys.exit(f"{ran.stdout}{ran.stderr}\nbench_calls isn't built of the files as they stand")
-        return program
-
     def written(self, name, lines):
         """A file with these lines; its path."""
         with open(f"{self.folder}/{name}", "w", encoding="utf-8") as file:

@@ -1,8 +1,7 @@
 /*
- * calls KIND PAGES COUNT MOST: prepares a heap of PAGES pages and does COUNT calls of a kind, those of `bench_calls`. Built with
- * -DFLOOR the heap is the one of floor.c, and else the library. It writes the same line as `bench_calls`: the kind, how many calls,
- * how many of them gave a wrong answer, the sum of their answers, nanoseconds, and 0. The prepared heap doesn't depend on COUNT, so
- * two runs differ only by their calls.
+ * calls KIND PAGES COUNT MOST: prepares a heap of PAGES pages and does COUNT calls of a kind. Built with -DFLOOR the heap is the one
+ * of floor.c, and else the library. It writes a line: the kind, how many calls, how many of them gave a wrong answer, the sum of
+ * their answers, nanoseconds, and 0. The prepared heap doesn't depend on COUNT, so two runs differ only by their calls.
  */
 #define _POSIX_C_SOURCE 200809L
 #include <inttypes.h>
@@ -70,6 +69,21 @@ static void make_arrays(handle heap) {
     need(CALL(clear, 0, OTHER).kind == METRONOME_DONE);
 }
 
+#ifndef FLOOR
+enum { SHORT = 1000, LONG = 4000000 };
+
+/* An array of words or of references in slot 0, near or far as the kind says; it has SHORT or LONG cells. */
+static void make_array(handle heap, const char *kind) {
+    const uint32_t cells = strstr(kind, "near") ? SHORT : LONG;
+    need((kind[0] == 'g' ? CALL(new_words, 0, 0, cells) : CALL(new_refs, 0, 0, cells)).kind == METRONOME_MADE);
+}
+
+/* A cell of an array by the turn: cells far from one another. */
+static uint32_t cell(uint32_t turn, uint32_t cells) {
+    return turn * 7919 % cells;
+}
+#endif
+
 /* An object in each slot of 64 mutators. */
 static void fill_slots(handle heap) {
     for (uint32_t n = 0; n < 64 * 256; n++) need(CALL(new_plain, n / 256, n % 256, 0, 0).kind == METRONOME_MADE);
@@ -102,6 +116,13 @@ static struct told repeat(handle heap, const char *kind, uint32_t count) {
         REPEAT(CALL(compare_store, 0, n % 128, n / 128 % 4, 128 + n / 512 % 2, 129 - n / 512 % 2));
     else if (strcmp(kind, "same") == 0) REPEAT(CALL(same, 0, n % 128, n / 2 % 128));
     else if (strcmp(kind, "clear") == 0) REPEAT(CALL(clear, n / 256 % 64, n % 256));
+#ifndef FLOOR
+    else if (strcmp(kind, "getnear") == 0) REPEAT(CALL(get, 0, 0, cell(n, SHORT)));
+    else if (strcmp(kind, "getfar") == 0) REPEAT(CALL(get, 0, 0, cell(n, LONG)));
+    else if (strcmp(kind, "loadnear") == 0) REPEAT(CALL(load, 0, 1, 0, cell(n, SHORT)));
+    else if (strcmp(kind, "loadfar") == 0) REPEAT(CALL(load, 0, 1, 0, cell(n, LONG)));
+    else if (strcmp(kind, "newarray") == 0) REPEAT(CALL(new_words, 0, 0, LONG));
+#endif
     else if (strcmp(kind, "new") == 0) REPEAT(CALL(new_plain, 0, n % 200, n % 4, 3 - n % 4));
     else REPEAT(CALL(store, 0, n / LONGEST, n % LONGEST, OTHER));
     return told;
@@ -111,7 +132,10 @@ static handle prepare(const char *kind, uint32_t pages) {
     handle heap = create(pages, strcmp(kind, "clear") == 0 ? 64 : 1);
     if (strcmp(kind, "clear") == 0) fill_slots(heap);
     else if (strcmp(kind, "store") == 0 || strcmp(kind, "recorded") == 0) make_arrays(heap);
-    else if (strcmp(kind, "new") != 0) make_objects(heap);
+#ifndef FLOOR
+    else if (strstr(kind, "near") || strstr(kind, "far")) make_array(heap, kind);
+#endif
+    else if (strncmp(kind, "new", 3) != 0) make_objects(heap);
     if (strcmp(kind, "recorded") == 0) begin(heap);
     return heap;
 }

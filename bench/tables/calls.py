@@ -4,18 +4,18 @@ import sys
 
 from measured import TOP, both, by_difference, ends, instructions, numbers, of_goal, on
 
-# For each call: the word of bench_calls, its name, how many are counted (twice as many are made ready), how many are timed, and
-# the goals by a method, by `step` if there is one, and from C.
+# For each call: the word of bench/floor/calls.c, its name, how many are counted (twice as many are made ready), how many are
+# timed, and the goal from C.
 CALLS = [
-    ("get", "`get`", 20000, 500000, 40, 105, 60),
-    ("put", "`put`", 20000, 500000, 40, "", 60),
-    ("load", "`load`", 20000, 500000, 52, 132, 78),
-    ("store", "`store`, no cycle on", 5040, 10080, 60, "", 82),
-    ("recorded", "`store` that records", 5040, 10080, 95, "", 120),
-    ("cas", "`cas` that stores", 20000, 500000, 75, "", 90),
-    ("clear", "`clear`", 8192, 16384, 28, "", 45),
-    ("same", "`same`", 20000, 500000, 32, "", 55),
-    ("new", "`new`, 3 cells", 4500, 9000, 160, 250, 190),
+    ("get", "`get`", 20000, 500000, 60),
+    ("put", "`put`", 20000, 500000, 60),
+    ("load", "`load`", 20000, 500000, 78),
+    ("store", "`store`, no cycle on", 5040, 10080, 82),
+    ("recorded", "`store` that records", 5040, 10080, 120),
+    ("cas", "`cas` that stores", 20000, 500000, 90),
+    ("clear", "`clear`", 8192, 16384, 45),
+    ("same", "`same`", 20000, 500000, 55),
+    ("new", "`new`, 3 cells", 4500, 9000, 190),
 ]
 
 # Lines of one command, by turn, with the lines that make ready what they need: 130 objects of 4 references and 4 words, the
@@ -59,16 +59,14 @@ def calls_from_c(bench):
 
 
 def calls(bench):
-    """Calls on heaps of 64 and of 4096 pages: of the floor, by a method, by `step`, and by the library from C."""
-    floor, library = calls_from_c(bench)
-    ways = [(floor,), (bench.calls,), (bench.calls, "step"), (library,)]
+    """Calls on heaps of 64 and of 4096 pages: of the floor, and by the library from C."""
+    ways = calls_from_c(bench)
 
-    def row(kind, name, count, timed, *goals):
-        found = [both(by_difference(bench, way, kind, it, count, timed, *more) for it in ends_of(bench)) for way, *more in ways]
-        counts = [it + of_goal(goal) for (it, _), goal in zip(found, ["", *goals])]
-        return name, *counts, *(found[at][1] for at in (0, 1, 3))
+    def row(kind, name, count, timed, goal):
+        floor, library = (both(by_difference(bench, way, kind, it, count, timed) for it in ends_of(bench)) for way in ways)
+        return name, floor[0], library[0] + of_goal(goal), floor[1], library[1]
 
-    heads = ["the floor", "a method", "`step`", "from C", "the floor, ns", "a method, ns", "from C, ns"]
+    heads = ["the floor", "from C", "the floor, ns", "from C, ns"]
     return [f"A call, {on(ends_of(bench))}", *heads], (row(*it) for it in CALLS)
 
 

@@ -8,7 +8,7 @@ from measured import TOP, both, by_difference, ends, figure, instructions, numbe
 sys.path.append(f"{TOP}/tests/work")
 import counted_calls
 
-# For each call on arrays, on a heap of 4096 pages: the word of bench_calls, its name, how many are counted (twice as many are
+# For each call on arrays, on a heap of 4096 pages: the word of bench/floor/calls.c, its name, how many are counted (twice as many are
 # made ready), how many are timed, and the goal.
 ARRAYS = [
     ("getnear", "`get` in an array of 1000 words", 20000, 500000, ""),
@@ -64,9 +64,9 @@ def of_arrays(bench, program):
 
 def rows_of_units(bench):
     """The rows of calls on long arrays, and of units."""
-    program = units_from_c(bench)
+    program, calls = units_from_c(bench), bench.built("from_c", f"{TOP}/bench/floor/calls.c")
     for kind, name, count, timed, goal in ARRAYS:
-        yield f"{name}{of_goal(goal)}, on 4096 pages", *both([by_difference(bench, bench.calls, kind, 4096, count, timed)])
+        yield f"{name}{of_goal(goal)}, on 4096 pages", *both([by_difference(bench, calls, kind, 4096, count, timed)])
     for kind, name, most, for_each_64, goal in UNITS:
         counts = [(pages, min(most, for_each_64 * pages // 64)) for pages in bench.pages]
         yield name + of_goal(goal), *both(by_difference(bench, program, kind, pages, it, 2 * it) for pages, it in counts)

@@ -1,10 +1,9 @@
 """The heap from C and in threads: GCBench, real programs, and threads that share a heap."""
 import os
-import re
 import subprocess
 import sys
 
-from measured import TOP, instructions, need
+from measured import TOP, instructions
 
 
 def printed(*words, **more):
@@ -51,45 +50,6 @@ def gcbench(bench):
     processor time, the least of three runs; the longest stop of a fourth; the resident memory."""
     heads = ["instructions a node", "goal", "s", "ns a node", "longest stop us", "resident kB"]
     return ["Memory", *heads], rows_of_memories(bench)
-
-
-# ---- Threads that share a heap ----
-
-
-def played(words):
-    """Calls, nanoseconds and page faults of a run."""
-    with subprocess.Popen(words, stdout=subprocess.PIPE, text=True) as run:
-        _, calls, wrong, _, nanos, _ = run.stdout.read().split() or (0, 0, "1", 0, 0, 0)
-        _, status, used = os.wait4(run.pid, 0)
-        run.returncode = os.waitstatus_to_exitcode(status)
-    if run.returncode or wrong != "0":
-        sys.exit(f"{' '.join(words)}: status {run.returncode}")
-    return int(calls), int(nanos), used.ru_minflt
-
-
-def growths(words, folder):
-    """How often a block was made larger in a run, once its first thread was made."""
-    printed("strace", "-f", "-e", "trace=mremap,clone,clone3", "-o", f"{folder}/strace", *words)
-    with open(f"{folder}/strace", encoding="utf-8") as calls:
-        return len(re.findall("mremap", calls.read().partition("clone")[2]))
-
-
-def row_of_scripts(bench, scripts):
-    """The figures of so many scripts, among which the commands are divided; each 160 of them ask for a quantum."""
-    commands = 16000 if bench.short else 1600000
-    words = [bench.calls, "threads", str(scripts), str(commands // scripts), str(commands // 160)]
-    calls, nanos, faults = min((played(words) for _ in range(7)), key=lambda it: it[1] / it[0])
-    grown = min(growths(words, bench.folder) for _ in range(5))
-    return scripts, f"{calls / nanos * 1e3:.2f}", f"{nanos / calls:.1f}", f"{faults / calls * 1e3:.2f}", grown
-
-
-def threads(bench):
-    """The heap that threads share with 1, 2, 4 and 16 scripts, each in a thread of its own, beside the collector: calls a
-    second by the clock and page faults, of the fastest of 7 runs, with the making of the heap and of its threads in them; and
-    how often the system was asked to make a block larger (mremap) once the first thread was made, the least of 5 runs."""
-    need("strace")
-    heads = ["Scripts", "million calls a second", "ns a call", "page faults a thousand calls", "growths"]
-    return heads, (row_of_scripts(bench, it) for it in (1, 2, 4, 16))
 
 
 # ---- Threads of C at one heap ----

@@ -24,7 +24,7 @@ use Rattle.heap_shared.specs.declared.rule.Known.{Known}
 use Rattle.heap_shared.specs.declared.shared_heap.SharedConfig.{SharedConfig}
 use Rattle.heap_shared.specs.Past.{IsLed}
 use Rattle.heap_shared.specs.Accounts.{IsWithin, IsAllowed, GoesOn, events_of, signed}
-use Rattle.heap_shared.specs.declared.logged.Logged.{Logged}
+use Rattle.paced.specs.declared.logged.Logged.{Logged}
 use Rattle.heap_shared.specs.declared.fault.NoEntry.{NoEntry}
 use Rattle.heap_shared.specs.declared.fault.NoEntry.TheVariants.{NotYet}
 use Rattle.heap_shared.specs.Ring.{Ringed, IsAsAsked, GoesBy, TellsEntry}

@@ -8,9 +8,9 @@ use Rattle.std.specs.Option.{option_map}
 use Rattle.circular_buffer.specs.Buffer.{Buffer, buffer, keep_last}
 use Rattle.circular_buffer.proofs.Places.{slice_get-drop, slice_get-some}
 use Rattle.heap_model.specs.Event.{Event}
-use Rattle.heap_shared.specs.declared.logged.Logged.{Logged}
+use Rattle.paced.specs.declared.logged.Logged.{Logged}
 use Rattle.heap_shared.specs.declared.fault.NoEntry.TheVariants.{Gone}
-use Rattle.heap_shared.specs.Logged.{event_of}
+use Rattle.paced.specs.Logged.{event_of}
 use Rattle.heap_shared.specs.Ring.{entry_ago, IsKeptAt, TellsEntry}
 use Rattle.heap_shared.specs.Turns.{word_of}
 use Rattle.heap_shared.proofs.Words.{half}

@@ -1,4 +1,3 @@
-pub mod Logged
 pub mod Past
 pub mod Accounts
 pub mod Ring

@@ -12,7 +12,7 @@ use Rattle.heap_model.specs.State.{HeapState}
 use Rattle.machine.specs.Headline.{AlwaysHolds}
 use Rattle.machine.specs.Space.{SpaceSuffices}
 use Rattle.heap_shared.specs.declared.deed.Deed.{Deed}
-use Rattle.heap_shared.specs.declared.logged.Logged.{Logged}
+use Rattle.paced.specs.declared.logged.Logged.{Logged}
 use Rattle.heap_shared.specs.declared.rule.Account.{Account}
 use Rattle.heap_shared.specs.declared.rule.Known.{Known}
 use Rattle.heap_shared.specs.declared.rule.Last.{Last}

@@ -3,11 +3,11 @@ use Rattle.std.specs.Prelude.{ℕ, ◌≡◌, ◌≢◌, ◌<◌, ◌≤◌, ◌
 use Rattle.circular_buffer.specs.Buffer.{keep_last}
 use Rattle.heap_model.specs.Event.{Course, Event, Does}
 use Rattle.heap_model.specs.Settings.{settings_of, settings_by}
-use Rattle.heap_shared.specs.declared.logged.Logged.{Logged}
+use Rattle.paced.specs.declared.logged.Logged.{Logged}
 use Rattle.heap_shared.specs.declared.fault.NoEntry.{NoEntry}
 use Rattle.heap_shared.specs.declared.fault.NoEntry.TheVariants.{NotYet, Gone}
 use Rattle.heap_shared.specs.declared.shared_heap.SharedConfig.{SharedConfig}
-use Rattle.heap_shared.specs.Logged.{event_of}
+use Rattle.paced.specs.Logged.{event_of}
 use Rattle.heap_shared.specs.Past.{IsLed}
 
 -- a heap with its history, the events that led to it, and how many of the last ones it keeps

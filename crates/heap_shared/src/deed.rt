@@ -1,7 +1,7 @@
 //! What is done at a shared heap, and by whom, for proofs alone.
-use crate::logged::Logged;
 use crate::past::Past;
 use machine::Heap;
+use paced::Logged;
 use std::marker::Model;
 
 /// An event of a heap, as contracts see it. None is ever made: proofs alone speak of it.
@@ -12,7 +12,7 @@ pub struct Happened {
 
 impl Model for Happened {
     ghost use Rattle.heap_model.specs.Event.{Event};
-    ghost use Rattle.heap_shared.specs.Logged.{event_of};
+    ghost use Rattle.paced.specs.Logged.{event_of};
 
     ghost Value = { Event };
 

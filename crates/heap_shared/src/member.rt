@@ -9,7 +9,6 @@ ghost use mathlib.Core.List.{IsPrefix};
 
 use crate::fault::{NoEntry, NoMember, NoTurn, NotDone};
 use crate::fitting::fitting_first;
-use crate::logged::Logged;
 use crate::rule::{
     Cut, Enter, Halve, Known, Learn, Leave, Look, Rejoin, Spare, TURN_WORD, TurnRule, WORDS,
 };
@@ -17,6 +16,7 @@ use crate::shared_heap::{SharedConfig, SharedHeap};
 use atomic_table::{Refused, Seat, Table};
 use graph_heap::{Command, NoMemory, Reply};
 use machine::{BudgetOutOfRange, Busy, Heap, Spent};
+use paced::Logged;
 use size_classes::Config;
 use std::alloc::Global;
 use std::marker::Model;

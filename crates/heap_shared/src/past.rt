@@ -1,11 +1,11 @@
 //! The past of a heap, for proofs alone.
 ghost use Rattle.std.specs.Prelude.{◌≡◌, []};
-ghost use Rattle.heap_shared.specs.Logged.{event_of};
+ghost use Rattle.paced.specs.Logged.{event_of};
 ghost use Rattle.heap_shared.specs.Past.{PastView, with_event};
 
 use crate::deed::Happened;
-use crate::logged::Logged;
 use ghosts::Ghost;
+use paced::Logged;
 use std::marker::Model;
 
 /// The events that led to a heap, and the place of its history at which the last cycle began. None is ever made: proofs

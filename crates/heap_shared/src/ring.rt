@@ -1,11 +1,11 @@
 //! The last entries of a log.
 ghost use Rattle.std.specs.Prelude.{◌≡◌, ◌-◌, ◌<◌, ◌∷◌, ◌++◌, [], length, slice_get, IfOk, None, if◌then◌else◌, nat_le};
 ghost use Rattle.circular_buffer.specs.Buffer.{buffer, keep_last};
-ghost use Rattle.heap_shared.specs.declared.logged.Logged.TheVariants as logged;
+ghost use Rattle.paced.specs.declared.logged.Logged.TheVariants as logged;
 
-use crate::logged::Logged;
 use circular_buffer::HeapCircularBuffer;
 use graph_heap::{Command, NoMemory, Reply};
+use paced::Logged;
 use std::alloc::Global;
 
 /// The last entries of a log, at most as many as its capacity. All its memory is taken when it is made.

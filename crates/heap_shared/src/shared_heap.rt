@@ -5,17 +5,17 @@ ghost use Rattle.std.specs.Fn.{FnOnceReturnsAt, FnOnceReturnsAtMut};
 ghost use Rattle.heap_model.specs.Event as done;
 ghost use Rattle.machine.specs.Headline.{AlwaysHolds};
 ghost use Rattle.machine.specs.Recorded.{begin_done, quantum_done};
-ghost use Rattle.heap_shared.specs.Logged.{event_of};
+ghost use Rattle.paced.specs.Logged.{event_of};
 ghost use Rattle.heap_shared.specs.Methods.{IsMethodOf};
 ghost use Rattle.heap_shared.specs.Past.{IsLed};
 ghost use Rattle.heap_shared.specs.Ring.{IsAsAsked, GoesBy, entry_ago};
 
-use crate::logged::Logged;
 use crate::past::{Past, no_past, went_on};
 use crate::ring::Ring;
 use ghosts::Ghost;
 use graph_heap::{Command, NoMemory, Reply};
 use machine::{BudgetOutOfRange, Busy, Heap, Spent};
+use paced::Logged;
 use size_classes::Config;
 use std::alloc::Global;
 use std::marker::Model;
@@ -49,7 +49,7 @@ impl Drop for SharedHeap {
 impl Model for SharedHeap {
     ghost use Rattle.std.specs.Prelude.{◌≡◌, map};
     ghost use Rattle.circular_buffer.specs.Buffer.{keep_last};
-    ghost use Rattle.heap_shared.specs.Logged.{event_of};
+    ghost use Rattle.paced.specs.Logged.{event_of};
     ghost use Rattle.heap_shared.specs.Past.{course_of, IsLed};
     ghost use Rattle.heap_shared.specs.Ring.{Ringed};
 

@@ -5,10 +5,10 @@ use Rattle.graph_heap.specs.declared.command.Command.TheVariants as commands
 use Rattle.graph_heap.specs.declared.command.Reply.{Reply}
 use Rattle.graph_heap.specs.declared.command.Reply.TheVariants.{Done}
 use Rattle.heap_model.specs.Event.{Event, Command_done, Cycle_begun, Begin_refused, Quantum_done, Quantum_refused}
-use Rattle.heap_shared.specs.declared.logged.Logged.{Logged}
+use Rattle.paced.specs.declared.logged.Logged.{Logged}
 use Rattle.heap_shared.specs.declared.fault.NoEntry.{NoEntry}
 use Rattle.heap_shared.specs.declared.fault.NoEntry.TheVariants.{Gone, NotYet}
-use Rattle.heap_shared.specs.Logged.{event_of}
+use Rattle.paced.specs.Logged.{event_of}
 use Rattle.metronome_c.specs.declared.answer.MetronomeShape.{MetronomeShape}
 use Rattle.metronome_c.specs.declared.seats.ring.MetronomeCommand.{MetronomeCommand}
 use Rattle.metronome_c.specs.declared.seats.ring.MetronomeEntry.{MetronomeEntry}

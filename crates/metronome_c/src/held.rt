@@ -9,7 +9,7 @@ ghost use Rattle.metronome_c.specs.Keeping.{IsUnused, KeepsHeld};
 use crate::planning::MetronomeFlow;
 use graph_heap::Shape;
 use machine::{BudgetOutOfRange, Busy, Heap, Spent};
-use paced::{Cycles, Figures, Pacer, flow_fits, moves_all};
+use paced::{Cycles, Figures, NoLog, Pacer, flow_fits, moves_all};
 use size_classes::Config;
 
 /// A heap, the configuration that it was made of, its pacer, where the program keeps a plan, and its cycles.
@@ -52,7 +52,7 @@ impl Held {
     {
         match &mut self.pacer {
             Some(pacer) => pacer
-                .pay_for(&mut self.heap, &mut self.cycles, shape)
+                .pay_for(&mut self.heap, &mut self.cycles, &mut NoLog, shape)
                 .is_ok(),
             None => true,
         }

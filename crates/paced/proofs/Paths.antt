@@ -17,7 +17,8 @@ use Rattle.machine.specs.Recorded.{begin_done, quantum_done}
 use Rattle.paced.specs.declared.cycles.Cycles.{Cycles}
 use Rattle.paced.specs.declared.pacer.AbovePlan.{AbovePlan}
 use Rattle.paced.specs.Cycles.{DoesOn, cycles_after, CountsCycles}
-use Rattle.paced.specs.Pacing.{PacerView, PacedState, PacedView, state_by, state_of, counted, Path, KeepsPlan, MakesNothing, MayAsk, Paced, WorksFor, Pays, Calls, Counted}
+use Rattle.paced.specs.Logged.{Enters}
+use Rattle.paced.specs.Pacing.{Counts, PacerView, PacedState, PacedView, state_by, state_of, counted, Path, KeepsPlan, MakesNothing, MayAsk, Paced, WorksFor, Pays, Calls, Counted}
 
 -- events, and then others
 pub path_then : (Passes : PacedState → Event → Type 0) (es fs : List Event) (old mid new : PacedState) → Path Passes old es mid → Path Passes mid fs new → Path Passes old (es ++ fs) new
@@ -29,6 +30,11 @@ pub cycles_then : (es fs : List Event) (old mid new : HeapState) (c d e : Cycles
 cycles_then [] fs old mid new c d e p q = subst (λ (x : HeapState). CountsCycles x c fs new e) p.0 (subst (λ (x : Cycles). CountsCycles mid x fs new e) p.1 q)
 cycles_then (x ∷ es) fs old mid new c d e p q = (p.0, p.1, cycles_then es fs p.0 mid new (cycles_after x old p.0 c) d e p.2 q)
 
+-- the same of what is entered in a log
+pub enters_then : {S : Type 0} (enters : S → Event → S → Type 0) (es fs : List Event) (old mid new : S) → Enters enters old es mid → Enters enters mid fs new → Enters enters old (es ++ fs) new
+enters_then {S} enters [] fs old mid new p q = subst (λ (x : S). Enters enters x fs new) p q
+enters_then enters (e ∷ es) fs old mid new p q = (p.0, p.1, enters_then enters es fs p.0 mid new p.2 q)
+
 -- what comes of a beginning and of a quantum is done on the heap
 pub begin_on : (old new : HeapState) (result : Result (Unit {0}) Busy) → Begins old new result → DoesOn old (begin_done result) new
 begin_on old new (Ok done) b = b
@@ -37,6 +43,14 @@ begin_on old new (Err busy) b = b
 pub quantum_on : (old new : HeapState) (budget : ℕ) (result : Result Spent BudgetOutOfRange) → Spends old budget new result → DoesOn old (quantum_done budget result) new
 quantum_on old new budget (Ok spent) s = s
 quantum_on old new budget (Err refused) s = s
+
+-- and the plan stays
+pub same_plan : (t : Counts) (e : Event) → (counted t e).plan ≡ t.plan
+same_plan t (Command_done m c reply) = refl
+same_plan t Cycle_begun = refl
+same_plan t Begin_refused = refl
+same_plan t (Quantum_done budget units phase) = refl
+same_plan t (Quantum_refused budget) = refl
 
 -- the collector's work keeps the plan
 work_keeps : (words : ℕ) (v : PacedState) (e : Event) → WorksFor words v e → KeepsPlan v e

@@ -1,6 +1,6 @@
 -- Pieces of the collector's work: what each does, and that less is left after it.
 use Rattle.std.proofs.Common.{◌≡◌, ◌≢◌, ℕ, ◌+◌, ◌-◌, ◌^◌, ◌<◌, ◌≤◌, ◌⊎◌, inl, inr, Bool, true, false, ◌==◌, if◌then◌else◌, min, Result, Ok, Err, List, [], ◌∷◌, ◌++◌, ap, ◌∙◌, sym, subst, arith, refl}
-use Rattle.std.specs.Prelude.{not}
+use Rattle.std.specs.Prelude.{not, max}
 use Rattle.std.specs.Int.{from_bool}
 use Rattle.heap_model.specs.declared.phase.Phase.{Phase}
 use Rattle.heap_model.specs.declared.phase.Phase.TheVariants as phases
@@ -16,25 +16,29 @@ use Rattle.machine.specs.declared.collector.BudgetOutOfRange.{BudgetOutOfRange}
 use Rattle.machine.specs.declared.collector.Spent.{Spent}
 use Rattle.machine.specs.Collecting.{Spends}
 use Rattle.machine.specs.Recorded.{quantum_done}
-use Rattle.paced.specs.Cycles.{DoesOn, cycles_after, EndsOrSpends}
-use Rattle.paced.specs.Pacing.{Counts, PacedState, PacedView, state_of, counted, MayAsk, WorksFor}
+use Rattle.paced.specs.declared.figures.Figures.{Figures}
+use Rattle.paced.specs.Cycles.{saturated, DoesOn, cycles_after, EndsOrSpends}
+use Rattle.paced.specs.Logged.{Enters}
+use Rattle.paced.specs.Pacing.{Counts, PacerView, PacedState, PacedView, paced_by, state_of, KeepsAgreeing, worked, counted, MayAsk, WorksFor, PaysUnless}
 use Rattle.paced.specs.Working.{IsPiece, DoesPiece, work_left, HasWorked}
-use Rattle.paced.proofs.Paths.{path_then, cycles_then}
+use Rattle.paced.proofs.Paths.{path_then, cycles_then, enters_then, same_plan}
 
 -- a quantum of the pacer's budget is spent
-pub quantum_piece : (old new : PacedView) (mid : HeapState) (result : Result Spent BudgetOutOfRange) → IsBudget old.pacer.counts.budget → (old.heap.phase ≢ phases.Idle) × (mid ≡ old.heap)
+pub quantum_piece : (So : Event → Type 0) (old new : PacedView) (mid : HeapState) (result : Result Spent BudgetOutOfRange) → IsBudget old.pacer.counts.budget → (old.heap.phase ≢ phases.Idle) × (mid ≡ old.heap)
     → Spends mid old.pacer.counts.budget new.heap result → new.cycles ≡ cycles_after (quantum_done old.pacer.counts.budget result) mid new.heap old.cycles
-    → ((units : ℕ) (phase : Phase) → new.pacer.counts ≡ counted old.pacer.counts (Quantum_done old.pacer.counts.budget units phase)) → DoesPiece old false new
-quantum_piece old new mid (Ok spent) good busy s cycles counts =
-    let e = Quantum_done old.pacer.counts.budget spent.units spent.phase in
-    record {
-      event = e;
-      is_piece = (refl, busy.0);
-      does = subst (λ h. DoesOn h e new.heap) busy.1 s;
-      counts = counts spent.units spent.phase;
-      cycles = subst (λ h. new.cycles ≡ cycles_after e h new.heap old.cycles) busy.1 cycles;
-    }
-quantum_piece old new mid (Err refused) good busy s cycles counts = absurd (s.0 good)
+    → ((units : ℕ) (phase : Phase) → new.pacer.counts ≡ counted old.pacer.counts (Quantum_done old.pacer.counts.budget units phase)) → So (quantum_done old.pacer.counts.budget result) → (p : DoesPiece old false new) × So p.event
+quantum_piece So old new mid (Ok spent) good busy s cycles counts so =
+    let e = Quantum_done old.pacer.counts.budget spent.units spent.phase in (
+      record {
+        event = e;
+        is_piece = (refl, busy.0);
+        does = subst (λ h. DoesOn h e new.heap) busy.1 s;
+        counts = counts spent.units spent.phase;
+        cycles = subst (λ h. new.cycles ≡ cycles_after e h new.heap old.cycles) busy.1 cycles;
+      },
+      so,
+    )
+quantum_piece So old new mid (Err refused) good busy s cycles counts so = absurd (s.0 good)
 
 pub runs_on : (p : Phase) → p ≢ phases.Idle → in_cycle p ≡ true
 runs_on phases.Idle n = absurd (n refl)
@@ -110,14 +114,6 @@ piece_counts v false Begin_refused i = absurd i
 piece_counts v false (Quantum_done budget units phase) i = (refl, refl)
 piece_counts v false (Quantum_refused budget) i = absurd i
 
--- an event leaves the plan as it is
-same_plan : (t : Counts) (e : Event) → (counted t e).plan ≡ t.plan
-same_plan t (Command_done m c reply) = refl
-same_plan t Cycle_begun = refl
-same_plan t Begin_refused = refl
-same_plan t (Quantum_done budget units phase) = refl
-same_plan t (Quantum_refused budget) = refl
-
 -- an event more adds to each count what it counts alone
 counts_more : (es : List Event) (e : Event) → (quanta_in (es ++ e ∷ []) ≡ quanta_in es + quanta_in (e ∷ [])) × (cycles_in (es ++ e ∷ []) ≡ cycles_in es + cycles_in (e ∷ []))
 counts_more [] e = (omega arith, omega arith)
@@ -127,14 +123,44 @@ counts_more (Begin_refused ∷ es) e = counts_more es e
 counts_more (Quantum_done budget units phase ∷ es) e = let i = counts_more es e in (omega (arith, i.0), i.1)
 counts_more (Quantum_refused budget ∷ es) e = counts_more es e
 
--- a piece more was done
-pub worked_more : (words : ℕ) (old now new : PacedView) (quanta cycles more begun : ℕ) (began : Bool) → HasWorked words old now quanta cycles → (MayAsk (state_of now) words → ⊥) → DoesPiece now began new
-    → more ≡ min (quanta + quanta_by began) (2 ^ 64 - 1) → begun ≡ min (cycles + cycles_by began) (2 ^ 64 - 1) → HasWorked words old new more begun
-worked_more words old now new quanta cycles more begun began w none p q b = record {
-  work = w.work ++ p.event ∷ [];
-  path = path_then (WorksFor words) w.work (p.event ∷ []) (state_of old) (state_of now) (state_of new) w.path (state_of new, works_for words (state_of now) began p.event p.is_piece none, p.does, p.counts, refl);
-  counts = cycles_then w.work (p.event ∷ []) old.heap now.heap new.heap old.cycles now.cycles new.cycles w.counts (new.heap, p.does, (refl, p.cycles));
-  quanta_done = (let c = counts_more w.work p.event in let n = c.0 in let x = piece_counts (state_of now) began p.event p.is_piece in let y = x.0 in let v = w.quanta_done in omega (arith, n, y, v, q));
-  cycles_begun = (let c = counts_more w.work p.event in let n = c.1 in let x = piece_counts (state_of now) began p.event p.is_piece in let y = x.1 in let v = w.cycles_begun in omega (arith, n, y, v, b));
-  plan = ap (λ (t : Counts). t.plan) p.counts ∙ same_plan now.pacer.counts p.event ∙ w.plan;
-}
+-- the figures, with the work as it was counted
+pub figures_worked : (f : Figures) (work : List Event) (n m : ℕ) → n ≡ saturated (quanta_in work) → m ≡ saturated (cycles_in work)
+    → record { quanta = saturated (f.quanta + n); cycles = saturated (f.cycles + m); most_quanta = max f.most_quanta n } ≡ worked f work
+figures_worked f work n m quanta cycles =
+    let q : saturated (f.quanta + n) ≡ saturated (f.quanta + quanta_in work) = omega (arith, quanta) in
+    let c : saturated (f.cycles + m) ≡ saturated (f.cycles + cycles_in work) = omega (arith, cycles) in
+    λ i. record { quanta = q i; cycles = c i; most_quanta = max f.most_quanta (quanta i) }
+
+-- what is entered in a log besides
+module _ {S : Type 0} (enters : S → Event → S → Type 0) where
+  -- nothing was done yet
+  pub worked_none : (words : ℕ) (v : PacedView) (a : S) → (w : HasWorked words v v 0 0) × Enters enters a w.work a
+  worked_none words v a = (record { work = []; path = refl; counts = (refl, refl); quanta_done = omega arith; cycles_begun = omega arith; plan = refl }, refl)
+
+  -- a piece more was done
+  pub worked_more : (words : ℕ) (old now new : PacedView) (a b d : S) (quanta cycles more begun : ℕ) (began : Bool) (was : (w : HasWorked words old now quanta cycles) × Enters enters a w.work b) → (MayAsk (state_of now) words → ⊥)
+      → (p : DoesPiece now began new) × enters b p.event d → more ≡ min (quanta + quanta_by began) (2 ^ 64 - 1) → begun ≡ min (cycles + cycles_by began) (2 ^ 64 - 1) → (w : HasWorked words old new more begun) × Enters enters a w.work d
+  worked_more words old now new a b d quanta cycles more begun began was none piece q r =
+      let w = was.0 in
+      let p = piece.0 in
+      let c = counts_more w.work p.event in
+      let x = piece_counts (state_of now) began p.event p.is_piece in (
+        record {
+          work = w.work ++ p.event ∷ [];
+          path = path_then (WorksFor words) w.work (p.event ∷ []) (state_of old) (state_of now) (state_of new) w.path (state_of new, works_for words (state_of now) began p.event p.is_piece none, p.does, p.counts, refl);
+          counts = cycles_then w.work (p.event ∷ []) old.heap now.heap new.heap old.cycles now.cycles new.cycles w.counts (new.heap, p.does, (refl, p.cycles));
+          quanta_done = (let n = c.0 in let y = x.0 in let v = w.quanta_done in omega (arith, n, y, v, q));
+          cycles_begun = (let n = c.1 in let y = x.1 in let v = w.cycles_begun in omega (arith, n, y, v, r));
+          plan = ap (λ (t : Counts). t.plan) p.counts ∙ same_plan now.pacer.counts p.event ∙ w.plan;
+        },
+        enters_then enters w.work (p.event ∷ []) a b d was.1 (d, piece.1, refl),
+      )
+
+  -- words are paid for once the work is done
+  pub worked_pays : (words : ℕ) (old now : PacedView) (q : PacerView) (a b : S) (quanta cycles : ℕ) (was : (w : HasWorked words old now quanta cycles) × Enters enters a w.work b) → words ≤ old.pacer.counts.plan.cycle_words → MayAsk (state_of now) words
+      → q.counts ≡ record now.pacer.counts { words = now.pacer.counts.words + words } → q.figures ≡ worked old.pacer.figures was.0.work → KeepsAgreeing old.heap now.heap → PaysUnless (λ es. Enters enters a es b) old words (Ok tt) (paced_by q now.heap now.cycles)
+  worked_pays words old now q a b quanta cycles was fits may counts figures agrees = (
+    fits,
+    record { work = was.0.work; before = now.pacer.counts; works = was.0.path; may = may; counts = counts; figures = figures; cycles = was.0.counts; agrees = agrees },
+    was.1,
+  )

@@ -122,7 +122,8 @@ pub record Prepares (old : PacedView) (words : ℕ) (left : ℕ) (new : PacedVie
   pub due : 0 < left → MayAsk (state_of new) words → ⊥
   pub told : 0 < left → left ≡ max (pieces_left (state_of new) words) 1
 
--- so it is, unless the words are more than the plan has for a whole cycle: then nothing is done
-abbrev pub PreparesUnless : PacedView → ℕ → Result ℕ AbovePlan → PacedView → Type 0
-PreparesUnless old words (Err above) new = (old.pacer.counts.plan.cycle_words < words) × (new ≡ old)
-PreparesUnless old words (Ok left) new = (words ≤ old.pacer.counts.plan.cycle_words) × Prepares old words left new
+-- So it is, and a log has the work; unless the words are more than the plan has for a whole cycle: then nothing is done.
+abbrev pub PreparesUnless : (List Event → Type 0) → PacedView → ℕ → Result ℕ AbovePlan → PacedView → Type 0
+PreparesUnless Logs old words (Err above) new = (old.pacer.counts.plan.cycle_words < words) × (new ≡ old) × Logs []
+PreparesUnless Logs old words (Ok left) new = (words ≤ old.pacer.counts.plan.cycle_words) × (p : Prepares old words left new)
+    × Logs p.work

@@ -1,3 +1,4 @@
+pub mod Logged
 pub mod Cycles
 pub mod Pacing
 pub mod Rooms

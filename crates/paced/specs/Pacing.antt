@@ -131,10 +131,10 @@ pub record Pays (old : PacedView) (words : ℕ) (new : PacedView) : Type 0 where
 abbrev pub shape_words : Shape → ℕ
 shape_words shape = words_of (λ class. if fits shape then needed shape class else 0)
 
--- words are paid for, unless they are more than the plan has for a whole cycle: then nothing is done
-abbrev pub PaysUnless : PacedView → ℕ → Result (Unit {0}) AbovePlan → PacedView → Type 0
-PaysUnless old words (Err above) new = (old.pacer.counts.plan.cycle_words < words) × (new ≡ old)
-PaysUnless old words (Ok paid) new = (words ≤ old.pacer.counts.plan.cycle_words) × Pays old words new
+-- Words are paid for by work that a log has; unless they are more than the plan has for a whole cycle: then nothing is done.
+abbrev pub PaysUnless : (List Event → Type 0) → PacedView → ℕ → Result (Unit {0}) AbovePlan → PacedView → Type 0
+PaysUnless Logs old words (Err above) new = (old.pacer.counts.plan.cycle_words < words) × (new ≡ old) × Logs []
+PaysUnless Logs old words (Ok paid) new = (words ≤ old.pacer.counts.plan.cycle_words) × (p : Pays old words new) × Logs p.work
 
 -- A command that asks for more words than the plan has for a whole cycle is told so, and nothing is done. Any other is
 -- done once its words were paid for, and gets its reply.

@@ -6,6 +6,8 @@ pub mod asking;
 pub mod cycles;
 pub mod figures;
 mod laws;
+pub mod log;
+pub mod logged;
 pub mod pacer;
 pub mod plan;
 mod quanta;
@@ -18,5 +20,7 @@ pub use laws::{
     other_commands_need_no_pacer, paced_calls_add_up, paced_events_run, paced_heaps_find_room,
     pieces_left_suffice, plans_need_pages, words_paid_ahead_are_free, work_keeps_to_words,
 };
+pub use log::{Log, NoLog};
+pub use logged::Logged;
 pub use pacer::{AbovePlan, Pacer};
 pub use plan::{Plan, classes_in, cycle_quanta, flow_fits, lasts, least_pages, moves_all, planned};

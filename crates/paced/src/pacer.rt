@@ -7,6 +7,7 @@ ghost use Rattle.space.specs.Pace.{in_cycle};
 ghost use Rattle.machine.specs.Collecting.{Begins, Spends};
 ghost use Rattle.machine.specs.Recorded.{begin_done, quantum_done};
 ghost use Rattle.paced.specs.Cycles.{cycles_after, EndsOrSpends};
+ghost use Rattle.paced.specs.Logged.{Enters};
 ghost use Rattle.paced.specs.Pacing.{paced_by, state_by, shape_words, KeepsAgreeing, MayAsk, Paced, PaysUnless, Counted};
 ghost use Rattle.paced.specs.Rooms.{first_pacer};
 ghost use Rattle.paced.specs.Working.{DoesPiece, work_left};
@@ -15,6 +16,8 @@ ghost use Rattle.paced.specs.Bounds.{pieces_left, PreparesUnless};
 use crate::asking::words_of_shape;
 use crate::cycles::Cycles;
 use crate::figures::Figures;
+use crate::log::Log;
+use crate::logged::Logged;
 use crate::plan::Plan;
 use graph_heap::Shape;
 use machine::{BudgetOutOfRange, Busy, Heap, Spent};
@@ -119,10 +122,10 @@ impl Pacer {
     }
 
     /// Begins a cycle, or spends a quantum on the one that is running; and whether it began one.
-    fn work(&mut self, heap: &mut Heap, cycles: &mut Cycles) -> bool
+    fn work<L: Log>(&mut self, heap: &mut Heap, cycles: &mut Cycles, log: &mut L) -> bool
         requires { heap.old.units ≤ cycle_limit heap.old }
-        ensures piece { DoesPiece (paced_by self.old heap.old cycles.old) result
-            (paced_by self.new heap.new cycles.new) }
+        ensures piece { (p : DoesPiece (paced_by self.old heap.old cycles.old) result
+            (paced_by self.new heap.new cycles.new)) × L.enters log.old p.event log.new }
         ensures figures { self.new.figures ≡ self.old.figures }
         ensures agrees { KeepsAgreeing heap.old heap.new }
         ensures less { (in_cycle heap.old.phase ≡ true) ⊎ (0 < self.old.counts.words)
@@ -131,11 +134,13 @@ impl Pacer {
         let budget = self.budget;
         match cycles.begin(heap) {
             Ok(()) => {
+                log.enter(Logged::Begun);
                 self.count_begin();
                 true
             }
             Err(_busy) => {
-                let _spent = cycles.quantum(heap, budget);
+                let spent = cycles.quantum(heap, budget);
+                log.enter(Logged::from_quantum(budget, spent));
                 self.count_quantum(budget);
                 false
             }
@@ -144,8 +149,14 @@ impl Pacer {
 
     /// Has the collector work until this many words may be asked for, and counts them. Where they are more than a whole
     /// cycle has, nothing is done.
-    fn pay(&mut self, heap: &mut Heap, cycles: &mut Cycles, words: u64) -> Result<(), AbovePlan>
-        ensures { PaysUnless (paced_by self.old heap.old cycles.old) words result
+    fn pay<L: Log>(
+        &mut self,
+        heap: &mut Heap,
+        cycles: &mut Cycles,
+        log: &mut L,
+        words: u64,
+    ) -> Result<(), AbovePlan>
+        ensures { PaysUnless (λ es. Enters L.enters log.old es log.new) (paced_by self.old heap.old cycles.old) words result
             (paced_by self.new heap.new cycles.new) }
     {
         if words > self.plan.cycle_words {
@@ -154,7 +165,7 @@ impl Pacer {
         let mut quanta = 0u64;
         let mut begun = 0u64;
         while !self.allows(heap, words) {
-            let began = self.work(heap, cycles);
+            let began = self.work(heap, cycles, log);
             begun = begun.saturating_add(u64::from(began));
             quanta = quanta.saturating_add(u64::from(!began));
         }
@@ -164,18 +175,20 @@ impl Pacer {
     }
 
     /// Has the collector work as much as the plan wants for a new object of this shape, and no more, and counts its words:
-    /// its caller makes the object on the heap then. Where it has more words than a whole cycle has, nothing is done.
-    pub fn pay_for(
+    /// its caller makes the object on the heap then. The log gets the events of this work. Where the object has more words than
+    /// a whole cycle has, nothing is done.
+    pub fn pay_for<L: Log>(
         &mut self,
         heap: &mut Heap,
         cycles: &mut Cycles,
+        log: &mut L,
         shape: Shape,
     ) -> Result<(), AbovePlan>
-        ensures { PaysUnless (paced_by self.old heap.old cycles.old) (shape_words shape) result
-            (paced_by self.new heap.new cycles.new) }
+        ensures { PaysUnless (λ es. Enters L.enters log.old es log.new) (paced_by self.old heap.old cycles.old)
+            (shape_words shape) result (paced_by self.new heap.new cycles.new) }
     {
         let words = words_of_shape(&shape);
-        self.pay(heap, cycles, words)
+        self.pay(heap, cycles, log, words)
     }
 
     /// Returns the most pieces of work that are left for this many words, if they may not be asked for yet.
@@ -208,14 +221,15 @@ impl Pacer {
     /// Returns how many pieces are left at most, if the plan lasts and leaves room for the words. If none is left, objects of no
     /// more words in all are then made without work, until the program itself begins a cycle. It counts no words. If the words
     /// are more than a whole cycle has, it does nothing, and returns `AbovePlan`.
-    pub fn prepare(
+    pub fn prepare<L: Log>(
         &mut self,
         heap: &mut Heap,
         cycles: &mut Cycles,
+        log: &mut L,
         words: u64,
     ) -> Result<u64, AbovePlan>
-        ensures prepares { PreparesUnless (paced_by self.old heap.old cycles.old) words result
-            (paced_by self.new heap.new cycles.new) }
+        ensures prepares { PreparesUnless (λ es. Enters L.enters log.old es log.new)
+            (paced_by self.old heap.old cycles.old) words result (paced_by self.new heap.new cycles.new) }
         ensures paced { Paced (state_by self.old heap.old) (state_by self.new heap.new) }
     {
         if self.plan.cycle_words < words {
@@ -224,7 +238,7 @@ impl Pacer {
         if self.allows(heap, words) {
             return Ok(0);
         }
-        let began = self.work(heap, cycles);
+        let began = self.work(heap, cycles, log);
         self.figures = self.figures.with_work(u64::from(!began), u64::from(began));
         Ok(self.left(heap, words))
     }

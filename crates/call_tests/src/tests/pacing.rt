@@ -3,7 +3,8 @@ use super::*;
 use graph_heap::Reply;
 use machine::Heap;
 use paced::{
-    AbovePlan, Cycles, Figures, Pacer, Plan, classes_in, flow_fits, least_pages, moves_all, planned,
+    AbovePlan, Cycles, Figures, NoLog, Pacer, Plan, classes_in, flow_fits, least_pages, moves_all,
+    planned,
 };
 use size_classes::Class;
 use std::alloc::Global;
@@ -47,14 +48,18 @@ fn a_paced_heap_is_made_and_asked(rt: HostRuntime) {
     let mut pacer = Pacer::new(&config, plan);
     for n in 0..100u32 {
         let shape = Shape::WordArray(20000);
-        assert!(rt; pacer.pay_for(&mut heap, &mut cycles, shape).is_ok());
+        assert!(rt;
+            pacer
+                .pay_for(&mut heap, &mut cycles, &mut NoLog, shape)
+                .is_ok()
+        );
         let reply = heap.step(0, Command::New { dst: 0, shape });
         assert!(rt; reply == Reply::Made(u64::from(n) + 1));
     }
     let figures = pacer.figures();
     assert!(rt; figures.cycles > 0 && figures.quanta >= figures.most_quanta);
     assert!(rt; cycles.begun.number == figures.cycles);
-    let above = pacer.pay_for(&mut heap, &mut cycles, Shape::WordArray(70000));
+    let above = pacer.pay_for(&mut heap, &mut cycles, &mut NoLog, Shape::WordArray(70000));
     assert!(rt; above == Err(AbovePlan));
     assert!(rt; pacer.figures() == figures);
 }

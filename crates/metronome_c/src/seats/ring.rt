@@ -1,6 +1,6 @@
 //! The end of the log of a heap that threads share, which a program reads in its turns.
 ghost use Rattle.std.specs.Prelude.{◌≡◌, ◌≢◌};
-ghost use Rattle.heap_shared.specs.Logged.{event_of};
+ghost use Rattle.paced.specs.Logged.{event_of};
 ghost use Rattle.heap_shared.specs.Members.{FindsEntry};
 ghost use Rattle.metronome_c.specs.declared.status.Status.TheVariants.{OtherVersion};
 ghost use Rattle.metronome_c.specs.Figures.{IsTold};
@@ -18,7 +18,8 @@ use crate::seats::seat::MetronomeSeat;
 use crate::status::Status;
 use crate::text::VERSION;
 use graph_heap::{Command, Reply};
-use heap_shared::{Logged, NoEntry};
+use heap_shared::NoEntry;
+use paced::Logged;
 use size_classes::Settings;
 
 /// A command: which one it is, by its place among the variants of `graph_heap::Command`, and its numbers and words in

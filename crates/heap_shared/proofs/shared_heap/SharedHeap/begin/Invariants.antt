@@ -1,4 +1,4 @@
-use Rattle.heap_shared.specs.Logged.{event_of}
+use Rattle.paced.specs.Logged.{event_of}
 use Rattle.heap_shared.specs.Past.{with_event}
 use Rattle.heap_shared.proofs.shared_heap.SharedHeap.begin.Given as goal
 

@@ -1,8 +1,8 @@
 use Rattle.std.proofs.Common.{refl, sym, ap, ◌∙◌, List}
 use Rattle.circular_buffer.specs.Buffer.{Buffer, keep_last}
 use Rattle.heap_model.specs.Event.{Event, Command_done}
-use Rattle.heap_shared.specs.declared.logged.Logged.{Logged}
-use Rattle.heap_shared.specs.declared.logged.Logged.TheVariants as logged
+use Rattle.paced.specs.declared.logged.Logged.{Logged}
+use Rattle.paced.specs.declared.logged.Logged.TheVariants as logged
 use Rattle.heap_shared.proofs.Rings.{kept_on}
 use Rattle.heap_shared.proofs.Pasts.{call_does, led_course, led_now, goes_by, events_now}
 use Rattle.heap_shared.proofs.shared_heap.SharedHeap.call_by.Goals as goal

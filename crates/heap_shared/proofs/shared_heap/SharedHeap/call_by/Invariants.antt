@@ -1,4 +1,4 @@
-use Rattle.heap_shared.specs.Logged.{event_of}
+use Rattle.paced.specs.Logged.{event_of}
 use Rattle.heap_shared.specs.Past.{with_event}
 use Rattle.heap_shared.proofs.shared_heap.SharedHeap.call_by.Given as goal
 

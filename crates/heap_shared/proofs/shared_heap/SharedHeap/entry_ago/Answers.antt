@@ -1,6 +1,6 @@
 use Rattle.std.proofs.Common.{◌≡◌, subst}
 use Rattle.std.specs.Option.{option_map}
-use Rattle.heap_shared.specs.Logged.{event_of}
+use Rattle.paced.specs.Logged.{event_of}
 use Rattle.heap_shared.specs.Ring.{Ringed, entry_ago}
 use Rattle.heap_shared.proofs.Rings.{logged_ago}
 use Rattle.heap_shared.proofs.shared_heap.SharedHeap.entry_ago.Goals as goal

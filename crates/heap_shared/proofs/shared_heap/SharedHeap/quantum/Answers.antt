@@ -2,7 +2,7 @@ use Rattle.std.proofs.Common.{◌≡◌, ◌++◌, [], ◌∷◌, sym, ap, ◌�
 use Rattle.circular_buffer.specs.Buffer.{Buffer, keep_last}
 use Rattle.heap_model.specs.Event.{Event}
 use Rattle.machine.specs.Recorded.{quantum_done}
-use Rattle.heap_shared.specs.declared.logged.Logged.{Logged}
+use Rattle.paced.specs.declared.logged.Logged.{Logged}
 use Rattle.heap_shared.specs.Past.{with_event}
 use Rattle.heap_shared.proofs.Rings.{kept_on}
 use Rattle.heap_shared.proofs.Pasts.{quantum_goes, led_now, goes_by, events_now}

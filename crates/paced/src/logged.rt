@@ -1,7 +1,7 @@
 //! The events of a heap, as a log keeps them.
 ghost use Rattle.std.specs.Prelude.{◌≡◌};
 ghost use Rattle.machine.specs.Recorded.{begin_done, quantum_done};
-ghost use Rattle.heap_shared.specs.Logged.{event_of};
+ghost use Rattle.paced.specs.Logged.{event_of};
 
 use graph_heap::{Command, Reply};
 use heap_model::phase::Phase;
@@ -30,7 +30,7 @@ pub enum Logged {
 impl Logged {
     /// What came of beginning a cycle.
     #[inline(always)]
-    pub(crate) fn from_begin(told: Result<(), Busy>) -> Logged
+    pub fn from_begin(told: Result<(), Busy>) -> Logged
         ensures { event_of result ≡ begin_done told }
     {
         match told {
@@ -41,7 +41,7 @@ impl Logged {
 
     /// What came of a quantum of a budget.
     #[inline(always)]
-    pub(crate) fn from_quantum(budget: u32, told: Result<Spent, BudgetOutOfRange>) -> Logged
+    pub fn from_quantum(budget: u32, told: Result<Spent, BudgetOutOfRange>) -> Logged
         ensures { event_of result ≡ quantum_done budget told }
     {
         match told {

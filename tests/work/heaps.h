@@ -10,7 +10,8 @@ enum { SLOTS = 256, BUDGET = 256, PAGE_WORDS = 2048, HEADER = 4, RECORDS = 64, L
 extern metronome heap;
 
 /* How many times as much each kind of heap has as a quantum of BUDGET units needs. It is 1 unless a program sets it, to
- * 16 at most, for quanta of as many times these units. A kind then takes as many times its pages. */
+ * 16 at most, for quanta of as many times these units. A kind then takes as many times its pages, except that 512 are
+ * enough. */
 extern int scale;
 
 /* Ends with a message if a condition doesn't hold. */

@@ -13,8 +13,10 @@ static const char *const USAGE =
     "or more if a budget needs them. Each heap is made and measured R times (1 to 1000; else 15). The program measures and\n"
     "proves nothing: on another heap a quantum may take longer. Its status is 1 if no budget fits, and 2 for other words.\n";
 
-/* A quantum of MOST_BUDGET units is the longest that is measured: for more no heaps are made. */
-enum { MUTATORS = 64, MOST_PAGES = 4096, MOST_SCALE = 16, MOST_BUDGET = MOST_SCALE * BUDGET, GREATEST = 1000000, TRIES = 6 };
+/* A quantum of MOST_BUDGET units is the longest that is measured: for more no heaps are made. Kinds that take more than
+ * SCALED_PAGES pages have enough for it. */
+enum { MUTATORS = 64, MOST_PAGES = 4096, SCALED_PAGES = 64 };
+enum { MOST_SCALE = 16, MOST_BUDGET = MOST_SCALE * BUDGET, GREATEST = 1000000, TRIES = 6 };
 
 /* The quanta of a phase. `least` is the nanoseconds of the worst quantum, in its shortest run, and `what` the heap on
  * which it is. `most` is the most nanoseconds of any quantum in any run, and `instructions` the most instructions. */
@@ -43,9 +45,8 @@ static void add(struct worst *to, const struct timed *it, const char *what) {
 
 /* Adds the quanta of heaps of a kind, each to the phase in which it begins and to that in which it ends. */
 static void measure_kind(const struct kind *kind, struct measured *all) {
-    long takes = (long)kind->takes * scale;
-    takes = takes > pages ? takes : pages;
-    const int count = time_kind(kind, takes < MOST_PAGES ? (int)takes : MOST_PAGES, MUTATORS, all->budget, (int)runs);
+    const long takes = kind->takes > SCALED_PAGES ? kind->takes : kind->takes * scale;
+    const int count = time_kind(kind, (int)(takes > pages ? takes : pages), MUTATORS, all->budget, (int)runs);
     for (const struct timed *it = timed; it < timed + count; it++) {
         add(&all->of[METRONOME_IDLE], it, kind->what);
         add(&all->of[it->begins], it, kind->what);

@@ -8,7 +8,7 @@ from measured import TOP, instructions
 FOLDER = f"{TOP}/examples/embed/lisp"
 
 # How often each benchmark runs.
-TIMES = {"tak": 5, "deriv": 5000, "destruct": 1, "browse": 1, "div": 500, "fft": 5}
+TIMES = {"tak": 2, "deriv": 2000, "destruct": 1, "browse": 1, "div": 150, "fft": 2}
 
 
 def figures(*words):
@@ -18,18 +18,17 @@ def figures(*words):
     return int(nodes), int(made), float(seconds), float(call), int(memory)
 
 
-def instructions_a_node(bench, program, name):
-    """The instructions of a node, without those at the start of the program."""
-    words = [[program, name, rounds, *(["small"] if bench.short else [])] for rounds in ("2", "1")]
-    more, less = ((instructions(it), figures(*it)[0]) for it in words)
-    return (more[0] - less[0]) / (more[1] - less[1])
+def instructions_a_node(bench, program, name, times):
+    """The instructions of a node."""
+    words = [program, name, *(["1", "small"] if bench.short else [str(times)])]
+    return instructions(words) / figures(*words)[0]
 
 
 def column(bench, program, name, times):
     """The figures of a benchmark on one kind of memory."""
     runs = [figures(program, name, times) for _ in range(3)]
-    call = figures(program, name, times, "calls")[3]
-    each = instructions_a_node(bench, program, name)
+    call = min(figures(program, name, times, "calls")[3] for _ in range(3))
+    each = instructions_a_node(bench, program, name, times)
     return f"{each:.0f}", f"{min(it[2] for it in runs):.2f}", f"{call:.0f}", f"{runs[0][4]:,}"
 
 
@@ -42,8 +41,8 @@ def row(bench, programs, name, times):
 
 def lisp(bench):
     """Six of Gabriel's benchmarks on the Lisp of examples/embed/lisp, on this heap, which keeps a plan, and on libgc if that is
-    installed: the instructions of a node that was evaluated; seconds of processor time, the least of three runs; the longest
-    call of a fourth run that made an object; the most memory that was resident."""
+    installed: the instructions of a node that was evaluated, the start of the program included; seconds of processor time, the
+    least of three runs; the longest call that made an object, the least of three more; the most memory that was resident."""
     sources = sorted(set(glob.glob(f"{FOLDER}/*.c")) - {f"{FOLDER}/recording.c"})
     words = [f'-DFOLDER="{FOLDER}"', *sources, "-lm"]
     kinds = [bench.built("lisp", *words), bench.built("lisp-libgc", *words, "-DLIBGC", "-lgc", may_fail=True)]

@@ -1,6 +1,8 @@
 -- A run of words written at once.
-use Rattle.std.proofs.Common.{◌≡◌, ℕ, ◌+◌, ◌-◌, ◌<◌, ◌≤◌, ◌⊎◌, inl, inr, List, ◌++◌, length, take, drop, get_or, ap, ◌∙◌, sym, arith, append_assoc}
-use Rattle.std.proofs.lemmas.List.{drop_at, get_or-take, get_or-drop, length-take, length-drop, length-take-le}
+use Rattle.std.proofs.Common.{◌≡◌, ℕ, ◌+◌, ◌-◌, ◌<◌, ◌≤◌, ◌⊎◌, inl, inr, List, ◌++◌, length, take, drop, replicate, [], get_or, ap, ◌∙◌, sym, arith, append_assoc}
+use Rattle.std.proofs.lemmas.List.{drop_at, get_or-take, get_or-drop, length-take, length-drop, length-take-le, length-replicate, length-append, append-nil, take-append-le, take-replicate, replicate-append-replicate}
+use Rattle.std.proofs.Math.ListN.{drop_of_length-le}
+use borrow.Rule.Slice.PartMut.{mid_of, put_mid}
 use Rattle.std.proofs.lemmas.Grind.{same_number_lists, common_steps}
 use Rattle.std.proofs.Math.Seq.{take-append-add}
 use Rattle.heap_model.specs.Block.{words_at, spliced}
@@ -40,3 +42,20 @@ words_at-spliced words others a s h fit =
     ap (λ l. take s (drop a l)) (append_assoc (take a words) others rest)
     ∙ ap (take s) (drop_at (take a words) (others ++ rest) a (length-take-le a words h))
     ∙ ap (λ m. take m (others ++ rest)) n ∙ take-append-add others rest (s - length others)
+
+-- two runs of four words that meet, or overlap, are one run
+pub two_runs : (words front back : List ℕ) → 4 ≤ length words → length words - 4 ≤ 4 → front ≡ replicate (length (take 4 words)) 0
+    → back ≡ replicate (length (mid_of (length words - 4) (length (front ++ drop 4 words) - (length words - 4)) (front ++ drop 4 words))) 0
+    → put_mid (length words - 4) (length (front ++ drop 4 words) - (length words - 4)) (front ++ drop 4 words) back ≡ replicate (length words) 0
+two_runs words front back some few f b =
+    let a = length words - 4 in
+    let xs = front ++ drop 4 words in
+    let four : length front ≡ 4 = ap length f ∙ length-replicate {A = ℕ} (length (take 4 words)) 0 ∙ length-take-le 4 words some in
+    let long : length xs ≡ length words = omega (arith, some, four, length-append front (drop 4 words), length-drop 4 words) in
+    let last : length (mid_of a (length xs - a) xs) ≡ 4 = omega (arith, some, long, length-take (length xs - a) (drop a xs), length-drop a xs) in
+    let none : drop (length xs - a) (drop a xs) ≡ [] = drop_of_length-le (drop a xs) (omega (arith, length-drop a xs)) in
+    let before : take a xs ≡ replicate a 0 = take-append-le a front (drop 4 words) (omega (arith, few, four))
+    ∙ ap (take a) f ∙ take-replicate a (length (take 4 words)) 0 (omega (arith, few, length-take-le 4 words some)) in
+    (λ i. before i ++ ((b ∙ ap (λ n. replicate {A = ℕ} n 0) last) i ++ none i))
+    ∙ ap (λ l. replicate {A = ℕ} a 0 ++ l) (append-nil (replicate {A = ℕ} 4 0))
+    ∙ replicate-append-replicate {A = ℕ} a 4 0 ∙ ap (λ n. replicate {A = ℕ} n 0) (omega (arith, some))

@@ -229,12 +229,27 @@ fn begin_block(words: &mut [u64], at: usize, header: u64, identity: u64, cells: 
     );
 }
 
+/// Clears a block. Up to eight words are two runs of four, which may overlap: a run whose length is constant takes no call.
+#[inline(always)]
+fn clear(block: &mut [u64])
+    requires { 4 ≤ length block.old }
+    ensures { block.new ≡ replicate (length block.old) 0 }
+{
+    let last = block.len() - 4;
+    if last <= 4 {
+        block[..4].fill(0);
+        block[last..].fill(0);
+    } else {
+        block.fill(0);
+    }
+}
+
 #[inline(always)]
 fn begin_words(block: &mut [u64], at: u64, header: u64, identity: u64)
     requires { 4 ≤ length block.old }
     ensures { block.new ≡ at ∷ header ∷ identity ∷ 0 ∷ replicate (length block.old - 4) 0 }
 {
-    block.fill(0);
+    clear(block);
     block[0] = at;
     block[1] = header;
     block[2] = identity;

@@ -115,6 +115,7 @@ impl PageTable {
     }
 
     /// Gives a page another record. It was free or of the class, and so it is then.
+    #[inline(always)]
     fn put(&mut self, page: usize, class: Class, row: Option<PageRow>)
         requires page { page < length self.old }
         requires was { OfClass class (row_at self.old page) }

@@ -100,7 +100,9 @@ pub fn sweep_next(heap: &mut HeapFields, page: u32, block: u32, room: u32)
     sweep_blocks(heap, page, block, room);
 }
 
-/// Closes a page whose blocks are all swept, and the free pages right after it for which there is room.
+/// Closes a page whose blocks are all swept, and the free pages right after it for which there is room. It stands apart, so
+/// that the loops over blocks have the registers that they need.
+#[inline(never)]
 fn close_pages(heap: &mut HeapFields, page: u32, block: u32, room: u32)
     requires heap { AreHeapFields heap.old }
     requires phase { heap.old.phase ≡ phases.Sweeping page block }

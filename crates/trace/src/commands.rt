@@ -199,6 +199,7 @@ fn arguments(keyword: Keyword, bytes: &[u8]) -> Option<Command>
 
 /// A command that is a word alone.
 #[tactic(auto, unfolding(crate::specs::Reading::bare_in))]
+#[inline(always)]
 fn bare(version: Version, bytes: &[u8]) -> Option<Command>
     ensures { result ≡ bare_in version bytes.now }
 {
@@ -242,7 +243,7 @@ fn command_of_two(kind: Keyword, other: Keyword, version: Version, bytes: &[u8])
 
 /// The same of the kinds that compare.
 #[tactic(auto, unfolding(crate::specs::Reading::first_keyword_in))]
-#[inline(never)]
+#[inline(always)]
 fn comparing_command(version: Version, bytes: &[u8]) -> Option<Command>
     ensures { result ≡ keyword_or (first_keyword_in comparing bytes.now) (bare_in version bytes.now) }
 {

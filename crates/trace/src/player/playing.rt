@@ -62,7 +62,9 @@ fn next_line<S: Source, K: Sink>(
     }
 }
 
-/// Plays the lines of a source, up to the line of the nth event where there is an n.
+/// Plays the lines of a source, up to the line of the nth event where there is an n. It is written into its callers, which know
+/// the style, so that no line asks for it.
+#[inline(always)]
 fn play_lines<S: Source, K: Sink>(
     n: Option<u32>,
     source: &mut S,
@@ -96,6 +98,7 @@ fn play_lines<S: Source, K: Sink>(
 /// nth event is looked at, and for 0 nothing is read. Where something is written of lines, the sink is flushed before the
 /// source is asked for more. What waits in it at the end is for the caller to flush. What is left is promised all that is
 /// promised of a heap with its history, and space suffices for what is done from a new player.
+#[inline(always)]
 pub fn play_up_to<S: Source, K: Sink>(
     n: Option<u32>,
     source: &mut S,
@@ -120,6 +123,7 @@ pub fn play_up_to<S: Source, K: Sink>(
 }
 
 /// Plays the lines of a source as `play_up_to` does, all of them.
+#[inline(always)]
 pub fn play<S: Source, K: Sink>(
     source: &mut S,
     sink: &mut K,

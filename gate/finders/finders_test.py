@@ -1,7 +1,7 @@
 """A test of the finders: a tree of its own goes in, and what is wrong with it comes out."""
 import tempfile
 
-from finders import citations, imports, lengths, names, paths, sentences, tree
+from finders import citations, english, imports, lengths, names, paths, sentences, tree
 
 DOCUMENT = """# A document
 
@@ -12,7 +12,7 @@ crates/heap/src/gone.rt isn't, heap/src/lib.rt is and heap/specs/Gone.antt isn't
 README = "# `heap`\n\n`step` and `heap` are there, `walk` isn't. specs/Heap.antt is there, proofs/Gone.antt isn't.\n"
 SHORT = "    /// A step_of the heap, and `a_name`.\n    pub fn step(&self) -> u32 {\n        1\n    }\n"
 LINES = "        let it = 1;\n"
-SPECS = """-- What a heap is.
+SPECS = """-- A heap in steps.
 use Prim.{ℕ, List, ◌+◌, ◌-◌, Gone as ℕ-gone, Left as kept}
 use Prim.Maps as maps
 
@@ -48,6 +48,7 @@ def fake():
         "crates/heap/out/made.rt": "fn made_by_a_tool() {}\n" * 500,
         "tests/long": "x\n" * (lengths.MOST_OF_FILE + 1),
         "tests/cases/long.story": "x\n" * (lengths.MOST_OF_FILE + 1),
+        **{path: text for path, (_, text) in ODD.items()},
     }
 
 
@@ -78,6 +79,17 @@ module _ (n : ℕ) where
   last = cited
 """
 
+
+# Files with odd sentences, each with their number, beside plain sentences.
+ODD = {
+    "docs/odd.md": (2, "What is this: of some size?\n\n- Of course it is.\n- Of cells it has\n  two.\n\n"
+                       "| Who asks last waits for its turn. | Who? |\n\n```\nOf code nothing is read.\n```\n"),
+    "crates/heap/src/odd.rt": (1, "//! Of a heap.\n\npub const ONE: &str = \"\n/* Of a text. */\";\n"),
+    "crates/heap/specs/Odd.antt": (2, "-- all pages\n-- but one are free. It has so\n-- many\n\nso-many : of such\n"),
+    "include/odd.h": (3, "/* Where it fails nothing\n * is done. */\nint f(void); /* None but two. Nothing for. */\n// Of it.\n"),
+    "bin/odd": (2, "#!/bin/sh\n# What is read\n# stays so.\n\necho what # Where\n# is `of such`? Of it.\n"),
+    "bin/odd.py": (1, '\"\"\"Has pages.\n\nIt is dear.\n\"\"\"\nOF = "Of it."\n'),
+}
 
 # The findings of each finder there.
 WANTED = {
@@ -125,3 +137,8 @@ def faults():
             found = list(finder.found(top))
             if sorted(found) != sorted(wanted):
                 yield f"{finder.__name__} finds {found}, and is to find {wanted}"
+        count = sum(many for many, _ in ODD.values())
+        for most, wanted in ((0, count), (count, 0), (count + 1, 1)):
+            found = english.found(top, most)
+            if len(found) != wanted:
+                yield f"{english.__name__} finds {found} of {most} odd sentences"

@@ -249,7 +249,7 @@ def keeps(crate):
     # (once a file was touched, nothing more is kept)
     os.utime(f"{crate.folder}/src/lib.rt")
     store.keep(crate, [(other, (CLAUSE, "it"))])
-    return [*good, store.refused(other) == [CLAUSE, "ensures"]]
+    return [*good, store.refused(other) == [CLAUSE, "clause value"]]
 
 
 def guards(crate):

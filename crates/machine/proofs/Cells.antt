@@ -27,12 +27,12 @@ use Rattle.machine.specs.declared.plan.Kind.{Kind}
 use Rattle.machine.specs.declared.plan.Kind.TheVariants as kinds
 use Rattle.machine.specs.Reading.{IsFound, FindsRef, FindsWord, position_in, FindsCell}
 
--- a cell of each kind stands within its part
+-- each cell of a kind stands within its part
 column_within : (n i : ℕ) → i < n → column_in i < part_cells n (part_in n i)
 unfolding part_in column_in
 column_within n i l = (cell_stands n (pieces_of n) (spines_of n) (pieces_are n) (spines_are n) i l).2
 
--- of a plain object all references stand before the words
+-- in a plain object all references stand before the words
 plain_by : (k s refs words i : ℕ) → s ≡ 0 → refs + words ≤ 252 → i < words
     → (if nat_lt (s + i / 252) s then count_by (refs + words) k s (s + i / 252) else min (count_by (refs + words) k s (s + i / 252)) (refs - first_by s (s + i / 252))) + i % 252 < count_by (refs + words) k s (s + i / 252)
 plain_by k s refs words i e few l = grind arith
@@ -44,7 +44,7 @@ plain_within : (refs words i : ℕ) → refs + words ≤ 252 → i < words → w
 unfolding width_in part_in column_in
 plain_within refs words i few l = plain_by (pieces_of (refs + words)) (spines_of (refs + words)) refs words i (no_spine refs words few) few l
 
--- of an array of words no cell of a piece is a reference
+-- in an array of words no cell of a piece is a reference
 no_refs_by : (spine : Bool) (count first : ℕ) → spine ≡ false → (if spine then count else min count (0 - first)) ≡ 0
 no_refs_by true count first e = absurd (cc)
 no_refs_by false count first e = omega arith
@@ -71,7 +71,7 @@ word_within_part (shapes.Plain refs words) i fit l = plain_within refs words i (
 word_within_part (shapes.RefArray n) i fit l = absurd (omega arith)
 word_within_part (shapes.WordArray n) i fit l = sum_less _ _ _ (no_refs_in n i) (column_within (0 + n) i (omega arith))
 
--- what a place tells
+-- the facts that a place gives
 pub place_parts : {A : Type 0} (b c : Bool) (x y : A) → cond b (cond c (Ok x) (Err refusals.BadIndex)) (Err refusals.WrongKind) ≡ Ok y → (b ≡ true) × (c ≡ true) × (x ≡ y)
 place_parts true true x y e = (refl, refl, (cc))
 place_parts true false x y e = absurd (cc)
@@ -124,7 +124,7 @@ module _ (h : HeapState) (g : Graph) (a : Agrees h g) (id : ℕ) (f : Found) (w 
         ∙ ap (part_cells (cells_of o.shape)) part_main.part
 
   module _ (i : ℕ) where
-    -- a cell of a kind, of which the object has n: what its place tells
+    -- a cell of a kind of which the object has n, and the facts that its place gives
     record IsCell (n column : ℕ) (takes : Bool) (place : CellPosition) : Type 0 where
       taken : takes ≡ true
       below : i < n
@@ -203,7 +203,7 @@ module _ (h : HeapState) (g : Graph) (a : Agrees h g) (id : ℕ) (f : Found) (w 
           let l : i < word_cells o.shape = subst (λ z. i < z) (a.given id w.reaches).cells.words word_there.below in
           (word_at_is, (w.reaches, record { below = word_there.below; main = copy_main h (block_of h.store (cells_of f.shape) f.block place.part) _ word_there.main; index = word_column; within = word_there.within (word_within_part o.shape i few l) whole }))
 
-    -- the graph heap refuses as the place does
+    -- if there is no place, the graph heap refuses the command for the same reason
     ref_refused : (e : Refusal) → ref_position f.shape i ≡ Err e → ref_at g.objects id i ≡ Err e
     ref_refused e at =
         let n : length o.refs ≡ ref_cells f.shape = (a.given id w.reaches).cells.refs ∙ ap ref_cells (sym w.shape) in
@@ -216,7 +216,7 @@ module _ (h : HeapState) (g : Graph) (a : Agrees h g) (id : ℕ) (f : Found) (w 
         ap (λ z. z >>= λ o. word_cell o i) w.object
         ∙ refused_by (takes_words o.shape) (takes_words f.shape) (nat_lt i (length o.words)) (nat_lt i (word_cells f.shape)) (get_or o.words i 0) _ e (ap takes_words (sym w.shape)) (ap (nat_lt i) n) at
 
-    -- of either kind
+    -- a cell of either kind
     pub cell_below : (kind : Kind) (place : CellPosition) → position_in kind f.shape i ≡ Ok place → place.part < count_of o
     cell_below kinds.Ref place at = (ref_there place at).part
     cell_below kinds.Word place at = (word_there place at).part
@@ -230,7 +230,7 @@ module _ (h : HeapState) (g : Graph) (a : Agrees h g) (id : ℕ) (f : Found) (w 
     cell_refused kinds.Ref e at = ref_refused e at
     cell_refused kinds.Word e at = word_refused e at
 
--- an object that isn't there has no cell
+-- a missing object has no cell
 pub no_cell : (h : HeapState) (g : Graph) (kind : Kind) (id i : ℕ) (e : Refusal) → object_at g.objects id ≡ Err e → FindsCell h g kind id i (Err e)
 no_cell h g kinds.Ref id i e none = ap (λ z. z >>= λ o. ref_cell o i) none
 no_cell h g kinds.Word id i e none = ap (λ z. z >>= λ o. word_cell o i) none

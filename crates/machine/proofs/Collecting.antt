@@ -32,12 +32,12 @@ pub begun_agrees : (h : HeapState) (w : IsHeap h) → h.phase ≡ phases.Idle �
 begun_agrees h w e g a =
     agrees_alike (begun h) w.present g (consistent_agrees (begun h) w.present w.present (represents_begun h w.present w.snapshot w.represents e).consistent) (told h w.present g (present_agrees h w) a)
 
--- after actions the heap agrees with what it agreed with
+-- after actions the heap agrees with the same graph heaps
 pub chain_agrees : (h after : HeapState) → IsHeap h → (units : ℕ) → Chain h units after → (g : Graph) → Agrees h g → Agrees after g
 chain_agrees h after w units chain g a =
     agrees_alike after w.present g (consistent_agrees after w.present w.snapshot (represents_chain h after units w.present w.snapshot w.represents chain).consistent) (told h w.present g (present_agrees h w) a)
 
--- actions were done within a budget, and cost what the units rose by
+-- the actions were done within a budget, and their cost is the rise of the units
 pub record HasSpent (a b : HeapFields) (budget : ℕ) : Type 0 where
   pub more : a.units ≤ b.units
   pub within : b.units ≤ a.units + budget
@@ -74,7 +74,7 @@ module _ (a b d : HeapFields) (budget : ℕ) (s : HasSpent a b budget) where
         omega (arith, units, some),
       )
 
-  -- a turn ends where nothing is left of its budget, or where the next action doesn't fit in what is left
+  -- a turn ends if nothing is left of its budget, or if the next action doesn't fit in the rest
   pub spent_all : a.units + budget ≤ b.units → QuantumSpends (state_of a) budget (state_of b) (b.units - a.units)
   spent_all all = record {
     chain = s.chain;
@@ -109,7 +109,7 @@ chain_relinked h s after u l (Then v cost j k linked chain links action) = elim 
   | inr c ↦ inr (Then v cost j after linked c links action)
 ]
 
--- and so is a turn, in roots and marking
+-- the same holds of a turn, in roots and marking
 pub turn_relinked : (h : HeapState) (s : Store) (after : HeapState) (budget spent : ℕ) → Relinks h.store s → records h.phase ≡ true → 256 ≤ budget → ArePages after.store.pages → QuantumSpends (record h { store = s }) budget after spent → QuantumSpends h budget after spent
 turn_relinked h s after budget spent l on low pages t = elim (chain_relinked h s after spent l t.chain) [
   | inl z ↦ absurd (elim (turn_left (record h { store = s }) after budget spent pages t) [

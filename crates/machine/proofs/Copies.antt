@@ -36,11 +36,11 @@ old_true s b l f = rw l (other_number (record_of s b).forward b f)
 same_blocks : (s : Store) → KeepsBlocks s s
 same_blocks s = record { allocated = λ b. refl; nodes = λ b l. refl }
 
--- a reference before the place of the page that is being emptied was gone past, and no other of that page
+-- in the page that is being emptied, exactly the references before the place are past
 here_left : (pages : List (Option Page)) (page x : ℕ) (r b : Bool) → (x - 1) / 2048 ≡ page → r ≡ b → (if (x - 1) / 2048 == page then r else is_evacuating (page_of pages x)) ≡ b
 here_left pages page x r b s t = let f : ((x - 1) / 2048 == page) ≡ true = at_number ((x - 1) / 2048) page s in rw f t
 
--- what is moved next is a main copy
+-- the next block to be moved is a main copy
 module _ (h : HeapState) (present snapshot : Graph) (class page block chosen i : ℕ) (p : Page) (w : Represents h present snapshot) (e : h.phase ≡ phases.Moving (moves.Emptying class page block chosen)) (at : page_at h.store.pages page ≡ Some p) (next : IsNext p block i) where
   abbrev a : ℕ
   a = address_of p.class page i

@@ -31,7 +31,7 @@ pub runs_then : (es fs : List done.Event) (r s new : Course) → Runs r es s →
 runs_then [] fs r s new w v = subst (λ (x : Course). Runs x fs new) w v
 runs_then (e ∷ es) fs r s new w v = (w.0, w.1, runs_then es fs w.0 s new w.2 v)
 
--- each was asked for so
+-- each event has its request
 pub begin_asked : (a : Event) (result : Result (Unit {0}) Busy) → a ≡ events.Begin → a ≡ asked (begin_done result)
 begin_asked a (Ok done) e = e
 begin_asked a (Err busy) e = e
@@ -49,7 +49,7 @@ refused_front r new es (Err e) w f = f
 pub refused_one : (r new : Course) (m : ℕ) (c : Command) (a : Event) → a ≡ events.Command m c → new ≡ r → (result : Result (Unit {0}) NoMemory) → IsErr result → RunsFront r (a ∷ []) new result
 refused_one r new m c a is same result w = refused_front r new (a ∷ []) result w ([], m, c, [], same, ap (λ x. x ∷ []) is)
 
--- the first events of a list are done, and there is memory for no fewer of the commands behind them
+-- the first events of a list are done, and there is memory for at least as many of the commands after them
 pub record SoFar (old new : RecordedHeap) (es : List Event) : Type 0 where
   pub front : List done.Event
   pub runs : Runs old.course front new.course
@@ -94,12 +94,12 @@ module _ (old mid new : RecordedHeap) (xs : List Event) (i : ℕ) (d : Event) (b
         ∙ sym (append_assoc (map asked so.front) (map asked w.0) (events.Command w.1 w.2 ∷ (w.3 ++ drop (i + 1) xs))) ∙ ap (λ ys. ys ++ events.Command w.1 w.2 ∷ (w.3 ++ drop (i + 1) xs)) (sym (map-append asked so.front w.0)),
   )
 
-  -- memory isn't refused where there is enough
+  -- memory isn't refused if there is enough
   pub more_room : (commands_in (e ∷ []) ≤ mid.room → ⊥) → commands_in xs ≤ old.room → ⊥
   more_room none enough =
       none (let a = so.left in let b = ap commands_in whole ∙ commands_append (take i xs) (e ∷ [] ++ drop (i + 1) xs) in let c = commands_append (e ∷ []) (drop (i + 1) xs) in omega arith)
 
--- behind a cycle that has begun, quanta suffice
+-- after a cycle has begun, quanta suffice
 pub ends_soon : (old start : Course) → IsCourse old → Begins old start → EndsSoon start
 ends_soon old start w b k es new great d budgets m =
     let phase : start.heap.phase ≡ phases.Roots 0 = ap (λ (z : HeapState). z.phase) b.heap in

@@ -1,4 +1,4 @@
--- A change done: the heap represents the graph heap after it, and each that it agreed with.
+-- A change done: the heap represents the graph heap after it, and agrees with each with which it agreed before.
 use Rattle.std.proofs.Common.{◌≡◌, ℕ, ◌+◌, ◌*◌, ◌<◌, ◌≤◌, ◌^◌, Bool, true, false, ◌==◌, if◌then◌else◌, length, ap, ◌∙◌, sym, subst, refl, inl, inr, arith}
 use Rattle.std.proofs.Math.Nat.{mul-le-mul_right}
 use Rattle.graph_heap.specs.declared.command.Change.{Change}
@@ -27,7 +27,7 @@ use Rattle.machine.specs.declared.plan.Write.TheVariants as writes
 pub present_agrees : (h : HeapState) (w : IsHeap h) → Agrees h w.present
 present_agrees h w = consistent_agrees h w.present w.snapshot w.represents.consistent
 
--- what is known of the value t for each graph heap, of the fields h at present
+-- a fact about the value t and each graph heap holds of the fields h and the present graph heap
 pub at_present : (P : HeapState → Graph → Type 0) (h t : HeapState) → h ≡ t → (w : IsHeap h) → ((g : Graph) → Agrees t g → P t g) → P h w.present
 at_present P h t is w known = subst (λ (x : HeapState). (g : Graph) → Agrees x g → P x g) (sym is) known w.present (present_agrees h w)
 
@@ -58,7 +58,7 @@ leave_within h m row low =
     let f : (m + 1) * h.limits.slots ≡ m * h.limits.slots + h.limits.slots = grind arith in
     omega arith
 
--- the change of a planned write is one of what is there
+-- the change of a planned write names only roots and objects that exist
 pub founded : (h : HeapState) (g : Graph) → Agrees h g → length h.roots ≡ root_cells h.limits → (c : Change) (w : Write) → IsPlanned h g c w → IsFounded g c
 founded h g a row c writes.Nothing p = subst (λ (x : Change). IsFounded g x) (sym p) tt
 founded h g a row c (writes.Root cell x) p = subst (λ (x : Change). IsFounded g x) (sym p.1) (subst (λ n. cell < n) a.roots p.2, p.3)
@@ -69,7 +69,7 @@ founded h g a row c (writes.Join m) p = subst (λ (x : Change). IsFounded g x) (
 founded h g a row c (writes.Leave m) p =
     subst (λ (x : Change). IsFounded g x) (sym p.0) (subst (λ n. first_slot g.limits m + g.limits.slots ≤ n) a.roots (subst (λ (l : Limits). first_slot l m + l.slots ≤ length h.roots) a.limits (leave_within h m row p.1)))
 
--- what is planned for one graph heap is for each that can't be told from it
+-- a plan for one graph heap is a plan for each that no reply tells apart from it
 known_alike : (f g : Graph) → IsAlike f g → (id : ℕ) → IsKnown f id → IsKnown g id
 known_alike f g a id k = elim k [ inl e ↦ inl e | inr r ↦ inr (alike_back g f (alike_sym f g a) id r) ]
 
@@ -97,7 +97,7 @@ module _ (h after : HeapState) (w : IsHeap h) (c : Change) (is_founded : IsFound
     small = subst (λ n. n < 2 ^ 41) (sym left.limit) w.small;
   }
 
-  -- it agrees with each graph heap after the change, with which it agreed
+  -- it agrees with each graph heap after the change, if it agreed with that before
   pub agrees_after : (g : Graph) → Agrees h g → Agrees after (changed g c)
   agrees_after g a =
       each_changed h after w.present g c (present_agrees h w) a is_founded (consistent_agrees after (changed w.present c) w.snapshot represents_after.consistent)

@@ -1,4 +1,4 @@
--- What the graph heap does, from what was found.
+-- The effect of a command on the graph heap, from the object and the cell that were found.
 use Rattle.std.proofs.Common.{◌≡◌, ◌≢◌, ℕ, Bool, true, false, cond, eqb, get_or, Result, Ok, Err, ap, ◌∙◌, sym}
 use Rattle.std.proofs.lemmas.Bool.{ne_eqb, eq-eqb}
 use Rattle.graph_heap.specs.declared.command.Refusal.{Refusal}
@@ -19,7 +19,7 @@ use Rattle.machine.specs.Reading.{Names, IsFound, FindsRef, FindsWord}
 abbrev Done : Type 0
 Done = Result (Reply × Change) Refusal
 
--- a comparison, of what is named
+-- a comparison of two referents
 same_by : (x y x' y' : ℕ) (b : Bool) → x ≡ x' → y ≡ y' → eqb x' y' ≡ b → eqb x y ≡ b
 same_by x y x' y' b ex ey e = ap (λ k. eqb k y) ex ∙ ap (eqb x') ey ∙ e
 
@@ -39,7 +39,7 @@ module _ (h : HeapState) (g : Graph) (a : Agrees h g) (m : ℕ) where
   abbrev root : ℕ → ℕ
   root j = get_or g.roots j 0
 
-  -- what a reference cell, or a word cell, of the object in a root holds
+  -- the content of a reference cell, or of a word cell, of the object in a root
   abbrev ref_in : ℕ → ℕ → ℕ
   ref_in r i = get_or (object_of g.objects (root r)).refs i 0
 
@@ -65,11 +65,11 @@ module _ (h : HeapState) (g : Graph) (a : Agrees h g) (m : ℕ) where
       → admitted_effect true g m (commands.Store obj i src) ≡ Ok (replies.Done, changes.Ref (root r) i (root s))
   store_effect obj i src r s at er es w = store_as obj i src r s (Ok (ref_in r i)) er es w.0
 
-  -- the cell that would be written isn't there
+  -- the cell to be written doesn't exist
   pub store_refused : (obj i src r s : ℕ) (e : Refusal) → Ok r ≡ slot_at h.limits m obj → Ok s ≡ slot_at h.limits m src → FindsRef h g (root r) i (Err e) → admitted_effect true g m (commands.Store obj i src) ≡ Err e
   store_refused obj i src r s e er es w = store_as obj i src r s (Err e) er es w
 
-  -- the cell that would be compared isn't there
+  -- the cell to be compared doesn't exist
   pub compare_refused : (obj i expect new r e s : ℕ) (refusal : Refusal) → Ok r ≡ slot_at h.limits m obj → Ok e ≡ slot_at h.limits m expect → Ok s ≡ slot_at h.limits m new → FindsRef h g (root r) i (Err refusal)
       → admitted_effect true g m (commands.CompareStore obj i expect new) ≡ Err refusal
   compare_refused obj i expect new r e s refusal er ee es w =

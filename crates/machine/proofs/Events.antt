@@ -1,4 +1,4 @@
--- What a call does to a heap is one event.
+-- A call of a heap does one event.
 use Rattle.std.proofs.Common.{◌≡◌, ℕ, ◌∷◌, ◌++◌, [], Ok, Err, length, refl, sym}
 use Rattle.std.specs.Prelude.{Result}
 use Rattle.graph_heap.specs.declared.command.Command.{Command}

@@ -16,7 +16,7 @@ use Rattle.machine.specs.declared.plan.Kind.TheVariants as kinds
 use Rattle.machine.specs.Reading.{CanReach, position_in}
 use Rattle.machine.proofs.Cells.{no_refs_in, place_parts}
 
--- what is known of a place in an array of n cells
+-- facts about a place in an array of n cells
 pub record StandsIn (s : Shape) (n i : ℕ) (place : CellPosition) : Type 0 where
   pub few : n ≤ ARRAY_CELLS
   pub below : i < n

@@ -1,4 +1,4 @@
--- What a root or a cell holds, found by way of its reference.
+-- The content of a root or a cell, found through its reference.
 use Rattle.std.proofs.Common.{◌==◌, Bool, ◌≡◌, ◌≢◌, ℕ, ◌+◌, ◌-◌, ◌<◌, ◌≤◌, true, false, cond, eqb, List, length, get_or, inr, Ok, Err, ap, ◌∙◌, sym, subst, arith, refl}
 use Rattle.std.specs.Prelude.{slice_get}
 use Rattle.std.proofs.lemmas.Bool.{ne_eqb}
@@ -38,7 +38,7 @@ object_at-given xs id some h =
 positive : (n : ℕ) → (n ≡ 0 → ⊥) → 0 < n
 positive n e = grind arith
 
--- what a reference names, from what it reads as
+-- the object that a reference names, from its reading
 module _ (h : HeapState) (x n : ℕ) (r : Reads (seen h) x (name_of n)) where
   abbrev Resolved : ℕ → Type 0
   Resolved y = (n ≡ (referent_of h.store y).identity) × IsMain (seen h) (referent_of h.store y).reference (name_of n)
@@ -77,14 +77,14 @@ module _ (h : HeapState) (g : Graph) (a : Agrees h g) (root : ℕ) (below : root
   pub root_known : IsKnown g (get_or g.roots root 0)
   root_known = known_root g root (subst (λ n. root < n) a.roots below)
 
--- what a root holds, of the value t as which the heap h is seen
+-- the referent of a root, of the value t as which the heap h is seen
 pub root_names : (h t : HeapState) → h ≡ t → (root x : ℕ) → root < length t.roots → x ≡ get_or h.roots root 0 → (r : Referent) → r ≡ referent_of h.store x → (g : Graph) → Agrees t g → Names t g (get_or g.roots root 0) r
 root_names h t is root x below get r named g a =
     let a' = subst (λ (y : HeapState). Agrees y g) (sym is) a in
     let below' = subst (λ (y : HeapState). root < length y.roots) (sym is) below in
     subst (λ (y : HeapState). Names y g (get_or g.roots root 0) r) is (names_by h g x _ r (reads_root h g a' root below' x get) (root_known h g a' root below') named)
 
--- the main copy of what isn't null isn't
+-- a reference that isn't null leads to a main copy that isn't
 pub followed_some : (s : Store) (x : ℕ) (r : Referent) → x ≢ 0 → r ≡ referent_of s x → r.reference ≢ 0
 followed_some s x r some named null =
     let main : r.reference ≡ (record_of s (x - 1)).forward + 1 =
@@ -99,7 +99,7 @@ null_object h g id r n z =
     let e : id ≡ 0 = sym (ap (λ (z : Name). z.identity) m.name) in
     ap (object_at g.objects) e
 
--- what is not null is an object, in its main copy
+-- a reference that isn't null leads to an object, by its main copy
 module _ (h : HeapState) (w : IsHeap h) (r : Referent) (some : r.reference ≢ 0) where
   abbrev block : ℕ
   block = r.reference - 1

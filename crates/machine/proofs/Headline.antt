@@ -1,4 +1,4 @@
--- What is promised of a heap with its history holds, whatever comes.
+-- The promises of a heap with its history hold, whatever events are done.
 use Rattle.std.proofs.Common.{◌≡◌, List, [], ◌∷◌, ◌++◌, ap, sym, ◌∙◌}
 use Rattle.std.proofs.lemmas.List.{append_assoc, append-nil}
 use Rattle.graph_heap.specs.declared.command.Entry.{Entry}

@@ -1,4 +1,4 @@
--- Who may ask, and a mutator that joins or leaves.
+-- Admission, and a mutator that joins or leaves.
 use Rattle.std.proofs.Common.{◌≡◌, ◌≢◌, ℕ, suc, ◌+◌, ◌<◌, ◌≤◌, Bool, true, false, if◌then◌else◌, List, [], ◌∷◌, ◌++◌, length, get_or, set, ap, ◌∙◌, sym, subst, refl, arith, Result, inl, length-set}
 use Rattle.std.proofs.lemmas.List.{get_or-set_other}
 use Rattle.graph_heap.specs.declared.command.Command.{Command}
@@ -25,7 +25,7 @@ use Rattle.machine.specs.declared.plan.Write.TheVariants as writes
 use Rattle.machine.proofs.Doing.{present_agrees}
 use Rattle.machine.proofs.Writing.{count_after}
 
--- the graph heap admits what the heap does
+-- the graph heap admits the same commands as the heap
 module _ (h : HeapState) (g : Graph) (a : Agrees h g) (m : ℕ) (c : Command) where
   same_admission : admitted g m c ≡ admitted_to h.limits h.live m (is_join c)
   same_admission = ap (λ (l : Limits). admitted_to l g.live m (is_join c)) (sym a.limits) ∙ ap (λ z. admitted_to h.limits z m (is_join c)) (sym a.live)
@@ -33,7 +33,7 @@ module _ (h : HeapState) (g : Graph) (a : Agrees h g) (m : ℕ) (c : Command) wh
   pub effect_is : (r : Result (Unit {0}) Refusal) → r ≡ admitted_to h.limits h.live m (is_join c) → effect_of (room_for h c) g m c ≡ (r >>= λ ok. admitted_effect (room_for h c) g m c)
   effect_is r is = ap (λ (x : Result (Unit {0}) Refusal). x >>= λ ok. admitted_effect (room_for h c) g m c) (same_admission ∙ sym is)
 
--- what a root that gets null does
+-- the effect of setting a root to null
 null_does : (h after : HeapState) (g : Graph) (cell id : ℕ) → id ≡ 0 → Agrees h g → DoesChange h g (changes.Root cell id) after → (k : HeapState) × Records h (get_or h.roots cell 0) k × (after ≡ record k { roots = set k.roots cell 0 })
 null_does h after g cell id e a (Does_root cell0 id0 y k r i) =
     let null : y ≡ 0 = a.null y (subst (λ z. IsMain (seen h) y (name_of z)) e i) in
@@ -60,15 +60,15 @@ clears_row h first n k (Clears_next n0 j k0 c r) =
     let s = records_stay j k0 _ r in
     (length-set k0.roots (first + n0) 0 ∙ ap length s.roots ∙ w.0, s.limits ∙ w.1)
 
--- the root that is next
+-- the next root
 pub next_within : (h j : HeapState) (first n count : ℕ) → Clears h first n j → first + count ≤ length h.roots → n < count → first + n < length j.roots
 next_within h j first n count c l below = let row = (clears_row h first n j c).0 in omega (arith, row, l, below)
 
--- a mutator that may join or leave is one that there is
+-- a mutator that may join or leave exists
 pub leaver_low : (h : HeapState) → IsHeap h → (m : ℕ) → CanPerform h (writes.Leave m) → m < h.limits.mutators
 leaver_low h heap m can = (can heap.present (present_agrees h heap)).1.1
 
--- as many slots as limits say are those of the mutator
+-- the number of slots cleared is that of the limits
 pub slots_cleared : (h k : HeapState) (l : Limits) (m : ℕ) → l ≡ h.limits → Clears h (first_slot l m) l.slots k → Clears h (first_slot h.limits m) h.limits.slots k
 slots_cleared h k l m e c = subst (λ (x : Limits). Clears h (first_slot x m) x.slots k) e c
 
@@ -79,7 +79,7 @@ pub leave_does : (h k : HeapState) (m : ℕ) → Clears h (first_slot h.limits m
 leave_does h k m c g change a p =
     subst (λ (z : Change). DoesChange h g z (record k { live = set k.live m false })) (sym p.0) (Does_leave m k (subst (λ (l : Limits). Clears h (first_slot l m) l.slots k) a.limits c))
 
--- none but the mutator's own buffer changes
+-- only the mutator's own buffer changes
 pub own_none : (m : ℕ) (grey : GreySet) → AreOwn m grey grey
 own_none m grey = (refl, λ k ne. refl)
 

@@ -32,7 +32,7 @@ fits_by o false p e w = absurd (contrary o (w.1 refl))
 pub cells_by : (o : Option ℕ) (cells p : ℕ) → o ≡ Some p → IfSome o (λ x. x ≡ cells) → p ≡ cells
 cells_by o cells p e w = subst (λ x. IfSome x (λ y. y ≡ cells)) e w
 
--- the room that was tested is that of the shape
+-- the tested room is that for the shape
 pub room_by : (pages : List (Option Page)) (shape : Shape) (parts : ℕ) → parts ≡ cells_of shape → has_room pages (blocks_needed parts (parts_in parts)) ≡ has_room pages (needed shape)
 room_by pages shape parts e = ap (λ n. has_room pages (blocks_needed n (parts_in n))) e
 

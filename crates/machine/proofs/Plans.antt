@@ -1,4 +1,4 @@
--- Plans, from what was found.
+-- Plans, from the object and the cell that were found.
 use Rattle.std.proofs.Common.{◌≡◌, ◌≢◌, ℕ, ◌<◌, length, Ok, inl, inr, sym, subst, refl}
 use Rattle.graph_heap.specs.declared.command.Command.{Command}
 use Rattle.graph_heap.specs.declared.command.Reply.{Reply}
@@ -17,7 +17,7 @@ use Rattle.machine.specs.Reading.{Names, FindsRef, FindsWord}
 use Rattle.heap_model.specs.Event.{room_for}
 use Rattle.machine.specs.Plan.{IsPlanned, PlansBy, Compares}
 
--- what is known of the fields h, of the value t
+-- facts about the fields h, from those about the value t
 module _ {h t : HeapState} (is : h ≡ t) where
   pub placed : (m s d : ℕ) → Ok d ≡ slot_at h.limits m s → Ok d ≡ slot_at t.limits m s
   placed m s d e = subst (λ (x : HeapState). Ok d ≡ slot_at x.limits m s) is e

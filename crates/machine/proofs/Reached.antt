@@ -1,5 +1,5 @@
--- The cells of an object that was found, as the code knows them: of the value t as which the fields h
--- are seen.
+-- The cells of an object that was found, by the facts that the code has: those about the value t as which the fields
+-- h are seen.
 use Rattle.std.proofs.Common.{◌≡◌, ◌≢◌, ℕ, ◌<◌, true, get_or, Ok, sym, subst}
 use Rattle.graph_heap.specs.Shape.{fits}
 use Rattle.graph_heap.specs.Graph.{Graph, object_of}
@@ -17,7 +17,7 @@ use Rattle.machine.proofs.Doing.{present_agrees, at_present}
 use Rattle.machine.proofs.Cells.{parts_below, spine_refers, part_refers, cell_below, found_cell}
 
 module _ (h t : HeapState) (is : h ≡ t) (w : IsHeap h) (root i : ℕ) (f : Found) (finds : (g : Graph) → Agrees t g → IsFound t g (get_or g.roots root 0) f) where
-  -- of each graph heap
+  -- for each graph heap
   agrees_here : (g : Graph) → Agrees t g → Agrees h g
   agrees_here g a = subst (λ (x : HeapState). Agrees x g) (sym is) a
 

@@ -1,4 +1,4 @@
--- What was planned, settled: the reply, the change and the graph heap after it.
+-- A plan, settled: the reply, the change and the graph heap after it.
 use Rattle.std.proofs.Common.{◌≡◌, ℕ, Bool, List, ◌∷◌, ◌++◌, [], Result, Ok, Err, ◌∙◌, sym, subst, ap, refl}
 use Rattle.graph_heap.specs.declared.command.Command.{Command}
 use Rattle.graph_heap.specs.declared.command.Refusal.{Refusal}
@@ -17,13 +17,13 @@ use Rattle.machine.specs.Plan.{PlansBy, planned_reply, IsPlan, CanPerform, CanCo
 use Rattle.machine.proofs.Live.{effect_is}
 use Rattle.machine.proofs.Writing.{Performs}
 
--- what isn't refused is written
+-- a plan that isn't a refusal is committed by its write
 pub commits_ok : (h : HeapState) (p : Planned) (after : HeapState) → Performs h p.write after → CommitsEach h (Ok p) p.reply after
 commits_ok h p after performs g done a plan =
     let does = performs g plan.0 a plan.2 in
     subst (λ (d : Result (Reply × Change) Refusal). Commits h g d p.reply after) (sym plan.1) (record { reply = refl; change = does.0; agrees = does.1 })
 
--- and can be written
+-- its write can be done
 pub can_write : (h : HeapState) (p : Planned) → CanCommit h (Ok p) → CanPerform h p.write
 can_write h p can g a = let d = can g a in (d.1.0, d.1.2)
 
@@ -32,7 +32,7 @@ pub commits_err : (h : HeapState) (e : Refusal) → CommitsEach h (Err e) (repli
 commits_err h e g done a plan =
     subst (λ (d : Result (Reply × Change) Refusal). Commits h g d (replies.Refused e) h) (sym plan) (record { reply = refl; change = Does_nothing; agrees = a })
 
--- a plan has the reply of what the graph heap does
+-- the reply of a plan is that of the graph heap
 reply_planned : (h : HeapState) (g : Graph) (done : Result (Reply × Change) Refusal) (planned : Result Planned Refusal) → PlansBy h g done planned → planned_reply planned ≡ (settled done).0
 reply_planned h g done (Ok p) plan = sym (ap (λ (d : Result (Reply × Change) Refusal). (settled d).0) plan.1)
 reply_planned h g done (Err e) plan = sym (ap (λ (d : Result (Reply × Change) Refusal). (settled d).0) plan)
@@ -41,7 +41,7 @@ steps_by : (h : HeapState) (m : ℕ) (c : Command) (told : Reply) (after : HeapS
 unfolding reply_of next_of
 steps_by h m c told after s = record { reply = λ g a. (s g a).reply; agrees = λ g a. (s g a).agrees; does = λ g a. (s g a).change }
 
--- what each graph heap refuses is refused
+-- a command is refused if each graph heap refuses it
 pub refused_each : (h : HeapState) (m : ℕ) (c : Command) (e : Refusal) → ((g : Graph) → Agrees h g → effect_of (room_for h c) g m c ≡ Err e) → Steps h m c (replies.Refused e) h
 refused_each h m c e refuses =
     steps_by h m c (replies.Refused e) h (λ g a. subst (λ (d : Result (Reply × Change) Refusal). Commits h g d (replies.Refused e) h) (sym (refuses g a)) (commits_err h e g (Err e) a refl))

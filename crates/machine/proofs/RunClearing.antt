@@ -27,7 +27,7 @@ use Rattle.machine.proofs.Live.{null_can, clears_row}
 use Rattle.machine.proofs.Replying.{admitted_steps, refused_each, commits_ok}
 use Rattle.machine.proofs.Writing.{performs, stays_heap, root_does}
 
--- recording leaves who is live
+-- recording leaves the live mutators as they are
 shades_live : (h k : HeapState) (x : ℕ) → Shades h x k → k.live ≡ h.live
 shades_live h k x (Was_marked e) = refl
 shades_live h k x (Is_marked new front back is e w) = refl
@@ -40,7 +40,7 @@ clears_live : (h : HeapState) (first n : ℕ) (k : HeapState) → Clears h first
 clears_live h first n k Clears_none = refl
 clears_live h first n k (Clears_next n0 j k0 c r) = records_live j k0 _ r ∙ clears_live h first n0 j c
 
--- where a slot stands
+-- the place of a slot
 slot_parts : (l : Limits) (m s root : ℕ) → slot_at l m s ≡ Ok root → (m < l.mutators) × (s < l.slots) × (root ≡ m * l.slots + s)
 slot_parts l m s root e = by_case (nat_lt m l.mutators) (nat_lt s l.slots) refl refl e
   where
@@ -94,7 +94,7 @@ module _ (h : HeapState) (w : IsHeap h) (m s root : ℕ) (ok : Unit {0}) (admitt
   clears_each : (n : ℕ) (k : HeapState) → Clears h root n k → s + n ≤ h.limits.slots → StepsEach h m (λ i. commands.Clear (s + i)) (λ i. replies.Done) n k
   clears_each n k c l = (clears_from n k c l).1
 
--- where the first slot can't be cleared
+-- the first slot can't be cleared
 cut_short : {A B : Type 0} (x : Result (Unit {0}) Refusal) (y : Result ℕ Refusal) (f : ℕ → A) (k : ℕ → B) (e : Refusal) → (x >>= λ ok. y >>= λ r. Ok (f r)) ≡ Err e → (x >>= λ ok. y >>= λ r. Ok (k r)) ≡ Err e
 cut_short (Ok ok) (Ok r) f k e is = absurd (cc)
 cut_short (Ok ok) (Err why) f k e is = let same : why ≡ e = cc in ap Err same
@@ -121,11 +121,11 @@ no_slot l live m first ok e admitted none =
     ap (λ (x : Result (Unit {0}) Refusal). x >>= λ b. slot_at l m first >>= λ r. Ok (l.slots - first)) admitted
     ∙ ap (λ (x : Result ℕ Refusal). x >>= λ r. Ok (l.slots - first)) none
 
--- no more slots are cleared than there are
+-- at most as many slots are cleared as there are
 row_within : (l : Limits) (m s root n : ℕ) → slot_at l m s ≡ Ok root → n ≤ l.slots - s → s + n ≤ l.slots
 row_within l m s root n place few = let p = slot_parts l m s root place in let small = p.1 in omega (arith, small, few)
 
--- as many slots are cleared as were wanted, of the heap that is seen as the value t
+-- the number of slots cleared is that requested, of the heap that is seen as the value t
 pub row_clears : (h t : HeapState) → h ≡ t → IsHeap h → (m s root : ℕ) (ok : Unit {0}) → admitted_to h.limits h.live m false ≡ Ok ok → slot_at h.limits m s ≡ Ok root
     → (n : ℕ) → n ≤ h.limits.slots - s → (k : HeapState) → Clears h root n k → StepsEach t m (λ i. commands.Clear (s + i)) (λ i. replies.Done) n k
 row_clears h t is w m s root ok admitted place n few k c =

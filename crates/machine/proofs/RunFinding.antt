@@ -28,7 +28,7 @@ use Rattle.machine.proofs.Doing.{present_agrees}
 use Rattle.machine.proofs.Replying.{refused_each}
 use Rattle.machine.proofs.Runs.{takes_here, row_shape, row_length, row_cell, row_alike}
 
--- where no run is, the same refusal stands for each command that begins with the same tests
+-- if there is no run, each command that begins with the same tests is refused for the same reason
 cut_short : {A B : Type 0} (x : Result (Unit {0}) Refusal) (y : Result ℕ Refusal) (z : ℕ → Result ℕ Refusal) (f : ℕ → A) (k : ℕ → ℕ → B) (e : Refusal)
     → (x >>= λ ok. y >>= λ r. z r >>= λ v. Ok (f r)) ≡ Err e → (x >>= λ ok. y >>= λ r. z r >>= λ v. Ok (k r v)) ≡ Err e
 cut_short (Ok ok) (Ok r) z f k e is = by_last (z r) is
@@ -51,7 +51,7 @@ module _ (h : HeapState) (m obj first : ℕ) (e : Refusal) (refused : (g : Graph
   put_refused word = refused_each h m (commands.Put obj first word) e (λ g a. cut_short (admitted_to g.limits g.live m false) (slot_at g.limits m obj) (λ r. word_at g.objects (get_or g.roots r 0) first)
       (λ r. words_from (object_of g.objects (get_or g.roots r 0)).shape first) (λ r v. (let x : Reply × Change = (replies.Done, changes.Word (get_or g.roots r 0) first word) in x)) e (refused g a))
 
--- the same of a run
+-- so is a run of such commands
 module _ (h : HeapState) (m obj first : ℕ) (result : Result ℕ Refusal) (y e : Refusal) (is : result ≡ Err y) (same : y ≡ e) (refused : (g : Graph) → Agrees h g → Err e ≡ word_run g m obj first) where
   result_is : result ≡ Err e
   result_is = is ∙ ap Err same
@@ -80,9 +80,9 @@ few_pieces n l = grind arith
 few_part : (shape : Shape) → fits shape ≡ true → (p : ℕ) → part_cells (cells_of shape) p ≤ 252
 few_part shape f p = let n = cells_of shape in count_small n (pieces_of n) (spines_of n) (pieces_are n) (spines_are n) p (few_pieces n (few_cells shape f))
 
--- mutator m may ask, by the fields h that are seen as the value t
+-- mutator m may ask, by the fields h, which are seen as the value t
 module _ (h t : HeapState) (is : h ≡ t) (w : IsHeap h) (m obj first root : ℕ) (ok : Unit {0}) (admitted : admitted_to h.limits h.live m false ≡ Ok ok) (place : Ok root ≡ slot_at h.limits m obj) where
-  -- the run by what the word is
+  -- the run, by the result for its first word
   run_by : (g : Graph) → Agrees h g → (word : Result ℕ Refusal) → word_at g.objects (get_or g.roots root 0) first ≡ word
       → word_run g m obj first ≡ (word >>= λ v. Ok (words_from (object_of g.objects (get_or g.roots root 0)).shape first))
   run_by g a word e =
@@ -103,7 +103,7 @@ module _ (h t : HeapState) (is : h ≡ t) (w : IsHeap h) (m obj first root : ℕ
     finds_here : (g : Graph) → Agrees h g → FindsWord h g (get_or g.roots root 0) first (Ok at)
     finds_here g a = subst (λ (x : HeapState). FindsWord x g (get_or g.roots root 0) first (Ok at)) (sym is) (finds g (subst (λ (x : HeapState). Agrees x g) is a))
 
-    -- of each graph heap
+    -- for each graph heap
     module _ (g : Graph) (a : Agrees h g) where
       abbrev id : ℕ
       id = get_or g.roots root 0

@@ -53,7 +53,7 @@ each_more h next after m c r n w s =
     let e : suc n ≡ n + 1 = omega arith in
     subst (λ k. StepsEach h m c r k after) e (next, w, s)
 
--- commands that leave the heap
+-- commands that leave the heap as it is
 pub each_leaves : (h : HeapState) (m : ℕ) (c : ℕ → Command) (r : ℕ → Reply) (n : ℕ) → ((i : ℕ) → i < n → Steps h m (c i) (r i) h) → StepsEach h m c r n h
 each_leaves h m c r zero s = refl
 each_leaves h m c r (suc n) s = (h, each_leaves h m c r n (λ i l. s i (omega arith)), s n (omega arith))
@@ -91,7 +91,7 @@ module _ (h : HeapState) (g : Graph) (a : Agrees h g) (id : ℕ) (r : Reaches g 
       let low : nat_lt i (length o.words) ≡ true = lt-ltb i (length o.words) c.below in
       (ap (λ z. z >>= λ (x : Object). word_cell x i) object_there ∙ rw (takes, low) refl, (r, c))
 
-  -- the cells behind one that was found, in its part
+  -- the cells after one that was found, in its part
   module _ (first : ℕ) (at : Cell) (c : IsWordCell h o id first at) where
     main : IsMainCopy h.store at.block (record { identity = id; part = part_in (cells_of o.shape) first })
     main = main_copy h at.block _ c.main
@@ -133,7 +133,7 @@ module _ (h : HeapState) (g : Graph) (a : Agrees h g) (id : ℕ) (r : Reaches g 
                 (ap (λ p. width_in (ref_cells o.shape) (word_cells o.shape) p + column_in (first + j)) part ∙ ap (λ n. n + column_in (first + j)) (sym row_width) ∙ sym index) within));
           }
 
--- a row in a graph heap that can't be told from another
+-- a row in a graph heap that no reply tells apart from another
 pub row_alike : (h : HeapState) (f g : Graph) (id first : ℕ) (run : Run) → IsAlike f g → IsWordRow h f id first run → IsWordRow h g id first run
 row_alike h f g id first run a w =
     let same = a.object id w.reaches in
@@ -143,7 +143,7 @@ row_alike h f g id first run a w =
       cells = λ j l. subst (λ (o : Object). IsWordCell h o id (first + j) (cell_behind run.at j)) same (w.cells j l);
     }
 
--- a word that was written leaves what can be reached
+-- writing a word leaves the same objects reachable
 reached_still : (g : Graph) (id i word : ℕ) → Reaches g id → id ≤ length g.objects → Reaches (changed g (changes.Word id i word)) id
 reached_still g id i word r given =
     let new = changed g (changes.Word id i word) in

@@ -1,4 +1,4 @@
--- A heap that was just made has room for what fits its configuration.
+-- A heap that was just made has room for all that fits its configuration.
 use Rattle.std.proofs.Common.{◌≡◌, ◌*◌, List, [], ◌∷◌, ap, ◌∙◌, sym, subst}
 use Rattle.graph_heap.specs.declared.command.Limits.{Limits}
 use Rattle.size_classes.specs.declared.config.Config.{Config}

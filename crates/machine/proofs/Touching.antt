@@ -17,7 +17,7 @@ use Rattle.nodes.proofs.Keeping.{are_allocated, grey_kept, store_kept, linked_st
 use Rattle.machine.proofs.Collecting.{flushed_heap}
 use Rattle.machine.proofs.Doing.{present_agrees}
 
--- where blocks are threaded anew at most, the heap agrees with what it agreed with
+-- if blocks are at most threaded anew, the heap agrees with the same graph heaps
 relinked_agrees : (h : HeapState) (s : Store) → IsHeap h → Relinks h.store s → (g : Graph) → Agrees h g → Agrees (record h { store = s }) g
 relinked_agrees h s w links g a =
     agrees_alike (record h { store = s }) w.present g (consistent_agrees (record h { store = s }) w.present w.snapshot (represents_relinked h s links w.present w.snapshot w.represents).consistent) (told h w.present g (present_agrees h w) a)

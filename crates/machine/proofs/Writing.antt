@@ -32,11 +32,11 @@ use Rattle.machine.proofs.Doing.{present_agrees, at_present, founded, planned_al
 use Rattle.machine.proofs.Finding.{reads_root}
 use Rattle.nodes.proofs.Representing.{follows}
 
--- whatever change of a graph heap the write is of, the heap does it, and agrees with the graph heap after it
+-- for each graph heap, the heap does each change of which the write is, and agrees with the graph heap after it
 abbrev pub Performs : HeapState → Write → HeapState → Type 0
 Performs h w after = (g : Graph) (change : Change) → Agrees h g → IsPlanned h g change w → DoesChange h g change after × Agrees after (changed g change)
 
--- of the fields h, which are seen as the value t
+-- the fields h, which are seen as the value t
 module _ (h t : HeapState) (is : h ≡ t) (w : IsHeap h) (write : Write) where
   pub planned_now : CanPerform t write → (c : Change) × IsPlanned h w.present c write
   planned_now can = at_present (λ x g. (c : Change) × IsPlanned x g c write) h t is w can
@@ -56,7 +56,7 @@ module _ (h t : HeapState) (is : h ≡ t) (w : IsHeap h) (write : Write) where
     pub performs : Performs t write after
     performs = subst (λ (x : HeapState). Performs x write after) is performed
 
--- what a root holds can be followed
+-- the reference in a root can be followed
 pub root_follows : (h : HeapState) (w : IsHeap h) (root x : ℕ) → root < length h.roots → x ≡ get_or h.roots root 0 → CanFollow h.store x
 root_follows h w root x below e = follows h x _ (reads_root h w.present (present_agrees h w) root below x e)
 
@@ -86,7 +86,7 @@ word_does h at word new wr g c a p =
     subst (λ (z : Change). DoesChange h g z (record h { store = new })) (sym p.2)
     (Does_word p.0 p.1 word at.block new p.3.1.main (subst (λ z. Writes h.store new at.block (with_cell (record_of h.store at.block) z word)) p.3.1.index wr))
 
--- where nothing is recorded, what a change does leaves the grey parts
+-- if nothing is recorded, a change leaves the grey parts as they are
 records_grey : (h k : HeapState) (x : ℕ) → Records h x k → records h.phase ≡ false → k.grey ≡ h.grey
 records_grey h k x (Records_nothing e) off = refl
 records_grey h k x (Records_main l on sh) off = absurd (let z : true ≡ false = sym on ∙ off in cc)
@@ -129,7 +129,7 @@ written_heap a b w write can does count linked =
           grey_left (state_of a) (state_of b) w.heap.present p.0 change still ∙ w.empty still;
     }
 
--- how many buffers there are
+-- the number of buffers
 pub count_by : (a : HeapFields) (m : ℕ) (write : Write) (grey : GreySet) → AreBuffersBy a m write grey → length grey.buffers ≡ length a.grey.buffers
 count_by a m writes.Nothing grey e = ap length e
 count_by a m (writes.Root cell x) grey e = ap length e ∙ count_after a m (get_or a.roots.cells cell 0)

@@ -1,4 +1,4 @@
--- What the collector does when it is asked.
+-- The answers of the collector to a call.
 use Rattle.std.specs.Prelude.{◌≡◌, ◌≢◌, ℕ, Result, Ok, Err}
 use Rattle.heap_model.specs.declared.phase.Phase.TheVariants as phases
 use Rattle.heap_model.specs.State.{HeapState}

@@ -1,9 +1,9 @@
--- What a move does to copies.
+-- The change of copies by a move.
 use Rattle.std.specs.Prelude.{◌≡◌, ◌≢◌, ℕ, true, false}
 use Rattle.heap_model.specs.Store.{Store, is_allocated, record_of}
 use Rattle.nodes.specs.Copies.{is_main, is_old}
 
--- Exactly one main copy becomes an old copy, and a block that was free is the main copy in its place: each other
+-- Exactly one main copy becomes an old copy, and a block that was free is the main copy in its place. Each other
 -- block is allocated or not, and forwards, as before.
 pub record MakesOneOld (old new : Store) : Type 0 where
   pub from : ℕ

@@ -1,4 +1,4 @@
--- What is promised of a heap with its history, whatever comes.
+-- The promises of a heap with its history, whatever events are done.
 use Rattle.std.specs.Prelude.{◌≡◌, ℕ, ◌≤◌, List, ◌++◌, length}
 use Rattle.graph_heap.specs.declared.command.Entry.{Entry}
 use Rattle.graph_heap.specs.Graph.{opening}
@@ -12,11 +12,11 @@ use Rattle.heap_model.specs.Spent.{cycle_limit}
 use Rattle.heap_model.specs.Event.{Course, Event, present_of, Begins, Runs}
 use Rattle.machine.specs.Recorded.{EachSweepEnds, HoldsKept, EndsSoon}
 
--- The history is one of the graph heap, which never moves or frees an object. The heap agrees with the
--- graph heap to which it leads, also within a quantum, after each action. All that can be reached there is allocated,
--- so what was freed can't be reached. When a sweep ends the heap holds exactly what was reachable when its cycle began
--- and what was made since, and so it does in idle and while blocks are moved. No more units are spent than a cycle may,
--- and a cycle that begins ends soon.
+-- The history is one of the graph heap, which never moves or frees an object. After each action, also within a
+-- quantum, the heap agrees with the graph heap to which the history leads. All objects that can be reached there are
+-- allocated, so no freed object can be reached. When a sweep ends, the heap holds exactly the objects that were
+-- reachable when its cycle began and those made since; in idle and while blocks are moved it does so too. A cycle
+-- spends at most its limit of units, and a cycle that begins ends soon.
 pub record Holds (r : Course) : Type 0 where
   pub legal : IsLegal (opening r.heap.limits) r.history
   pub agrees : (spent : ℕ) (h : HeapState) → Chain r.heap spent h → Agrees h (present_of r)
@@ -31,7 +31,7 @@ pub record Follows (old new : Course) : Type 0 where
   pub grows : (rest : List Entry) × (new.history ≡ old.history ++ rest)
   pub lost : (id : ℕ) → id ≤ length (present_of old).objects → Reaches (present_of new) id → Reaches (present_of old) id
 
--- Whatever events are done, in whatever order: that holds of the heap after them, with a history that
--- follows.
+-- Whatever events are done, in whatever order: the promises hold of the heap after them, and its history follows the
+-- one before them.
 abbrev pub AlwaysHolds : Course → Type 0
 AlwaysHolds r = (es : List Event) (new : Course) → Runs r es new → Holds new × Follows r new

@@ -20,19 +20,20 @@ use Rattle.arraylets.specs.declared.cells.Cell.{Cell}
 use Rattle.machine.specs.declared.plan.Kind.{Kind}
 use Rattle.machine.specs.declared.plan.Kind.TheVariants as kinds
 
--- What a root or a cell holds, an identity or null, is named by it and by the reference of its main copy.
+-- A referent names the content of a root or a cell, which is an identity or null: by that identity, and by the
+-- reference of its main copy.
 pub record Names (h : HeapState) (g : Graph) (id : ℕ) (r : Referent) : Type 0 where
   pub identity : id ≡ r.identity
   pub known : IsKnown g id
   pub main : IsMain (seen h) r.reference (name_of id)
 
--- What a slot of a mutator holds is named so.
+-- A referent names the content of a mutator's slot.
 pub record HoldsBy (h : HeapState) (g : Graph) (m slot : ℕ) (r : Referent) : Type 0 where
   pub cell : ℕ
   pub place : Ok cell ≡ slot_at h.limits m slot
   pub names : Names h g (slice_index g.roots cell) r
 
--- The object of an identity was found, by its main copy.
+-- The main copy of the object with an identity was found.
 pub record IsFound (h : HeapState) (g : Graph) (id : ℕ) (f : Found) : Type 0 where
   pub identity : id ≡ f.id
   pub reaches : Reaches g id
@@ -40,7 +41,7 @@ pub record IsFound (h : HeapState) (g : Graph) (id : ℕ) (f : Found) : Type 0 w
   pub shape : f.shape ≡ (object_of g.objects id).shape
   pub main : IsMainCopy h.store f.block (name_of id)
 
--- what is found is what the graph heap finds, or its refusal
+-- the object that the graph heap finds was found, or the result is the graph heap's refusal
 abbrev pub Finds : HeapState → Graph → ℕ → Result Found Refusal → Type 0
 Finds h g id (Ok f) = IsFound h g id f
 Finds h g id (Err e) = object_at g.objects id ≡ Err e
@@ -58,38 +59,38 @@ pub record IsWordCell (h : HeapState) (o : Object) (id i : ℕ) (at : Cell) : Ty
   pub index : at.index ≡ width_at (record_of h.store at.block) + column_in i
   pub within : at.index < length (record_of h.store at.block).cells
 
--- a place of a reference cell of an object that can be reached
+-- the place of reference cell i of a reachable object
 abbrev pub IsRefPlace : HeapState → Graph → ℕ → ℕ → Cell → Type 0
 IsRefPlace h g id i at = Reaches g id × IsRefCell h (object_of g.objects id) id i at
 
 abbrev pub IsWordPlace : HeapState → Graph → ℕ → ℕ → Cell → Type 0
 IsWordPlace h g id i at = Reaches g id × IsWordCell h (object_of g.objects id) id i at
 
--- a reference cell was found, or the graph heap's refusal
+-- a reference cell was found, or the result is the graph heap's refusal
 abbrev pub FindsRef : HeapState → Graph → ℕ → ℕ → Result Cell Refusal → Type 0
 FindsRef h g id i (Ok at) = (ref_at g.objects id i ≡ Ok (slice_index (object_of g.objects id).refs i))
     × IsRefPlace h g id i at
 FindsRef h g id i (Err e) = ref_at g.objects id i ≡ Err e
 
--- a word cell was found, or the graph heap's refusal
+-- a word cell was found, or the result is the graph heap's refusal
 abbrev pub FindsWord : HeapState → Graph → ℕ → ℕ → Result Cell Refusal → Type 0
 FindsWord h g id i (Ok at) = (word_at g.objects id i ≡ Ok (slice_index (object_of g.objects id).words i))
     × IsWordPlace h g id i at
 FindsWord h g id i (Err e) = word_at g.objects id i ≡ Err e
 
--- what it takes to find the block of a part from that of part 0, of an object with this many cells: there is such a part, and
--- what leads to it refers to allocated blocks
+-- from the block of part 0 of an object with this many cells, the block of a part can be found: there is such a part,
+-- and the path to it refers to allocated blocks
 abbrev pub CanReach : Store → ℕ → ℕ → ℕ → Type 0
 CanReach s cells block part = (part < parts_in cells)
     × (part ≢ 0 → spine_of cells part ≢ 0 → Refers s block (spine_cell_of cells (spine_of cells part)))
     × (part ≢ 0 → Refers s (spine_at s cells block part) (spine_cell_of cells part))
 
--- where cell i of a kind stands in its object
+-- the position of cell i of a kind in its object
 abbrev pub position_in : Kind → Shape → ℕ → Result CellPosition Refusal
 position_in kinds.Ref shape i = ref_position shape i
 position_in kinds.Word shape i = word_position shape i
 
--- a cell of a kind was found, or the graph heap's refusal
+-- a cell of a kind was found, or the result is the graph heap's refusal
 abbrev pub FindsCell : HeapState → Graph → Kind → ℕ → ℕ → Result Cell Refusal → Type 0
 FindsCell h g kinds.Ref id i result = FindsRef h g id i result
 FindsCell h g kinds.Word id i result = FindsWord h g id i result

@@ -22,8 +22,7 @@ use Rattle.machine.specs.declared.collector.Busy.{Busy}
 use Rattle.machine.specs.declared.collector.BudgetOutOfRange.{BudgetOutOfRange}
 use Rattle.machine.specs.declared.collector.Spent.{Spent}
 
--- the heap with its history and the place at which the last cycle began, and for how many more entries
--- there is memory
+-- a heap with its history, the place at which the last cycle began, and for how many more entries there is memory
 pub record RecordedHeap : Type 0 where
   pub course : Course
   pub room : ℕ
@@ -35,22 +34,22 @@ recorded_of a = record {
   room = vec_capacity a.history - vec_len a.history;
 }
 
--- what a caller gets for a command: its entry in the history, and the place of that entry, from 0
+-- the result of a command for its caller: its entry in the history, and the place of that entry, from 0
 pub record ReceiptView : Type 0 where
   pub entry : Entry
   pub place : ℕ
 
--- what a call to begin a cycle, or to spend a budget, did
+-- the event of a call to begin a cycle
 abbrev pub begin_done : Result (Unit {0}) Busy → done.Event
 begin_done (Ok begun) = done.Cycle_begun
 begin_done (Err busy) = done.Begin_refused
 
--- what a call to spend a budget did
+-- the event of a call to spend a budget
 abbrev pub quantum_done : ℕ → Result Spent BudgetOutOfRange → done.Event
 quantum_done budget (Ok spent) = done.Quantum_done budget spent.units spent.phase
 quantum_done budget (Err refused) = done.Quantum_refused budget
 
--- what was asked for, of an event that is done
+-- the request of an event
 abbrev pub asked : done.Event → Event
 asked (done.Command_done m c reply) = events.Command m c
 asked done.Cycle_begun = events.Begin
@@ -58,37 +57,37 @@ asked done.Begin_refused = events.Begin
 asked (done.Quantum_done budget units phase) = events.Quantum budget
 asked (done.Quantum_refused budget) = events.Quantum budget
 
--- These events were asked for, and are done, one after the other; or memory was refused for a command,
--- and only those before it are done.
+-- The events requested are done, one after the other; or memory was refused for a command, and only the events before
+-- it are done.
 abbrev pub RunsFront : Course → List Event → Course → Result (Unit {0}) NoMemory → Type 0
 RunsFront old es new (Ok all) = (front : List done.Event) × Runs old front new × (es ≡ map asked front)
 RunsFront old es new (Err refused) =
     (front : List done.Event) × (m : ℕ) × (c : Command) × (rest : List Event) × Runs old front new
     × (es ≡ map asked front ++ events.Command m c ∷ rest)
 
--- how many of the events are commands
+-- the number of commands among the events
 abbrev pub commands_in : List Event → ℕ
 commands_in [] = 0
 commands_in (events.Command m c ∷ es) = commands_in es + 1
 commands_in (e ∷ es) = commands_in es
 
--- At each change out of sweeping, within a quantum too and also right after blocks were threaded anew, exactly the
--- blocks of what is kept are allocated, and no page is evacuating or a target.
+-- At each change out of sweeping exactly the blocks of kept objects are allocated, and no page is evacuating or a
+-- target. It holds within a quantum too, and also right after blocks were threaded anew.
 abbrev pub EachSweepEnds : Course → Type 0
 EachSweepEnds r =
     (spent cost : ℕ) (h after : HeapState) (linked : Store) → Chain r.heap spent h → Relinks h.store linked
     → Action (record h { store = linked }) cost after → is_sweeping h.phase ≡ true → is_sweeping after.phase ≡ false
     → IsSwept after (present_of r) (snapshot_of r) × ((k : ℕ) → HasNoMark (page_at after.store.pages k))
 
--- In idle, and while blocks are moved, within a quantum too, the allocated objects are exactly those that are kept.
+-- In idle and while blocks are moved, also within a quantum, exactly the kept objects are allocated.
 abbrev pub HoldsKept : Course → Type 0
 HoldsKept r =
     (spent : ℕ) (h : HeapState) → Chain r.heap spent h → (h.phase ≡ phases.Idle)
     ⊎ ((place : Moving) × (h.phase ≡ phases.Moving place))
     → (id : ℕ) → 0 < id → IsAllocated h (present_of r) id ↔ IsKept (present_of r) (snapshot_of r) id
 
--- After a cycle has begun, one of the first quanta of budgets of at least k ends in idle, for any k
--- from 256 on, whatever comes between them.
+-- After a cycle has begun, one of a stated number of quanta ends in idle. The number is for quanta of budgets of at
+-- least k, for any k from 256 on, and whatever events come between them.
 abbrev pub EndsSoon : Course → Type 0
 EndsSoon r =
     (k : ℕ) (es : List done.Event) (new : Course) → 256 ≤ k → Runs r es new → HaveBudgets k es

@@ -1,4 +1,4 @@
--- When a heap that was just made has room for whatever comes.
+-- The events for which a heap that was just made has room.
 use Rattle.std.specs.Prelude.{◌≡◌, ℕ, ◌*◌, ◌≤◌, List}
 use Rattle.size_classes.specs.declared.config.Config.{Config}
 use Rattle.size_classes.specs.Config.{limits_of}
@@ -17,10 +17,10 @@ use Rattle.fragmentation.specs.Suffice.{WithinPages, WithinBlocks, pages_of, Pag
 use Rattle.fragmentation.specs.Flow.{Flow, opening_meter, KeepsFlow, AllMetered}
 use Rattle.fragmentation.specs.Configured.{MovesAll, FitsTogether, FlowFitsIn}
 
--- What a configuration promises of these events: no reply is the refusal for lack of space, where the events keep to a
--- demand that fits the configuration, or to a pace that fits in its pages; or to a demand that is taken together and
--- fits. Where moving follows each sweep and may empty all pages, the same holds where the events keep within the
--- configuration's pages, to a demand in pages for which it has enough, or to a flow that fits.
+-- The promise of a configuration for some events: no reply is the refusal for lack of space if the events keep to a
+-- limit. Any of these limits will do: a demand that fits the configuration, a pace that fits its pages, or a demand
+-- taken together that fits. If moving follows each sweep and may empty all pages, so will the configuration's pages,
+-- a demand in pages for which it has enough, or a flow that fits.
 pub record SpaceSuffices (config : Config) (es : List Event) : Type 0 where
   pub demand : (d : Demand) → AllKeepTo d (opening_tally (limits_of config)) es → Fits config d → AllHaveRoom es
   pub pace : (p : Pace) → AllKeepPace p (config.collector_ticks * config.rate) (opening_beat (limits_of config)) es
@@ -43,13 +43,12 @@ pub record IsJustMade (config : Config) (r : Course) : Type 0 where
   pub settings : settings_of r.heap ≡ settings_by config
   pub course : r ≡ opened r.heap
 
--- whatever events are done, space suffices for them, where this is a heap of a configuration that was just made
+-- for a heap that was just made of a configuration, space suffices for whatever events are done
 abbrev pub FindsSpace : Course → Type 0
 FindsSpace r = (config : Config) (es : List Event) (new : Course) → IsJustMade config r → Runs r es new
     → SpaceSuffices config es
 
--- however events led here from a heap that was just made, space sufficed for them, in each configuration of its
--- settings
+-- space sufficed for whatever events led here from a heap that was just made, in each configuration of its settings
 abbrev pub FoundSpace : Course → Type 0
 FoundSpace r =
     (config : Config) (first : HeapState) (es : List Event) → settings_of r.heap ≡ settings_by config → IsOpening first

@@ -1,4 +1,4 @@
-//! What the collector is asked for, and what it answers.
+//! The replies of the collector.
 use heap_model::phase::Phase;
 use thiserror::Error;
 
@@ -12,7 +12,7 @@ pub struct Busy;
 #[error("budget out of range")]
 pub struct BudgetOutOfRange;
 
-/// What a quantum did: the units that it spent, and the phase in which it ended.
+/// The work of one quantum: the units that it spent, and the phase in which it ended.
 #[derive(Clone, Copy, Debug, PartialEq, Eq)]
 pub struct Spent {
     pub units: u32,

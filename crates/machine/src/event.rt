@@ -1,8 +1,7 @@
-//! What a heap can be asked to do.
+//! The events of a heap.
 use graph_heap::Command;
 
-/// What a heap can be asked to do: a command of a mutator, to begin a cycle of the collector, or to
-/// spend a budget of units on it.
+/// A request to a heap: a mutator's command, the beginning of a cycle, or a quantum with this budget in units.
 #[derive(Clone, Copy, Debug, PartialEq, Eq)]
 pub enum Event {
     Command { mutator: u32, command: Command },

@@ -33,7 +33,8 @@ pub struct Heap {
 }
 
 impl Drop for Heap {
-    // One call: a derived drop is written into each function that drops one, and is proved there anew.
+    // Makes this one call. Otherwise the compiler writes a derived drop into each function that drops a heap, and
+    // each is proved anew.
     fn drop(self) {
         let Heap { fields: _ } = self;
     }
@@ -51,8 +52,8 @@ impl Model for Heap {
 }
 
 impl Heap {
-    /// A heap of free pages, with null roots and no object, where the first `live` mutators are live, and
-    /// with memory for all that it will ever hold. No page is touched yet. Refused only for lack of memory.
+    /// Returns a heap of free pages with null roots and no object. The first `live` mutators are live. The heap gets
+    /// memory for all that it will ever hold, but touches no page yet. It is refused only for lack of memory.
     pub fn new(alloc: Global, config: &Config) -> Result<Heap, NoMemory>
         ensures opening { IfOk result IsOpening }
         ensures settings { IfOk result (λ h. settings_of h ≡ settings_by config.now) }
@@ -61,9 +62,9 @@ impl Heap {
         Ok(Heap { fields })
     }
 
-    /// Touches the first pages, this many or all: those that weren't touched before get their words, which are 0. A page
-    /// that wasn't touched gets them when an object is first made on it. Nothing else changes, and nothing can be
-    /// refused.
+    /// Touches the first `pages` pages, or all if there are fewer: clears the words of those that weren't touched
+    /// before. Otherwise the first object that is made on a page clears its words. Nothing else changes, and nothing
+    /// can be refused.
     pub fn touch(&mut self, pages: usize)
         ensures touched { self.new ≡ record self.old { store = touched self.old.store pages } }
         ensures there { 2048 * min pages (length self.new.store.pages) ≤ length self.new.store.words }
@@ -72,10 +73,10 @@ impl Heap {
         self.fields.nodes.touch(pages);
     }
 
-    /// Does a command of a mutator, and replies. Whatever graph heap the heap agrees with, the reply
-    /// is that of its step, with room exactly where there is room for the parts of the new object, and
-    /// the heap agrees with it after the step. What the command overwrites is recorded first, while
-    /// roots are scanned or parts marked.
+    /// Does a command of a mutator, and returns the reply. For each graph heap with which the heap agrees, the reply
+    /// is that of the graph heap's step; there is room exactly if the heap has room for the parts of the new object.
+    /// The heap agrees with the graph heap after the step. While roots are scanned or parts marked, a reference is
+    /// recorded before it is overwritten.
     pub fn step(&mut self, mutator: u32, command: Command) -> Reply
         ensures reply { (g : Graph) → Agrees self.old g
             → result ≡ reply_of (room_for self.old command) g mutator command }
@@ -87,7 +88,7 @@ impl Heap {
         dispatch!(Heap, self, mutator, command)
     }
 
-    /// Does what was planned for a mutator, and replies.
+    /// Does the write of a plan for a mutator, and returns the reply.
     #[inline(always)]
     fn commit(&mut self, mutator: u32, planned: Plan) -> Reply
         requires mutator { mutator < self.old.limits.mutators }

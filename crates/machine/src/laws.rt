@@ -20,19 +20,19 @@ ghost use Rattle.machine.specs.Plan.{Steps};
 ghost use Rattle.machine.specs.Recorded.{begin_done, quantum_done};
 ghost use Rattle.machine.specs.Space.{FindsSpace, FoundSpace};
 
-/// All that is promised of a heap with its history, whatever events are done next, is promised where that holds which
-/// each event keeps.
+/// States the promises of a heap with its history: if a course has the invariant that each event keeps, they hold of
+/// it whatever events are done next.
 pub fn courses_are_promised()
     ensures { (r : Course) → IsCourse r → AlwaysHolds r × FindsSpace r }
 {}
 
-/// However events led to a heap from one that was just made, space sufficed for them.
+/// Space sufficed for any events that led to a heap from one that was just made.
 pub fn space_sufficed()
     ensures { (r : Course) → FoundSpace r }
 {}
 
-/// What a call does to a `Heap` is one event, whatever history led to the heap. So what is promised of a heap with its
-/// history is promised where nobody keeps that history.
+/// Each call of a `Heap` does one event, whatever history led to the heap. So the promises of a heap with its history
+/// also hold if nobody keeps the history.
 pub fn calls_are_events()
     ensures command { (r : Course) (m : ℕ) (c : Command) (answer : Reply) (after : HeapState) → IsCourse r
         → Steps r.heap m c answer after
@@ -44,7 +44,8 @@ pub fn calls_are_events()
         × Does r (quantum_done budget result) new }
 {}
 
-/// While blocks are moved, each action leaves all blocks as they are, or makes exactly one main copy an old copy.
+/// While blocks are moved, each action leaves all blocks as they are, or turns exactly one main copy into an old
+/// copy.
 pub fn moves_make_one_old()
     ensures { (h after : HeapState) (cost : ℕ) (present snapshot : Graph) (place : Moving)
         → Represents h present snapshot

@@ -1,4 +1,4 @@
-//! The heap itself: commands are planned by reading the words of the heap, and then done by one write.
+//! The heap itself. A command is planned by reading the words of the heap, and then done by one write.
 #![tactic(auto)]
 
 pub mod collector;

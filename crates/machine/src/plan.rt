@@ -1,11 +1,11 @@
-//! What a command is going to do.
+//! The plan of a command.
 ghost use Rattle.std.specs.Prelude.{◌≡◌};
 ghost use Rattle.machine.specs.Plan.{planned_reply, write_to};
 
 use arraylets::Cell;
 use graph_heap::{Refusal, Reply, Shape};
 
-/// What a command does: its reply, and the one write of the heap.
+/// The plan of a command: its reply, and its one write of the heap.
 #[derive(Clone, Copy, Debug, PartialEq, Eq)]
 pub struct Planned {
     pub reply: Reply,
@@ -13,7 +13,7 @@ pub struct Planned {
 }
 
 impl Planned {
-    /// A write that is done.
+    /// Returns a plan with the reply `Done` and this write.
     #[inline(always)]
     pub fn done(write: Write) -> Planned
         ensures { result ≡ record { reply = Reply.Done; write = write } }
@@ -24,7 +24,7 @@ impl Planned {
         }
     }
 
-    /// Only a reply.
+    /// Returns a plan with this reply and no write.
     pub fn reply(reply: Reply) -> Planned
         ensures { result ≡ record { reply = reply; write = Write.Nothing } }
     {
@@ -35,7 +35,7 @@ impl Planned {
     }
 }
 
-/// The reply to a command that has this plan: a refusal is a reply.
+/// Returns the reply of a plan. A refusal is a reply too.
 pub fn reply_to(planned: Result<Planned, Refusal>) -> Reply
     ensures { result ≡ planned_reply planned }
 {
@@ -59,11 +59,11 @@ pub enum Write {
     New { cell: usize, shape: Shape },
     /// A mutator becomes live.
     Join { mutator: u32 },
-    /// The slots of a mutator get null, one after the other, and it is live no more.
+    /// All slots of a mutator get null, one after the other, and it is no longer live.
     Leave { mutator: u32 },
 }
 
-/// What may get a reference: a root, or a reference cell of an object.
+/// A place that may get a reference: a root, or a reference cell of an object.
 #[derive(Clone, Copy, Debug, PartialEq, Eq)]
 pub enum Target {
     Root(usize),
@@ -71,7 +71,7 @@ pub enum Target {
 }
 
 impl Target {
-    /// The write by which it gets a reference.
+    /// Returns the write of a reference into this place.
     #[inline(always)]
     pub fn write(self, reference: u64) -> Write
         ensures { result ≡ write_to self reference }
@@ -83,14 +83,14 @@ impl Target {
     }
 }
 
-/// A kind of cells of an object: of references or of words.
+/// A kind of cells of an object: references or words.
 #[derive(Clone, Copy, Debug, PartialEq, Eq)]
 pub enum Kind {
     Ref,
     Word,
 }
 
-/// Words of an object that stand in a row: as many as `count`, each in the next cell of one block, from a cell on.
+/// Words of an object in a row: `count` of them, each in the next cell of one block, from cell `at` on.
 #[derive(Clone, Copy, Debug, PartialEq, Eq)]
 pub struct Run {
     pub at: Cell,

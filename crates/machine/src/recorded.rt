@@ -21,10 +21,10 @@ use size_classes::Config;
 use std::alloc::Global;
 use std::marker::Model;
 
-/// A heap with the history of its commands and replies, which only grows. Contracts see both, with the
-/// place of the history at which the last cycle began: the history is always legal, the heap agrees
-/// with the graph heap to which it leads, and in idle and moving it holds exactly what is kept. They also
-/// see for how many more entries there is memory.
+/// A heap with the history of its commands and replies, which only grows. Contracts see both, the place in the
+/// history at which the last cycle began, and for how many more entries there is memory. The history is always legal,
+/// and the heap agrees with the graph heap to which the history leads. In idle and moving it holds exactly the kept
+/// objects.
 pub struct Recorded {
     heap: Heap,
     history: Vec<Entry>,
@@ -32,7 +32,7 @@ pub struct Recorded {
 }
 
 impl Drop for Recorded {
-    // One call, as of a heap.
+    // Makes one call, for the reason that `Heap` gives.
     fn drop(self) {
         let Recorded {
             heap,
@@ -53,8 +53,8 @@ impl Model for Recorded {
     ghost invariant = { λ a. IsCourse (recorded_of a).course };
 }
 
-/// The receipt for a command: its entry in the history, and the place of that entry, from 0. Only `Recorded::call` makes
-/// one.
+/// The receipt for a command: its entry in the history, and the place of that entry, from 0. Only `Recorded::call`
+/// makes a receipt.
 #[derive(Clone, Copy, Debug, PartialEq, Eq)]
 pub struct Receipt {
     entry: Entry,
@@ -72,14 +72,14 @@ impl Model for Receipt {
 }
 
 impl Receipt {
-    /// The entry: the mutator, the command and the reply.
+    /// Returns the entry: the mutator, the command and the reply.
     pub fn entry(&self) -> &Entry
         ensures { result.now ≡ self.now.entry }
     {
         &self.entry
     }
 
-    /// The place of the entry in the history, from 0.
+    /// Returns the place of the entry in the history, from 0.
     pub fn place(&self) -> usize
         ensures { result ≡ self.now.place }
     {
@@ -88,7 +88,7 @@ impl Receipt {
 }
 
 impl Recorded {
-    /// A new heap, without history. Refused only for lack of memory.
+    /// Returns a new heap without history. It is refused only for lack of memory.
     pub fn new(alloc: Global, config: &Config) -> Result<Recorded, NoMemory>
         ensures heap { IfOk result (λ r. IsOpening r.course.heap) }
         ensures settings { IfOk result (λ r. settings_of r.course.heap ≡ settings_by config.now) }
@@ -103,7 +103,7 @@ impl Recorded {
         })
     }
 
-    /// Makes room for this many more entries: that many calls aren't refused memory.
+    /// Makes room for `entries` more entries: memory isn't refused to that many calls.
     pub fn reserve(&mut self, entries: usize) -> Result<(), NoMemory>
         ensures room { OnOk result (entries ≤ self.new.room) }
         ensures kept { self.old.room ≤ self.new.room }
@@ -113,8 +113,8 @@ impl Recorded {
         Ok(())
     }
 
-    /// Does a command of a mutator, and enters it with its reply. Room for the entry is made first:
-    /// where memory for that is refused, nothing has changed.
+    /// Does a command of a mutator, and enters it with its reply. It makes room for the entry first: if memory is
+    /// refused, nothing has changed.
     #[inline(always)]
     pub fn call(&mut self, mutator: u32, command: Command) -> Result<Receipt, NoMemory>
         ensures entry { IfOk result (λ r. (r.entry.mutator ≡ mutator) × (r.entry.command ≡ command)) }
@@ -148,7 +148,7 @@ impl Recorded {
         Ok(())
     }
 
-    /// Spends units of a budget on the cycle that is running. It takes no memory.
+    /// Spends units of a budget on the running cycle. It takes no memory.
     pub fn quantum(&mut self, budget: u32) -> Result<Spent, BudgetOutOfRange>
         ensures does { Does self.old.course (quantum_done budget result) self.new.course }
         ensures swept { EachSweepEnds self.old.course }
@@ -158,7 +158,7 @@ impl Recorded {
         self.heap.quantum(budget)
     }
 
-    /// Does one event. It passes over a refused cycle or budget.
+    /// Does one event. A cycle or a budget may be refused: then the event changes nothing, and isn't an error.
     fn event(&mut self, event: Event) -> Result<(), NoMemory>
         ensures runs { RunsFront self.old.course (event ∷ []) self.new.course result }
         ensures room { commands_in (event ∷ []) ≤ self.old.room → IsOk result }
@@ -207,7 +207,7 @@ impl Recorded {
         Ok(())
     }
 
-    /// The heap.
+    /// Returns the heap.
     pub fn heap(&self) -> &Heap
         ensures heap { result.now ≡ self.now.course.heap }
         ensures allocated { HoldsKept self.now.course }
@@ -216,7 +216,7 @@ impl Recorded {
         &self.heap
     }
 
-    /// The history, from its first entry on.
+    /// Returns the history, from its first entry on.
     pub fn history(&self) -> &[Entry]
         ensures history { result.now ≡ self.now.course.history }
         ensures legal { IsLegal (opening self.now.course.heap.limits) self.now.course.history }

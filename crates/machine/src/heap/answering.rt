@@ -1,4 +1,4 @@
-//! What a command would be answered.
+//! The reply to a command, without doing it.
 ghost use Rattle.std.specs.Prelude.{◌≡◌, ◌<◌};
 ghost use Rattle.graph_heap.specs.Graph.{Graph};
 ghost use Rattle.graph_heap.specs.Effect.{reply_of};
@@ -12,7 +12,7 @@ use crate::plan::reply_to;
 use graph_heap::{Command, Reply, dispatch};
 
 impl Heap {
-    /// What `step` would reply to a command of a mutator. The heap stays as it is.
+    /// Returns the reply that `step` would return for a command of a mutator. The heap stays as it is.
     pub fn answer(&self, mutator: u32, command: &Command) -> Reply
         ensures { (g : Graph) → Agrees self.now g
             → result ≡ reply_of (room_for self.now command.now) g mutator command.now }
@@ -23,7 +23,7 @@ impl Heap {
         }
     }
 
-    /// What a command that is admitted does.
+    /// Returns the plan of a command, if the mutator is admitted.
     fn plan(&self, mutator: u32, command: Command) -> Plan
         requires { mutator < self.now.limits.mutators }
         ensures { IsPlan self.now mutator command result }

@@ -1,4 +1,4 @@
-//! The collector: a cycle is begun, and goes on by quanta.
+//! The collector begins a cycle, and works on it in quanta.
 ghost use Rattle.std.specs.Prelude.{◌≡◌, ◌⊎◌, ◌+◌, ◌<◌, ◌≤◌, [], IfOk};
 ghost use Rattle.graph_heap.specs.Graph.{Graph};
 ghost use Rattle.heap_model.specs.declared.phase.Phase.TheVariants as phases;
@@ -21,8 +21,8 @@ use satb_barrier::flush_all;
 use size_classes::{LEAST_BUDGET, MOST_BUDGET};
 use sweeper::sweep_next;
 
-/// Does the next actions of the collector, one or more of the same kind, and answers true, if their units fit in
-/// the room that is left. Nothing changes where they don't, or where no cycle is running. The buffers are empty.
+/// Does the next actions of the collector, one or more of the same kind, if their units fit in the room that is left.
+/// It returns whether it did some; if not, or if no cycle is running, nothing changes. The buffers must be empty.
 fn act(heap: &mut HeapFields, room: u32) -> bool
     requires heap { AreHeapFields heap.old }
     requires buffers { in_buffers heap.old.grey.buffers ≡ [] }
@@ -41,8 +41,8 @@ fn act(heap: &mut HeapFields, room: u32) -> bool
     true
 }
 
-/// Does actions while their units fit in what is left of a budget, until no cycle is running, and answers the
-/// units spent. The buffers are empty.
+/// Does actions while their units fit in the rest of a budget, until no cycle is running. It returns the units that
+/// it spent. The buffers must be empty.
 fn spend(heap: &mut HeapFields, budget: u32) -> u32
     requires heap { AreHeapFields heap.old }
     requires buffers { in_buffers heap.old.grey.buffers ≡ [] }
@@ -56,8 +56,8 @@ fn spend(heap: &mut HeapFields, budget: u32) -> u32
 }
 
 impl Heap {
-    /// The phase of the collector, with how far it has come. A heap always represents some graph heap at present, and
-    /// one when the last cycle began.
+    /// Returns the phase of the collector, with its progress. A heap always represents two graph heaps: that at
+    /// present, and that when the last cycle began.
     pub fn phase(&self) -> Phase
         ensures phase { result ≡ self.now.phase }
         ensures represents { (present : Graph) × (snapshot : Graph) × Represents self.now present snapshot }
@@ -65,7 +65,7 @@ impl Heap {
         self.fields.phase
     }
 
-    /// The units of work that were spent since the last cycle began: no more than a cycle may spend.
+    /// Returns the units of work spent since the last cycle began: at most the limit of a cycle.
     pub fn units(&self) -> u64
         ensures units { result ≡ self.now.units }
         ensures within { result ≤ cycle_limit self.now }
@@ -73,8 +73,8 @@ impl Heap {
         self.fields.units
     }
 
-    /// Begins a cycle: the mark parity is turned, so that no block is marked. It costs nothing.
-    /// Refused while a cycle is running, and then nothing changes.
+    /// Begins a cycle: it turns the mark parity, so that no block is marked. It costs no units. While a cycle is
+    /// running it is refused, and nothing changes.
     pub fn begin(&mut self) -> Result<(), Busy>
         ensures begins { Begins self.old self.new result }
         ensures agrees { (g : Graph) → Agrees self.old g → Agrees self.new g }
@@ -88,9 +88,9 @@ impl Heap {
         Ok(())
     }
 
-    /// Spends units of a budget: what mutators recorded goes into the list of grey parts, and then the next
-    /// action is done while its units fit in what is left, until no cycle is running. It never begins a cycle.
-    /// Refused outside `LEAST_BUDGET` to `MOST_BUDGET`, and then nothing changes.
+    /// Spends units of a budget. It puts all recorded parts into the list of grey parts, and then does the next
+    /// action while its units fit in the rest, until no cycle is running. It never begins a cycle. A budget outside
+    /// `LEAST_BUDGET` to `MOST_BUDGET` is refused, and nothing changes.
     pub fn quantum(&mut self, budget: u32) -> Result<Spent, BudgetOutOfRange>
         ensures spends { Spends self.old budget self.new result }
         ensures ends { IfOk result (λ s. (s.phase ≡ phases.Idle) ⊎ (budget < s.units + 256)) }

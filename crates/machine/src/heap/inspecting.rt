@@ -1,4 +1,4 @@
-//! What can be seen of the heap as a whole, for a report.
+//! Figures of the whole heap, for reports.
 ghost use Rattle.std.specs.Prelude.{◌≡◌, ◌≤◌, ◌↔◌, length, IfSome, IsTrue};
 ghost use Rattle.heap_model.specs.Pages.{page_at};
 ghost use Rattle.heap_model.specs.Pages as page_list;
@@ -13,7 +13,7 @@ use nodes::{BlockView, Copies};
 use pages::PageView;
 
 impl Heap {
-    /// How many pages there are.
+    /// Returns the number of pages.
     pub fn pages(&self) -> usize
         ensures pages { result ≡ length self.now.store.pages }
         ensures within { result ≤ 1048576 }
@@ -21,7 +21,7 @@ impl Heap {
         self.fields.nodes.pages()
     }
 
-    /// How many pages are free.
+    /// Returns the number of free pages.
     pub fn free_pages(&self) -> usize
         ensures free { result ≡ page_list.free_pages self.now.store.pages }
         ensures within { result ≤ 1048576 }
@@ -29,7 +29,7 @@ impl Heap {
         self.fields.nodes.free_pages()
     }
 
-    /// What can be seen of a page: None where it is free, or where there is no such page.
+    /// Returns the view of a page: None if the page is free, or doesn't exist.
     pub fn page(&self, page: usize) -> Option<PageView>
         ensures view { result ≡ view_of (page_at self.now.store.pages page) }
         ensures within { IfSome result (λ v. v.allocated ≤ 512) }
@@ -37,8 +37,8 @@ impl Heap {
         self.fields.nodes.page(page)
     }
 
-    /// How many words are wasted inside the allocated blocks of a page: of each block those behind the last cell of its
-    /// part. There are none on a free page, nor where there is no such page.
+    /// Returns how many words are wasted inside the allocated blocks of a page: the words of each block after the
+    /// last cell of its part. The number is 0 if the page is free, or doesn't exist.
     pub fn wasted_inside(&self, page: usize) -> usize
         ensures wasted { result ≡ wasted_on self.now.store page }
         ensures within { result ≤ 131072 }
@@ -46,14 +46,14 @@ impl Heap {
         self.fields.nodes.wasted_inside(page)
     }
 
-    /// How many root cells there are.
+    /// Returns the number of root cells.
     pub fn root_cells(&self) -> usize
         ensures { result ≡ length self.now.roots }
     {
         self.fields.roots.cells().len()
     }
 
-    /// How many root cells aren't null.
+    /// Returns how many root cells aren't null.
     pub fn roots_used(&self) -> usize
         ensures used { result ≡ used_in self.now.roots }
         ensures within { result ≤ length self.now.roots }
@@ -61,22 +61,22 @@ impl Heap {
         self.fields.roots.used()
     }
 
-    /// Whether some block of an object is allocated.
+    /// Returns whether some block of an object is allocated.
     pub fn holds(&self, id: u64) -> bool
         ensures { IsTrue result ↔ HasBlock self.now.store id }
     {
         self.fields.nodes.holds(id)
     }
 
-    /// How many main copies and old copies there are.
+    /// Returns the numbers of main copies and of old copies.
     pub fn copies(&self) -> Copies
         ensures { result ≡ copies_in self.now.store }
     {
         self.fields.nodes.copies()
     }
 
-    /// What can be seen of a block of a page, by its number there, from 0. None where it isn't allocated, or where there is
-    /// no such page or block.
+    /// Returns the view of block `index` of a page, from 0 on: None if the block isn't allocated, or the page or the
+    /// block doesn't exist.
     pub fn block(&self, page: usize, index: usize) -> Option<BlockView>
         ensures { result ≡ block_view self.now.store page index }
     {

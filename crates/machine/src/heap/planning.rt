@@ -1,5 +1,5 @@
-//! What each command does: its reply and its one write, by reading alone. The tests stand in the order
-//! of the refusals.
+//! The plan of each command: its reply and its one write, found by reading alone. The tests stand in the order of the
+//! refusals.
 ghost use Rattle.std.specs.Prelude.{◌≡◌, ◌<◌, Ok, Err, length, slice_index, IfOk, IfErr};
 ghost use Rattle.graph_heap.specs.Graph.{Graph};
 ghost use Rattle.graph_heap.specs.Effect.{slot_at};
@@ -15,10 +15,10 @@ use size_classes::parts_of;
 
 mod commands;
 
-/// What a command does, or why it is refused.
+/// The plan of a command, or its refusal.
 pub(super) type Plan = Result<Planned, Refusal>;
 
-/// A new object is planned.
+/// Plans a new object.
 #[inline(always)]
 pub(super) fn make(heap: &Heap, mutator: u32, dst: u32, shape: Shape) -> Plan
     ensures { IsPlan heap.now mutator (Command.New dst shape) result }
@@ -37,7 +37,7 @@ pub(super) fn make(heap: &Heap, mutator: u32, dst: u32, shape: Shape) -> Plan
     })
 }
 
-/// A reference cell is loaded into a slot.
+/// Plans to load a reference cell into a slot.
 #[inline(always)]
 pub(super) fn load(heap: &Heap, mutator: u32, dst: u32, obj: u32, i: u32) -> Plan
     ensures { IsPlan heap.now mutator (Command.Load dst obj i) result }
@@ -55,7 +55,7 @@ pub(super) fn load(heap: &Heap, mutator: u32, dst: u32, obj: u32, i: u32) -> Pla
     })
 }
 
-/// A reference cell gets what a slot holds.
+/// Plans to store the reference in slot `src` in a reference cell.
 #[inline(always)]
 pub(super) fn store(heap: &Heap, mutator: u32, obj: u32, i: u32, src: u32) -> Plan
     ensures { IsPlan heap.now mutator (Command.Store obj i src) result }
@@ -69,7 +69,8 @@ pub(super) fn store(heap: &Heap, mutator: u32, obj: u32, i: u32, src: u32) -> Pl
     }))
 }
 
-/// A reference cell is compared with a slot, and gets what another holds if they are the same.
+/// Plans to compare a reference cell with slot `expect`, and to store the reference in slot `new` if they are the
+/// same.
 #[inline(always)]
 pub(super) fn compare_store(
     heap: &Heap,
@@ -88,7 +89,7 @@ pub(super) fn compare_store(
     Ok(heap.compared(heap.referent_in_cell(at), expected, source, Target::Ref(at)))
 }
 
-/// A word cell is read.
+/// Plans to read a word cell.
 #[inline(always)]
 pub(super) fn get(heap: &Heap, mutator: u32, obj: u32, i: u32) -> Plan
     ensures { IsPlan heap.now mutator (Command.Get obj i) result }
@@ -98,7 +99,7 @@ pub(super) fn get(heap: &Heap, mutator: u32, obj: u32, i: u32) -> Plan
     Ok(Planned::reply(Reply::Word(heap.word_in(at))))
 }
 
-/// A word cell is written.
+/// Plans to write a word cell.
 #[inline(always)]
 pub(super) fn put(heap: &Heap, mutator: u32, obj: u32, i: u32, word: u64) -> Plan
     ensures { IsPlan heap.now mutator (Command.Put obj i word) result }
@@ -108,7 +109,7 @@ pub(super) fn put(heap: &Heap, mutator: u32, obj: u32, i: u32, word: u64) -> Pla
     Ok(Planned::done(Write::Word { at, word }))
 }
 
-/// A word cell is compared with a word, and gets another if they are the same.
+/// Plans to compare a word cell with a word, and to write another if they are the same.
 #[inline(always)]
 pub(super) fn compare_put(heap: &Heap, mutator: u32, obj: u32, i: u32, old: u64, new: u64) -> Plan
     ensures { IsPlan heap.now mutator (Command.ComparePut obj i old new) result }
@@ -125,7 +126,7 @@ pub(super) fn compare_put(heap: &Heap, mutator: u32, obj: u32, i: u32, old: u64,
     })
 }
 
-/// A slot gets what another holds.
+/// Plans to copy the reference in slot `src` to slot `dst`.
 #[inline(always)]
 pub(super) fn copy(heap: &Heap, mutator: u32, dst: u32, src: u32) -> Plan
     ensures { IsPlan heap.now mutator (Command.Copy dst src) result }
@@ -138,7 +139,7 @@ pub(super) fn copy(heap: &Heap, mutator: u32, dst: u32, src: u32) -> Plan
     }))
 }
 
-/// A slot gets null.
+/// Plans to set a slot to null.
 #[inline(always)]
 pub(super) fn clear(heap: &Heap, mutator: u32, dst: u32) -> Plan
     ensures { IsPlan heap.now mutator (Command.Clear dst) result }
@@ -147,7 +148,7 @@ pub(super) fn clear(heap: &Heap, mutator: u32, dst: u32) -> Plan
     Ok(Planned::done(Write::Root { cell, reference: 0 }))
 }
 
-/// A slot gets what a static holds.
+/// Plans to load static `k` into a slot.
 #[inline(always)]
 pub(super) fn load_static(heap: &Heap, mutator: u32, dst: u32, k: u32) -> Plan
     ensures { IsPlan heap.now mutator (Command.LoadStatic dst k) result }
@@ -164,7 +165,7 @@ pub(super) fn load_static(heap: &Heap, mutator: u32, dst: u32, k: u32) -> Plan
     })
 }
 
-/// A static gets what a slot holds.
+/// Plans to store the reference in slot `src` in static `k`.
 #[inline(always)]
 pub(super) fn store_static(heap: &Heap, mutator: u32, k: u32, src: u32) -> Plan
     ensures { IsPlan heap.now mutator (Command.StoreStatic k src) result }
@@ -177,7 +178,7 @@ pub(super) fn store_static(heap: &Heap, mutator: u32, k: u32, src: u32) -> Plan
     }))
 }
 
-/// A static is compared with a slot, and gets what another holds if they are the same.
+/// Plans to compare static `k` with slot `expect`, and to store the reference in slot `new` if they are the same.
 #[inline(always)]
 pub(super) fn compare_static(heap: &Heap, mutator: u32, k: u32, expect: u32, new: u32) -> Plan
     ensures { IsPlan heap.now mutator (Command.CompareStatic k expect new) result }
@@ -188,7 +189,7 @@ pub(super) fn compare_static(heap: &Heap, mutator: u32, k: u32, expect: u32, new
     Ok(heap.compared(heap.referent(cell), expected, source, Target::Root(cell)))
 }
 
-/// Two slots are compared, by the identities that they hold.
+/// Plans to compare two slots, by the identities that they hold.
 #[inline(always)]
 pub(super) fn same(heap: &Heap, mutator: u32, a: u32, b: u32) -> Plan
     ensures { IsPlan heap.now mutator (Command.Same a b) result }
@@ -198,7 +199,7 @@ pub(super) fn same(heap: &Heap, mutator: u32, a: u32, b: u32) -> Plan
     Ok(Planned::reply(Reply::Is(first.identity == second.identity)))
 }
 
-/// Says the identity and the shape of an object.
+/// Plans to reply the identity and the shape of the object in slot `a`.
 #[inline(always)]
 pub(super) fn describe(heap: &Heap, mutator: u32, a: u32) -> Plan
     ensures { IsPlan heap.now mutator (Command.Describe a) result }
@@ -208,7 +209,7 @@ pub(super) fn describe(heap: &Heap, mutator: u32, a: u32) -> Plan
     Ok(Planned::reply(Reply::Described(found.id, found.shape)))
 }
 
-/// A mutator is to be live.
+/// Plans to make a mutator live.
 #[inline(always)]
 pub(super) fn join(heap: &Heap, mutator: u32) -> Plan
     requires { mutator < heap.now.limits.mutators }
@@ -217,7 +218,7 @@ pub(super) fn join(heap: &Heap, mutator: u32) -> Plan
     Ok(Planned::done(Write::Join { mutator }))
 }
 
-/// A mutator is to be live no more.
+/// Plans to null a mutator's slots; it is then no longer live.
 #[inline(always)]
 pub(super) fn leave(heap: &Heap, mutator: u32) -> Plan
     requires { mutator < heap.now.limits.mutators }
@@ -227,7 +228,7 @@ pub(super) fn leave(heap: &Heap, mutator: u32) -> Plan
 }
 
 impl Heap {
-    /// What a slot of a mutator holds.
+    /// Returns the referent of a mutator's slot.
     #[inline(always)]
     fn referent_in_slot(&self, mutator: u32, slot: u32) -> Result<Referent, Refusal>
         ensures names { (g : Graph) → Agrees self.now g → IfOk result (HoldsBy self.now g mutator slot) }
@@ -237,7 +238,8 @@ impl Heap {
         Ok(self.referent(root))
     }
 
-    /// What a target holds is compared with what was expected: the same gives way to what a root holds.
+    /// Plans a comparison with the reference that a target is expected to hold. If they are the same, the target gets
+    /// the reference in root `source`.
     #[inline(always)]
     fn compared(
         &self,

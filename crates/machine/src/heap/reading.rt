@@ -1,4 +1,4 @@
-//! How the heap is read: by way of references and forwarding words.
+//! How the heap is read, through references and forwarding words.
 ghost use Rattle.std.specs.Prelude.{◌≡◌, ◌<◌, ◌≤◌, ℕ, true, length, slice_index, IfOk};
 ghost use Rattle.graph_heap.specs.Graph.{Graph, object_of};
 ghost use Rattle.graph_heap.specs.Shape.{fits};
@@ -17,7 +17,7 @@ use nodes::{Nodes, Referent};
 use size_classes::PART_CELLS;
 
 impl Heap {
-    /// What a root holds.
+    /// Returns the referent of a root.
     #[inline(always)]
     pub(super) fn referent(&self, root: usize) -> Referent
         requires { root < length self.now.roots }
@@ -26,7 +26,7 @@ impl Heap {
         self.fields.nodes.resolve(self.fields.roots.get(root))
     }
 
-    /// The object that a root holds, by its main copy.
+    /// Returns the main copy of the object that a root holds.
     #[inline(always)]
     pub(super) fn object(&self, root: usize) -> Result<Found, Refusal>
         requires { root < length self.now.roots }
@@ -48,7 +48,7 @@ impl Heap {
         })
     }
 
-    /// Where cell i of a kind stands, of the object that a root holds.
+    /// Returns the place of cell `i` of a kind, of the object that a root holds.
     #[inline(always)]
     pub(super) fn find(&self, root: usize, kind: Kind, i: u32) -> Result<Cell, Refusal>
         requires { root < length self.now.roots }
@@ -56,8 +56,9 @@ impl Heap {
     {
         let found = self.object(root)?;
         match found.shape {
-            // Commands on words make no other call, so that they keep next to nothing in registers. Those on references
-            // do, where they record. The place is asked for only to know that there is one: `far_cell` finds it anew.
+            // A command on words makes no other call, so it keeps next to nothing in registers; a command on
+            // references makes one if it records. This position is asked for only as a test, whether there is such a
+            // cell: `far_cell` finds it anew.
             Shape::WordArray(cells) if cells > PART_CELLS as u32 => {
                 let _place = position_in(kind, found.shape, i)?;
                 Ok(far_cell(&self.fields.nodes, found.block, cells, i))
@@ -73,7 +74,7 @@ impl Heap {
         }
     }
 
-    /// What a reference cell holds.
+    /// Returns the referent of a reference cell.
     #[inline(always)]
     pub(super) fn referent_in_cell(&self, at: Cell) -> Referent
         requires { (g : Graph) → Agrees self.now g → (id : ℕ) × (i : ℕ) × IsRefPlace self.now g id i at }
@@ -83,7 +84,7 @@ impl Heap {
         self.fields.nodes.resolve(load(&self.fields.nodes, at))
     }
 
-    /// What a word cell holds.
+    /// Returns the word in a word cell.
     #[inline(always)]
     pub(super) fn word_in(&self, at: Cell) -> u64
         requires { (g : Graph) → Agrees self.now g → (id : ℕ) × (i : ℕ) × IsWordPlace self.now g id i at }
@@ -94,7 +95,7 @@ impl Heap {
     }
 }
 
-/// Where cell i of a kind stands in an object of a shape, or why there is none.
+/// Returns the position of cell `i` of a kind in an object of a shape, or the refusal if there is no such cell.
 #[inline(always)]
 fn position_in(kind: Kind, shape: Shape, i: u32) -> Result<CellPosition, Refusal>
     requires { fits shape ≡ true }
@@ -106,8 +107,8 @@ fn position_in(kind: Kind, shape: Shape, i: u32) -> Result<CellPosition, Refusal
     }
 }
 
-/// Where cell i stands of an array of this many cells, of whichever kind, from the block of its part 0. It is out of the way of
-/// objects that are one part.
+/// Returns the place of cell `i` of an array with this many cells, of either kind, from the block of its part 0. It
+/// is a call out of line, so that objects of one part don't pay for it.
 #[cold]
 #[inline(never)]
 fn far_cell(nodes: &Nodes, block: usize, cells: u32, i: u32) -> Cell

@@ -1,4 +1,5 @@
-//! Runs: words of an object that stand in one part, read or written at once, and slots in a row, cleared at once.
+//! Runs. Words of an object that stand in one part are read or written at once, and slots in a row are cleared at
+//! once.
 ghost use Rattle.std.specs.Prelude.{◌≡◌, ◌+◌, ◌<◌, ◌≤◌, ◌^◌, ℕ, true, length, drop, min, slice_index, IfOk};
 ghost use Rattle.graph_heap.specs.Graph.{Graph};
 ghost use Rattle.heap_model.specs.Agreement.{Agrees};
@@ -15,8 +16,9 @@ use nodes::{HeapFields, Nodes};
 use size_classes::PART_CELLS;
 
 impl Heap {
-    /// Reads words of the object in slot obj from word cell `first` on: as many as the slice has room for and as stand in one
-    /// part of the object. They are put at the front of the slice, and the rest of it stays. Refused where that cell is.
+    /// Reads words of the object in slot `obj`, from word cell `first` on, into the front of the slice, and returns
+    /// how many. It reads as many as the slice has room for and as stand in one part of the object. The rest of the
+    /// slice stays. It is refused if `get` of cell `first` is.
     #[inline(always)]
     pub fn get_run(
         &self,
@@ -38,8 +40,8 @@ impl Heap {
         Ok(count as u32)
     }
 
-    /// Writes words into the object in slot obj from word cell `first` on: as many as there are and as stand in one part of
-    /// the object. Refused where that cell is.
+    /// Writes words into the object in slot `obj`, from word cell `first` on, and returns how many: as many as the
+    /// slice has and as stand in one part of the object. It is refused if `put` of cell `first` is.
     #[inline(always)]
     pub fn put_run(
         &mut self,
@@ -60,7 +62,8 @@ impl Heap {
         Ok(count as u32)
     }
 
-    /// Null into slots of a mutator, from the first on: `count` of them, or as many as there are. Refused where the first is.
+    /// Sets `count` slots of a mutator to null, from slot `first` on, or as many as there are, and returns how many.
+    /// It is refused if `clear` of slot `first` is.
     #[inline(always)]
     pub fn clear_run(&mut self, mutator: u32, first: u32, count: u32) -> Result<u32, Refusal>
         ensures length { result ≡ at_most count (slot_run self.old.limits self.old.live mutator first) }
@@ -79,7 +82,8 @@ impl Heap {
         Ok(count)
     }
 
-    /// Where the words of the object in slot obj stand from word cell `first` on, as many as stand in one part.
+    /// Returns the run of words of the object in slot `obj` that begins at word cell `first` and ends where its part
+    /// ends.
     #[inline(always)]
     fn run_of_words(&self, mutator: u32, obj: u32, first: u32) -> Result<Run, Refusal>
         ensures found { IfOk result (HasRun self.now mutator obj first) }
@@ -96,7 +100,7 @@ impl Heap {
     }
 }
 
-/// How many words of an object of a shape stand in one part, from word cell i on.
+/// Returns how many words of an object of a shape stand in one part, from word cell `i` on.
 #[inline(always)]
 fn words_from(shape: Shape, i: u32) -> usize
     ensures { result ≡ words_from shape i }
@@ -109,7 +113,7 @@ fn words_from(shape: Shape, i: u32) -> usize
     (words.saturating_sub(i) as usize).min(PART_CELLS - i as usize % PART_CELLS)
 }
 
-/// Reads this many cells of a block from one on.
+/// Reads `count` cells of a block into the front of a slice, from cell `at` on.
 #[inline(always)]
 fn read_row(nodes: &Nodes, at: Cell, words: &mut [u64], count: usize)
     requires allocated { is_allocated nodes.now at.block ≡ true }
@@ -125,7 +129,7 @@ fn read_row(nodes: &Nodes, at: Cell, words: &mut [u64], count: usize)
     }
 }
 
-/// The first words of a run get this many words.
+/// Writes the first `count` words of a slice into the first cells of a run.
 #[inline(always)]
 fn write_row(heap: &mut HeapFields, run: Run, words: &[u64], count: usize)
     requires heap { AreHeapFields heap.old }

@@ -1,5 +1,4 @@
-//! The writes of the heap. Each does one change of the graph heap, after it has recorded what it
-//! overwrites.
+//! The writes of the heap. Each does one change of the graph heap. It first records the reference that it overwrites.
 ghost use Rattle.std.specs.Prelude.{◌≡◌, ◌+◌, ◌<◌, ◌≤◌, false, length, slice_index};
 ghost use Rattle.heap_model.specs.Change.{Clears};
 ghost use Rattle.heap_model.specs.Written.{records};
@@ -32,7 +31,7 @@ pub fn do_write(heap: &mut HeapFields, mutator: u32, write: &Write)
     }
 }
 
-/// Records what a root holds, before it is overwritten.
+/// Records the reference in a root, before it is overwritten.
 #[inline(always)]
 fn record_root(heap: &mut HeapFields, mutator: u32, root: usize)
     requires heap { AreHeapFields heap.old }
@@ -44,7 +43,7 @@ fn record_root(heap: &mut HeapFields, mutator: u32, root: usize)
     record(heap, mutator, before);
 }
 
-/// A root gets a reference.
+/// Writes a reference into a root.
 #[inline(always)]
 fn write_root(heap: &mut HeapFields, mutator: u32, cell: usize, reference: u64)
     requires { CanWrite heap.old mutator (Write.Root cell reference) }
@@ -54,7 +53,7 @@ fn write_root(heap: &mut HeapFields, mutator: u32, cell: usize, reference: u64)
     heap.roots.set(cell, reference);
 }
 
-/// A reference cell of an object gets a reference.
+/// Writes a reference into a reference cell of an object.
 #[inline(always)]
 fn write_ref(heap: &mut HeapFields, mutator: u32, at: Cell, reference: u64)
     requires { CanWrite heap.old mutator (Write.Ref at reference) }
@@ -63,7 +62,7 @@ fn write_ref(heap: &mut HeapFields, mutator: u32, at: Cell, reference: u64)
     store(heap, mutator, at, reference);
 }
 
-/// An object is made, and a root gets its reference.
+/// Makes an object, and writes its reference into a root.
 #[inline(always)]
 fn write_new(heap: &mut HeapFields, mutator: u32, root: usize, shape: Shape)
     requires { CanWrite heap.old mutator (Write.New root shape) }
@@ -75,7 +74,7 @@ fn write_new(heap: &mut HeapFields, mutator: u32, root: usize, shape: Shape)
     heap.next += 1;
 }
 
-/// This many roots, from one on, get null one after the other, written by a mutator.
+/// Sets `count` roots to null, from root `first` on, one after the other, as writes of a mutator.
 #[inline(always)]
 pub fn null_roots(heap: &mut HeapFields, mutator: u32, first: usize, count: usize)
     requires heap { AreHeapFields heap.old }
@@ -90,7 +89,7 @@ pub fn null_roots(heap: &mut HeapFields, mutator: u32, first: usize, count: usiz
     }
 }
 
-/// This many roots, from one on, get null, in a phase that records nothing.
+/// Sets `count` roots to null, from root `first` on, in a phase that records nothing.
 #[inline(always)]
 pub fn null_unrecorded(heap: &mut HeapFields, first: usize, count: usize)
     requires heap { AreHeapFields heap.old }
@@ -104,7 +103,7 @@ pub fn null_unrecorded(heap: &mut HeapFields, first: usize, count: usize)
     }
 }
 
-/// The slots of a mutator get null, and it is live no more.
+/// Sets the slots of a mutator to null; it is then no longer live.
 #[inline(never)]
 fn write_leave(heap: &mut HeapFields, mutator: u32)
     requires heap { AreHeapFields heap.old }

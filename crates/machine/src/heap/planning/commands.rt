@@ -1,10 +1,10 @@
-//! Each command as a method of the heap: a mutator that may ask for it gets what was planned.
+//! Each command as a method of the heap, which does the command's plan if the mutator is admitted.
 ghost use Rattle.machine.specs.Plan.{Steps};
 
 use crate::heap::{Heap, planning};
 use graph_heap::{Command, Reply, Shape};
 
-/// Does what is planned for a mutator, if that may ask for it. Nothing is planned before it is known that it may.
+/// Does the plan of a command for a mutator, if it is admitted. Nothing is planned before that is known.
 macro_rules! committed {
     ($heap:expr, $mutator:expr, $joins:expr, $plan:ident($($field:expr),*)) => {
         match $heap.fields.roots.admit($mutator, $joins) {
@@ -15,7 +15,7 @@ macro_rules! committed {
 }
 
 impl Heap {
-    /// A new object, with null references and zero words, into slot dst.
+    /// Makes an object with null references and zero words, in slot `dst`.
     #[inline(always)]
     pub fn make(&mut self, mutator: u32, dst: u32, shape: Shape) -> Reply
         ensures { Steps self.old mutator (Command.New dst shape) result self.new }
@@ -23,7 +23,7 @@ impl Heap {
         committed!(self, mutator, false, make(dst, shape))
     }
 
-    /// A reference cell into slot dst.
+    /// Loads a reference cell of the object in slot `obj` into slot `dst`.
     #[inline(always)]
     pub fn load(&mut self, mutator: u32, dst: u32, obj: u32, i: u32) -> Reply
         ensures { Steps self.old mutator (Command.Load dst obj i) result self.new }
@@ -31,7 +31,7 @@ impl Heap {
         committed!(self, mutator, false, load(dst, obj, i))
     }
 
-    /// What slot src holds into a reference cell.
+    /// Stores the reference in slot `src` in a reference cell of the object in slot `obj`.
     #[inline(always)]
     pub fn store(&mut self, mutator: u32, obj: u32, i: u32, src: u32) -> Reply
         ensures { Steps self.old mutator (Command.Store obj i src) result self.new }
@@ -39,7 +39,7 @@ impl Heap {
         committed!(self, mutator, false, store(obj, i, src))
     }
 
-    /// What slot new holds into a reference cell, if that holds what slot expect does.
+    /// Stores the reference in slot `new` in a reference cell, if the cell holds the same reference as slot `expect`.
     #[inline(always)]
     pub fn compare_store(&mut self, mutator: u32, obj: u32, i: u32, expect: u32, new: u32) -> Reply
         ensures { Steps self.old mutator (Command.CompareStore obj i expect new) result self.new }
@@ -47,7 +47,7 @@ impl Heap {
         committed!(self, mutator, false, compare_store(obj, i, expect, new))
     }
 
-    /// Reads a word cell.
+    /// Reads a word cell of the object in slot `obj`.
     #[inline(always)]
     pub fn get(&mut self, mutator: u32, obj: u32, i: u32) -> Reply
         ensures { Steps self.old mutator (Command.Get obj i) result self.new }
@@ -55,7 +55,7 @@ impl Heap {
         committed!(self, mutator, false, get(obj, i))
     }
 
-    /// Writes a word cell.
+    /// Writes a word cell of the object in slot `obj`.
     #[inline(always)]
     pub fn put(&mut self, mutator: u32, obj: u32, i: u32, word: u64) -> Reply
         ensures { Steps self.old mutator (Command.Put obj i word) result self.new }
@@ -63,7 +63,7 @@ impl Heap {
         committed!(self, mutator, false, put(obj, i, word))
     }
 
-    /// Writes a word cell, if that is old.
+    /// Writes the word `new` into a word cell, if the cell holds the word `old`.
     #[inline(always)]
     pub fn compare_put(&mut self, mutator: u32, obj: u32, i: u32, old: u64, new: u64) -> Reply
         ensures { Steps self.old mutator (Command.ComparePut obj i old new) result self.new }
@@ -71,7 +71,7 @@ impl Heap {
         committed!(self, mutator, false, compare_put(obj, i, old, new))
     }
 
-    /// What slot src holds into slot dst.
+    /// Copies the reference in slot `src` to slot `dst`.
     #[inline(always)]
     pub fn copy(&mut self, mutator: u32, dst: u32, src: u32) -> Reply
         ensures { Steps self.old mutator (Command.Copy dst src) result self.new }
@@ -79,7 +79,7 @@ impl Heap {
         committed!(self, mutator, false, copy(dst, src))
     }
 
-    /// Null into slot dst.
+    /// Sets slot `dst` to null.
     #[inline(always)]
     pub fn clear(&mut self, mutator: u32, dst: u32) -> Reply
         ensures { Steps self.old mutator (Command.Clear dst) result self.new }
@@ -87,7 +87,7 @@ impl Heap {
         committed!(self, mutator, false, clear(dst))
     }
 
-    /// What static k holds into slot dst.
+    /// Loads static `k` into slot `dst`.
     #[inline(always)]
     pub fn load_static(&mut self, mutator: u32, dst: u32, k: u32) -> Reply
         ensures { Steps self.old mutator (Command.LoadStatic dst k) result self.new }
@@ -95,7 +95,7 @@ impl Heap {
         committed!(self, mutator, false, load_static(dst, k))
     }
 
-    /// What slot src holds into static k.
+    /// Stores the reference in slot `src` in static `k`.
     #[inline(always)]
     pub fn store_static(&mut self, mutator: u32, k: u32, src: u32) -> Reply
         ensures { Steps self.old mutator (Command.StoreStatic k src) result self.new }
@@ -103,7 +103,7 @@ impl Heap {
         committed!(self, mutator, false, store_static(k, src))
     }
 
-    /// What slot new holds into static k, if that holds what slot expect does.
+    /// Stores the reference in slot `new` in static `k`, if the static holds the same reference as slot `expect`.
     #[inline(always)]
     pub fn compare_static(&mut self, mutator: u32, k: u32, expect: u32, new: u32) -> Reply
         ensures { Steps self.old mutator (Command.CompareStatic k expect new) result self.new }
@@ -111,7 +111,7 @@ impl Heap {
         committed!(self, mutator, false, compare_static(k, expect, new))
     }
 
-    /// Whether two slots hold the same identity, or both null.
+    /// Replies whether two slots hold the same object, or both null.
     #[inline(always)]
     pub fn same(&mut self, mutator: u32, a: u32, b: u32) -> Reply
         ensures { Steps self.old mutator (Command.Same a b) result self.new }
@@ -119,7 +119,7 @@ impl Heap {
         committed!(self, mutator, false, same(a, b))
     }
 
-    /// The identity and the shape of the object in slot a.
+    /// Replies the identity and the shape of the object in slot `a`.
     #[inline(always)]
     pub fn describe(&mut self, mutator: u32, a: u32) -> Reply
         ensures { Steps self.old mutator (Command.Describe a) result self.new }
@@ -127,7 +127,7 @@ impl Heap {
         committed!(self, mutator, false, describe(a))
     }
 
-    /// The mutator becomes live.
+    /// Makes the mutator live.
     #[inline(always)]
     pub fn join(&mut self, mutator: u32) -> Reply
         ensures { Steps self.old mutator Command.Join result self.new }
@@ -135,7 +135,7 @@ impl Heap {
         committed!(self, mutator, true, join())
     }
 
-    /// Null into each slot of the mutator, which is live no more.
+    /// Sets each slot of the mutator to null; it is then no longer live.
     #[inline(always)]
     pub fn leave(&mut self, mutator: u32) -> Reply
         ensures { Steps self.old mutator Command.Leave result self.new }

@@ -18,7 +18,7 @@ all_more : (lines : List (List ℕ)) (line : List ℕ) → AllByRecursion IsLine
 all_more [] line all this = (this, tt)
 all_more (l ∷ lines) line all this = (all.0, all_more lines line all.1 this)
 
--- the next line, of the bytes behind the lines so far and those that came
+-- the next line, among the bytes after the lines so far and those that came
 pub one_more : (text more rest rest' line : List ℕ) (lines : List (List ℕ)) → Splits text lines rest → rest ++ more ≡ line ++ 10 ∷ rest' → IsLine line → Splits (text ++ more) (lines ++ line ∷ []) rest'
 one_more text more rest rest' line lines s e this = record {
   whole = ap (λ t. t ++ more) s.whole ∙ append_assoc (text_of lines) rest more ∙ ap (λ t. text_of lines ++ t) e ∙ one_more_text lines line rest';

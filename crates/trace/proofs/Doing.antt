@@ -1,4 +1,4 @@
--- What calls do to a player.
+-- The effects of calls on a player.
 use Rattle.std.proofs.Common.{◌≡◌, ◌≢◌, ℕ, ◌<◌, Bool, true, false, List, [], ◌∷◌, ◌++◌, Ok, Err, ap, ◌∙◌, sym, subst, refl}
 use Rattle.std.specs.Prelude.{Result, Some, None, IfOk, IfSome, IsErr, is_ok}
 use Rattle.graph_heap.specs.declared.command.Command.{Command}

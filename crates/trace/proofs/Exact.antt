@@ -1,4 +1,4 @@
--- Readers that are exact: what is read is spelled so, and what is spelled so is read.
+-- Exact readers: each value that is read is spelled so, and each value that is spelled so is read.
 use Rattle.std.proofs.Common.{◌≡◌, ℕ, zero, suc, ◌+◌, ◌^◌, ◌<◌, ◌≢◌, ◌⊎◌, inl, inr, Bool, true, false, cond, eqb, List, [], ◌∷◌, ◌++◌, length, take, drop, get_or, Some, None, nat_lt, Option, ap, ◌∙◌, sym, refl, arith, subst, length-append}
 use Rattle.std.specs.Prelude.{decimal, position, find}
 use Rattle.std.specs.List.{position_or_len}
@@ -15,7 +15,7 @@ use Rattle.trace.specs.Spelling.{two, three, four}
 use Rattle.trace.specs.Reading.{◌>>=◌, number_in, cut_at, after_in, after_or, field_in, two_in, three_in, four_in, number_then}
 use Rattle.trace.proofs.Numbers.{found_case, read_digits, number_in-spelled, number_in-Some}
 
--- the parts of what was read in steps
+-- the parts of a value that was read in steps
 pub bind_parts : {A B P : Type 0} (o : Option A) (f : A → Option B) (y : B) → (o >>= f) ≡ Some y → ((x : A) → o ≡ Some x → f x ≡ Some y → P) → P
 bind_parts None f y e k = absurd (cc)
 bind_parts (Some x) f y e k = k x refl e
@@ -27,7 +27,7 @@ pub chosen : {A : Type 0} (b : Bool) (x y : Option A) (z : A) → cond b x y ≡
 chosen true x y z e = inl (refl, e)
 chosen false x y z e = inr (refl, e)
 
--- what is found in a list passes the test
+-- a value that is found in a list passes the test
 pub found_passes : {A : Type 0} (p : A → Bool) (xs : List A) (x : A) → find p xs ≡ Some x → p x ≡ true
 found_passes p [] x e = absurd (cc)
 found_passes p (y ∷ xs) x e = elim (chosen (p y) (Some y) (find p xs) x e) [
@@ -35,7 +35,7 @@ found_passes p (y ∷ xs) x e = elim (chosen (p y) (Some y) (find p xs) x e) [
   | inr r ↦ found_passes p xs x r.1
 ]
 
--- a word at the front, and what stands after it
+-- a word at the front, and the bytes after it
 pub behind_is : (word bytes : List ℕ) → bytes_eq (take (length word) bytes) word ≡ true → bytes ≡ word ++ drop (length word) bytes
 behind_is word bytes e = sym (take-append-drop (length word) bytes) ∙ ap (λ l. l ++ drop (length word) bytes) ((bytes_eq-Decides (take (length word) bytes) word).0 e)
 
@@ -115,18 +115,18 @@ lacks byte (c ∷ cs) h (suc k) l e = lacks byte cs (free_parts (eqb c byte) (fr
 pub plain : (byte n : ℕ) → byte < 48 ⊎ 57 < byte → n < 2 ^ 64 → Lacks byte (decimal n)
 plain byte n out h k l = not_in_digits read_digits (decimal n) byte (digits_decimal read_digits n h) (λ r. absurd (omega (arith, r.0, out))) k l
 
--- a reader gives those values that fit, each of its one text
+-- a reader returns the values that fit, each for its one text
 pub record Exact {A : Type 0} (read : List ℕ → Option A) (text : A → List ℕ) (Fits : A → Type 0) : Type 0 where
   pub found : (bytes : List ℕ) (x : A) → read bytes ≡ Some x → (bytes ≡ text x) × Fits x
   pub only : (x : A) → Fits x → read (text x) ≡ Some x
 
--- either a word was at the front and what stands after it was read, or there is another answer
+-- either a word was at the front and the bytes after it were read, or there is another result
 pub word_or : {A P : Type 0} (o : Option (List ℕ)) (read : List ℕ → Option A) (other : Option A) (x : A) → after_or o read other ≡ Some x
     → ((rest : List ℕ) → o ≡ Some rest → read rest ≡ Some x → P) → (other ≡ Some x → P) → P
 word_or None read other x e f g = g e
 word_or (Some rest) read other x e f g = f rest refl e
 
--- what is read after a word at the front, made into something else that has a spelling
+-- the value read after a word at the front, made into another value that has a spelling
 pub made_of : {A B : Type 0} (Is : List ℕ → B → Type 0) (word bytes rest : List ℕ) (read : List ℕ → Option A) (text : A → List ℕ) (Fits : A → Type 0) → Exact read text Fits → (f : A → B) → ((x : A) → Fits x → Is (word ++ text x) (f x))
     → (y : B) → after_in word bytes ≡ Some rest → (read rest >>= λ x. Some (f x)) ≡ Some y → Is bytes y
 made_of Is word bytes rest read text Fits exact f is y front e = bind_parts (read rest) _ y e (λ x ex e1.
@@ -161,7 +161,7 @@ unfolding field_in
 field_in-spelled bits n rest to h =
     rw (cut_at-spelled 32 (decimal n) rest (plain 32 n (inl (omega arith)) (to n h)), number_in-spelled bits n (decimal n) h (to n h) refl) refl
 
--- a number and a blank in front of what another reader reads
+-- a number and a blank before the value of another reader
 module _ {A : Type 0} (bits : ℕ) (to : Narrow bits) (read : List ℕ → Option A) (text : A → List ℕ) (Fits : A → Type 0) (behind : Exact read text Fits) where
   abbrev pub front_text : ℕ × A → List ℕ
   front_text p = decimal p.0 ++ 32 ∷ text p.1

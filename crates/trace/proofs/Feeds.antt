@@ -42,7 +42,7 @@ front_is bytes n e =
     let same : n ≡ min 257 (length bytes) = omega (arith, e) in
     ap (λ k. take k bytes) same ∙ take_min 257 bytes
 
--- the line in a buffer, and what is kept behind it
+-- the line in a buffer, and the bytes kept after it
 module _ (buffer : List ℕ) (start end i : ℕ) (range : start ≤ end) (within : end ≤ length buffer) (lf : FirstLf (slice_range buffer start end) i) where
   short : i < end - start
   short = omega (arith, lf.within, length-take (end - start) (drop start buffer))

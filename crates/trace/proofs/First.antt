@@ -25,7 +25,7 @@ use Rattle.trace.specs.Player.{PlayerState, DoesLine, entries_in}
 use Rattle.trace.specs.Playing.{Session, session, PlaysLine, Played, PlayedFirst, PlayedUpTo, is_event, says_event, EndAtEvent, LinePlayed, written_of}
 use Rattle.trace.proofs.Lines.{enters_nothing, ends_so}
 
--- a line that is read as another than a skipped one is neither skipped nor tells the version
+-- a line that is read as an event isn't skipped, and doesn't tell the version
 not_skipped : (text : List ℕ) (version : Version) (line : Line) (b : Bool) → is_skipped text ≡ b → ((x : Line) → Spells version text x → line ≡ x) → says_event line ≡ true → not b ≡ true
 not_skipped text version line true e only some = let no : true ≡ false = sym some ∙ ap says_event (only lines.Skip e) in absurd (cc)
 not_skipped text version line false e only some = refl
@@ -58,7 +58,7 @@ pub went : (style : Style) (text : Text) (taken taken' : List ℕ) (line : Line)
 went style text taken taken' line old new es event read does written is =
     (es, inr (read.0, (line, read.1, (does, written))), is ∙ line_read text.bytes text.version line read.1 read.2)
 
--- the same of a line that is no command, of which nothing is written
+-- the outcome of a line that isn't a command, for which nothing is written
 pub went_on : (style : Style) (text : Text) (taken : List ℕ) (line : Line) (old new : PlayerState) (es : List Event) (event : Bool) → LineRead text (Ok (Some line)) → DoesLine old line es new
     → ((m : ℕ) (c : Command) → line ≢ lines.Command m c) → event ≡ says_event line → LinePlayed style text (session old taken) (session new taken) (Ok event)
 went_on style text taken line old new es event read does other is =
@@ -70,7 +70,7 @@ told_read text told = sym (ap is_event told.1)
 pub count_more : (ls : List (List ℕ)) (line : List ℕ) (event : Bool) → event ≡ is_event line → count_by is_event (ls ++ line ∷ []) ≡ count_by is_event ls + cond event 1 0
 count_more ls line event e = sum_by_push (λ (l : List ℕ). cond (is_event l) 1 0) ls line ∙ ap (λ b. count_by is_event ls + cond b 1 0) (sym e)
 
--- none is left: the input is cut after the lines
+-- if no event is left, the input is cut after the lines
 pub first_done : {style : Style} {given : Given} {old new : Session} {reader : Lines} (so : SoFar (PlaysLine style) given old new reader) (n : ℕ) → count_by is_event so.lines ≡ n → EndAtEvent so.lines → PlayedFirst n style given old new (Ok tt)
 first_done {style} {given} {old} {new} {reader} so n count end = inr (
   given.before ++ text_of so.lines,
@@ -93,7 +93,7 @@ first_done {style} {given} {old} {new} {reader} so n count end = inr (
   refl,
 )
 
--- How many events are left after some, where their number is limited.
+-- How many events are left after some, if their number is limited.
 abbrev pub AreLeft : Option ℕ → ℕ → Option ℕ → Type 0
 AreLeft None count left = left ≡ None
 AreLeft (Some n) count left = (k : ℕ) × (left ≡ Some k) × (k + count ≡ n)
@@ -102,7 +102,7 @@ pub left_at_first : (most : Option ℕ) → AreLeft most 0 most
 left_at_first None = refl
 left_at_first (Some n) = (n, refl, omega arith)
 
--- as long as some are
+-- while some are left
 positive : (left : Option ℕ) (k : ℕ) → left ≡ Some k → left ≢ Some 0 → 1 ≤ k
 positive left zero e some = absurd (some e)
 positive left (suc k) e some = omega arith
@@ -125,12 +125,12 @@ last_left left true lines line some is e = inr (lines, line, refl, sym is)
 last_left None false lines line some is e = absurd (cc)
 last_left (Some k) false lines line some is e = let none : k ≡ 0 = (let same = same_Some (k - 0) 0 e in omega (arith, same)) in absurd (some (ap Some none))
 
--- what is played of the input, while some are left
+-- the play of the input, while some events are left
 abbrev pub up_to : {style : Style} {given : Given} {old new : Session} {result : Result (Unit {0}) PlayFault} (most : Option ℕ) (p : Played style given old new result) → ((n : ℕ) → most ≡ Some n → count_by is_event p.over.lines < n) → PlayedUpTo most style given old new result
 up_to None p few = p
 up_to (Some n) p few = inl (p, few n refl)
 
--- and once none is
+-- the play of the input, if none is left
 pub none_left : (style : Style) {given : Given} {old new : Session} {reader : Lines} (so : SoFar (PlaysLine style) given old new reader) (most left : Option ℕ) → AreLeft most (count_by is_event so.lines) left → left ≡ Some 0 → EndAtEvent so.lines
     → PlayedUpTo most style given old new (Ok tt)
 none_left style so None left are none end = absurd (cc)

@@ -52,7 +52,7 @@ module _ (bytes : List ℕ) (n count : ℕ) (r : DigitsSpell bytes n count) wher
 abbrev pub Pair : ℕ → ℕ → Option (ℕ × ℕ)
 Pair n count = Some (n, count)
 
--- what stands in front of bytes that begin with a number
+-- the bytes at the front, if they begin with a number
 module _ (bytes rest : List ℕ) (m : ℕ) (fits : m < 2 ^ 64) (is : bytes ≡ decimal m ++ rest) (ends : NoDigitAt rest 0) where
   -- its digits are all the digits in front
   pub reach : (count : ℕ) → count ≤ length bytes → AllDigits 10 (take count bytes) → count ≤ length (decimal m)
@@ -95,7 +95,7 @@ module _ (bytes rest : List ℕ) (m : ℕ) (fits : m < 2 ^ 64) (is : bytes ≡ d
       let value : n ≡ m = r.value ∙ ap (λ k. digits_value 10 (take k bytes)) same ∙ ap (digits_value 10) front_is ∙ (decimal_is_IsNumeral m fits).1 in
       ap (λ k. Pair k count) value ∙ ap (Pair m) same
 
-  -- what the first digits write is at most the number
+  -- the first digits write at most the number
   pub row_most : (n count : ℕ) → DigitsSpell bytes n count → n ≤ m
   row_most n count r =
       let most = reach count r.within r.digits in
@@ -127,7 +127,7 @@ module _ (bytes rest : List ℕ) (m : ℕ) (fits : m < 2 ^ 64) (is : bytes ≡ d
     | inr e ↦ ap (λ k. length (decimal k)) e ∙ ap length (decimal_digit 0 (omega arith))
   ]
 
--- what a reader of a number in front promises
+-- the promise of a reader of a number at the front
 abbrev pub Only : List ℕ → Option (ℕ × ℕ) → Type 0
 Only bytes result = (m : ℕ) (rest : List ℕ) → m < 2 ^ 64 → bytes ≡ decimal m ++ rest → NoDigitAt rest 0 → result ≡ Pair m (length (decimal m))
 

@@ -1,4 +1,4 @@
--- What a handler of lines did, as what lines do to a state.
+-- The work of a handler of lines, as effects of lines on a state.
 use Rattle.std.proofs.Common.{◌≡◌, ℕ, List, [], ◌∷◌, ◌++◌, length, inl, inr, refl, sym, subst, ap}
 use Rattle.std.specs.Prelude.{IsTrue, Result, Ok, Err}
 use Rattle.trace.specs.declared.fault.PlayFault.{PlayFault}
@@ -10,10 +10,10 @@ use Rattle.trace.specs.Handling.{HandlesLine, HandlerStops, LinesHandled}
 use Rattle.trace.specs.Streams.{Given}
 use Rattle.trace.specs.TextLine.{Text, text_after, IsNextVersion}
 
--- state: the state in which a handler is. Knows lines version events now done: what is known of it after these lines.
+-- state: the state of a handler. Knows lines version events now: the facts known after these lines.
 module _ {H S E : Type 0} (Handles : Text → H → H → Result (Unit {0}) PlayFault → Type 0) (Moves : Text → S → List E → S → Type 0) (state : H → S) (first : H)
     (Knows : (lines : List (List ℕ)) (version : Version) (events : List E) (now : H) → LinesDone Moves (state first) lines version events (state now) → Type 0) where
-  -- a line more that the handler did moves the state, and as much is known
+  -- one more line that the handler did moves the state, and the same is known
   pub record Follows : Type 0 where
     pub at_first : Knows [] First [] first No_lines
     pub then : (lines : List (List ℕ)) (version : Version) (events : List E) (mid : H) (done : LinesDone Moves (state first) lines version events (state mid)) → Knows lines version events mid done
@@ -62,7 +62,7 @@ module _ {H S E : Type 0} (Handles : Text → H → H → Result (Unit {0}) Play
     module _ (fault : PlayFault)
         (stops : (lines : List (List ℕ)) (version : Version) (events : List E) (mid : H) (done : LinesDone Moves (state first) lines version events (state mid)) → Knows lines version events mid done
         → (line : List ℕ) → Handles (text_after lines version line) mid new (Err fault) → Stops fault (text_after lines version line) (state mid) (state new)) where
-      -- how the fault ends the lines
+      -- the fault ends the lines
       stopped : (lines : List (List ℕ)) (version : Version) (told : List (Unit {0})) (events : List E) (mid : H) (rest : List ℕ) (done : LinesDone Moves (state first) lines version events (state mid)) → Knows lines version events mid done
           → ProcessingEnds (HandlerStops Handles) {A = InputEnd} (record { lines = lines; version = version; events = told; state = mid; rest = rest }) given.ended new (Err fault)
           → ProcessingEnds Stops {A = A} (record { lines = lines; version = version; events = events; state = state mid; rest = rest }) given.ended (state new) (Err fault)

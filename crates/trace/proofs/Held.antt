@@ -1,4 +1,4 @@
--- How plays end where a line can't be asked for.
+-- The end of a play in which a line can't be asked for.
 use Rattle.std.proofs.Common.{◌≡◌, ◌≢◌, ◌<◌, inl, inr, Bool, length, refl}
 use Rattle.std.specs.Prelude.{Result, Err}
 use Rattle.trace.specs.declared.fault.PlayFault.{PlayFault}

@@ -7,7 +7,7 @@ use Rattle.trace.specs.Spelling.{keyword_text}
 use Rattle.trace.specs.Reading.{after_in, found_or, keywords_by, first_keyword_in, front_keyword_in}
 use Rattle.trace.proofs.Exact.{told, after_in-Some}
 
--- the word of each kind, with a blank after it, tells the kind
+-- the word of a kind, with a blank after it, belongs to that kind alone
 pub front_keyword_in-spelled : (k : Keyword) (rest : List ℕ) → front_keyword_in (keyword_text k ++ 32 ∷ rest) ≡ Some (k, rest)
 unfolding front_keyword_in keywords_by first_keyword_in after_in
 front_keyword_in-spelled keywords.New rest = refl
@@ -25,7 +25,7 @@ front_keyword_in-spelled keywords.CompareStatic rest = refl
 front_keyword_in-spelled keywords.Same rest = refl
 front_keyword_in-spelled keywords.Describe rest = refl
 
--- a keyword and what stands after it, at the front of bytes
+-- a keyword and the bytes after it, at the front of bytes
 abbrev pub Begins : List ℕ → Keyword × List ℕ → Type 0
 Begins bytes p = bytes ≡ keyword_text p.0 ++ 32 ∷ p.1
 
@@ -41,7 +41,7 @@ first_begins (k ∷ ks) bytes p e =
     (λ rest is. after_in-Some (keyword_text k ++ codes " ") bytes rest is ∙ append_assoc (keyword_text k) (codes " ") rest)
     (first_begins ks bytes p) e
 
--- what is found stands at the front
+-- the keyword that is found stands at the front
 pub front_keyword_in-Some : (bytes : List ℕ) (p : Keyword × List ℕ) → front_keyword_in bytes ≡ Some p → Begins bytes p
 unfolding front_keyword_in
 front_keyword_in-Some bytes p e = first_begins _ bytes p e

@@ -16,13 +16,13 @@ line_feeds xs = mask_l (map (λ x. eqb x 10) xs)
 abbrev before : List ℕ → ℕ
 before xs = prefix_len (λ x. not (eqb x 10)) xs
 
--- what comes before the first LF is none
+-- no byte before the first LF is LF
 passed : (xs : List ℕ) (k : ℕ) → k < before xs → eqb (get_or xs k 0) 10 ≡ true → ⊥
 passed xs k low is =
     let not_here = not-true _ (prefix_len_passes (λ x. not (eqb x 10)) xs k 0 low) in
     cc
 
--- where the mask is empty there is none
+-- if the mask is empty, there is no LF
 pub no_lane : (xs : List ℕ) → line_feeds xs ≡ 0 → IsFirstByte (is_byte 10) xs None
 no_lane xs e k from to is = passed xs k (omega (arith, to, leading_from_mask_l (λ x. eqb x 10) xs e)) is
 
@@ -30,7 +30,7 @@ set_case : (b : Bool) (m k l : ℕ) → 0 < cond b 1 0 + 2 * m → (0 < m → k 
 set_case true m k l some f = omega arith
 set_case false m k l some f = omega (arith, f (omega arith))
 
--- where it isn't, fewer come before the first than there are
+-- if the mask isn't empty, fewer bytes come before the first LF than there are
 some_lane : (xs : List ℕ) → 0 < line_feeds xs → before xs < length xs
 some_lane [] some = absurd (omega arith)
 some_lane (x ∷ xs) some = set_case (eqb x 10) (line_feeds xs) (before xs) (length xs) some (some_lane xs)

@@ -1,4 +1,4 @@
--- What lines do, one after the other.
+-- The effects of lines, one after the other.
 use Rattle.std.proofs.Common.{◌≡◌, ◌≢◌, ℕ, ◌+◌, inl, inr, List, [], ◌∷◌, ◌++◌, length, length-append, arith, append_assoc, append-nil, ap, ◌∙◌, sym, subst, refl}
 use Rattle.std.specs.Prelude.{Result}
 use Rattle.std.proofs.lemmas.Grind.{flat_map-append}
@@ -21,7 +21,7 @@ use Rattle.trace.specs.declared.player.style.Style.{Style}
 use Rattle.trace.specs.declared.player.style.Style.TheVariants.{Nothing}
 use Rattle.trace.specs.Playing.{Session, PlaysLine, StopsText, Played, written_line, written_of, written_version, text_written}
 
--- the entries of more events, and what is written of them
+-- the entries of more events, and the text written for them
 pub entries_more : (es fs : List Event) → entries_in (es ++ fs) ≡ entries_in es ++ entries_in fs
 entries_more [] fs = refl
 entries_more (Command_done m c reply ∷ es) fs = ap (λ l. (record { mutator = m; command = c; reply = reply }) ∷ l) (entries_more es fs)
@@ -87,7 +87,7 @@ told_written style version taken taken' taken'' es is none same new =
     let told = written_version Second style in
     new ∙ ap (λ t. t ++ told) same ∙ ap (λ t. taken ++ t) (sym (append-nil told)) ∙ ap (λ l. taken ++ text_written style Second (entries_in l)) (sym none) ∙ ap (λ v. taken ++ text_written style v (entries_in es)) (sym is)
 
--- what is written of the lines
+-- the text written for the lines
 pub lines_written : (style : Style) (old new : Session) (ls : List (List ℕ)) (version : Version) (es : List Event) → LinesDone (PlaysLine style) old ls version es new → new.taken ≡ old.taken ++ text_written style version (entries_in es)
 lines_written style old new ls version es No_lines = sym (append-nil old.taken)
 lines_written style old new ls version es (One_line_more ls' before version' es' more text mid new' d (inl told) next) =
@@ -97,7 +97,7 @@ lines_written style old new ls version es (One_line_more ls' before version' es'
     subst (λ v. new'.taken ≡ old.taken ++ text_written style v (entries_in (es' ++ more))) (sym (next_same _ version' next does.0))
     (written_more style before old.taken mid.taken new'.taken es' more (lines_written style old mid ls' before es' d) does.1.2.1)
 
--- what is played, by how the lines of an input were done and how it ended
+-- the play of an input, from its lines and its end
 abbrev pub ends_so : {style : Style} {given : Given} {old new : Session} {result : Result (Unit {0}) PlayFault} → LinesProcessed (PlaysLine style) given old (λ reached. ProcessingEnds (StopsText style) reached given.ended new result) → Played style given old new result
 ends_so {style} {given} {old} {new} {result} over =
     let runs = lines_run style old over.mid over.lines over.version over.events over.done in
@@ -124,7 +124,7 @@ pub nothing_written : (entries : List Entry) → written_of Nothing entries ≡ 
 nothing_written [] = refl
 nothing_written (e ∷ entries) = nothing_written entries
 
--- nor of lines
+-- nothing is written for lines
 pub nothing_told : (version : Version) (entries : List Entry) → text_written Nothing version entries ≡ []
 nothing_told First entries = nothing_written entries
 nothing_told Second entries = nothing_written entries

@@ -1,4 +1,4 @@
--- Going through lines: what is done so far, and how it goes on and ends.
+-- Going through lines: the lines so far, the next line, and the end.
 use Rattle.std.proofs.Common.{Bool, true, false, ◌≡◌, ℕ, ◌+◌, ◌≤◌, inl, inr, List, [], ◌∷◌, ◌++◌, length, arith, length-append, append_assoc, append-nil, ap, ◌∙◌, sym, subst, refl}
 use Rattle.std.specs.Prelude.{IsTrue, Ok, Err, Option, Some, None}
 use Rattle.trace.specs.declared.fault.PlayFault.{PlayFault}
@@ -11,7 +11,7 @@ use Rattle.trace.specs.TextLine.{Text, text_after, IsVersionLine, IsNextVersion}
 use Rattle.trace.specs.declared.version.Version.TheVariants.{Second}
 use Rattle.trace.proofs.Cutting.{one_more}
 
--- what is known of an input stays
+-- the known input stays
 pub stays_same : (o : Option (List ℕ)) → Stays o o
 stays_same None = tt
 stays_same (Some all) = refl
@@ -36,7 +36,7 @@ rest_more given after kept rest ended lines r comes small = record {
   small = small;
 }
 
--- a line more
+-- one more line
 pub line_more : (given : Given) (after kept kept' line : List ℕ) (ended : Bool) (lines : List (List ℕ)) → LinesRead given lines kept → Comes given.after after kept (line ++ 10 ∷ kept') → IsLine line → length (line ++ 10 ∷ kept') ≤ 65536
     → LinesRead (later given after ended) (lines ++ line ∷ []) kept'
 line_more given after kept kept' line ended lines r comes is small = record {
@@ -155,7 +155,7 @@ module _ {S E : Type 0} {Moves : Text → S → List E → S → Type 0} {given 
         ends_at A Stops fault new stops =
             ends_in (λ t. Stops fault t mid new) stops _ (λ count rest there. inr there)
 
-        -- a line more is done
+        -- one more line is done
         abbrev pub goes_on : (new : S) (events : List E) → Moves text mid events new → SoFar Moves (later given after ended) old new next
         goes_on new events goes = record {
           lines = so.lines ++ next.text.bytes ∷ [];

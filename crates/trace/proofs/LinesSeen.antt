@@ -1,4 +1,4 @@
--- What an observer sees of the lines of an input.
+-- The steps of the lines of an input, as an observer sees them.
 use Rattle.std.proofs.Common.{◌≡◌, ◌≢◌, ℕ, ◌+◌, ◌≤◌, ◌⊎◌, inl, inr, Bool, true, false, cond, List, [], ◌∷◌, ◌++◌, length, length-append, Ok, Err, refl, ap, ◌∙◌, sym, subst, append-nil, arith}
 use Rattle.std.specs.Prelude.{Option, Some, None, Result}
 use Rattle.std.proofs.lemmas.List.{map-append}
@@ -58,7 +58,7 @@ stops_text : (fault : PlayFault) (text : Text) (old new : PlayerState) → fault
 stops_text fault text old new other (inl stops) = stops
 stops_text fault text old new other (inr refused) = absurd (other refused.0)
 
--- what comes at a line
+-- the outcome of a line
 at_line : {None There : Type 0} → (⊥ × None) ⊎ There → There
 at_line (inl none) = absurd none.0
 at_line (inr there) = there
@@ -69,11 +69,11 @@ module _ {O : Type 0} (HasSeen : Run → O → Type 0) where
   text_stops Refuses text line old new fault read (inl stops) = inl (inr (inl (line, read.1, stops Nothing [])))
   text_stops Refuses text line old new fault read (inr refused) = inr (refused.0, line, read.1, refused.2)
 
-  -- where memory is refused to the observer after a line, the line is done
+  -- if memory is refused to the observer after a line, the line is done
   pub refused_after : (text : Text) (line : Line) (old : Observed O) (p : PlayerState) (mid : O) → LineRead text (Ok (Some line)) → LineSeen HasSeen text.number line old (observed p mid) → TextStops Without_memory text old.player p
   refused_after text line old p mid read seen = inr (refl, line, read.1, inr (seen.0, seen.1))
 
-  -- no moment more, and no step
+  -- no new moment, and no new step
   no_moment : (run : Run) (o : O) → HasSeen run o → HasSeen (record run { moments = run.moments ++ [] }) o
   no_moment run o has = subst (λ l. HasSeen (record run { moments = l }) o) (sym (append-nil run.moments)) has
 
@@ -92,7 +92,7 @@ module _ {O : Type 0} (HasSeen : Run → O → Type 0) where
         (nothing_more run o.player.course o.observer now has),
   )
 
-  -- a line that was read, and of which the observer is told at its end or not
+  -- a line that was read; its end is reported to the observer, if it is that of an event
   observed_to : (text : Text) (line : Line) (old : Observed O) (p : PlayerState) (mid new : O) (event : Bool) → LineRead text (Ok (Some line)) → LineSeen HasSeen text.number line old (observed p mid) → event ≡ says_event line
       → ((run : Run) → HasSeen run mid → run.now ≡ p.course → HasSeen (record run { moments = run.moments ++ cond event (moment text.number p.course.heap ∷ []) [] }) new) → TextObserved HasSeen text old (observed p new) (Ok tt)
   observed_to text line old p mid new event read seen is tells =
@@ -138,7 +138,7 @@ module _ {O : Type 0} (HasSeen : Run → O → Type 0) where
         let all = all_moved (TextObserved HasSeen) (PlaysLine Nothing) state first Known along given new end handled in
         (ends_so (over_all (TextObserved HasSeen) (PlaysLine Nothing) state first Known (StopsText Nothing) (Unit {0}) given new tt all), all.knows, all.count)
 
-    -- a text stops as what is played
+    -- a text stops as its play does
     stops_so : (fault : PlayFault) → LinesHandled (TextObserved HasSeen) given first new (Err fault) → ((text : Text) (mid : Observed O) → TextStops fault text mid.player new.player → StopsText Nothing fault text (state mid) (state new)) → Played Nothing given (state first) (state new) (Err fault)
     stops_so fault handled stops =
         ends_so (over_stopped (TextObserved HasSeen) (PlaysLine Nothing) state first Known (StopsText Nothing) (Unit {0}) given new fault (λ lines version events mid done known line stopped. stops _ mid stopped) along handled)

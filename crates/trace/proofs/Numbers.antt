@@ -13,7 +13,7 @@ both_true : (a b : Bool) → a ≡ true → b ≡ true → (a && b) ≡ true
 both_true true b p q = q
 both_true false b p q = p
 
--- what is spelled so is read
+-- a number that is spelled so is read
 pub number_in-spelled : (bits n : ℕ) (bytes : List ℕ) → n < 2 ^ bits → n < 2 ^ 64 → bytes ≡ decimal n → number_in bits bytes ≡ Some n
 unfolding number_in
 number_in-spelled bits n bytes h wide e =
@@ -22,7 +22,7 @@ number_in-spelled bits n bytes h wide e =
     let same : bytes_eq bytes (decimal (digits_value 10 bytes)) ≡ true = (bytes_eq-Decides bytes (decimal (digits_value 10 bytes))).1 (e ∙ ap decimal (sym v)) in
     ap (λ b. cond b (Some (digits_value 10 bytes)) None) (both_true _ _ small same) ∙ ap Some v
 
--- what is found by a test
+-- the value found by a test
 pub found_case : {A : Type 0} (b : Bool) (x y : A) → cond b (Some x) None ≡ Some y → (b ≡ true) × (x ≡ y)
 found_case true x y e = (refl, (cc))
 found_case false x y e = absurd (cc)
@@ -31,7 +31,7 @@ found_case false x y e = absurd (cc)
 pub read_digits : IsNumeralModel (AllDigits 10) (digits_value 10)
 read_digits = numerals_by_value (AllDigits 10) tells_digits
 
--- what is read is spelled so
+-- a number that is read is spelled so
 pub number_in-Some : (bits n : ℕ) (bytes : List ℕ) → number_in bits bytes ≡ Some n → (n < 2 ^ bits) × (bytes ≡ decimal n)
 unfolding number_in
 number_in-Some bits n bytes e =
@@ -46,7 +46,7 @@ none_case (Some n) h = absurd (h n refl)
 pub number_in-None : (bits : ℕ) (bytes : List ℕ) → ((n : ℕ) → n < 2 ^ bits → bytes ≡ decimal n → ⊥) → number_in bits bytes ≡ None
 number_in-None bits bytes h = none_case (number_in bits bytes) (λ n e. let f = number_in-Some bits n bytes e in h n f.0 f.1)
 
--- the last digit, behind the others
+-- the last digit, after the others
 pub one_digit_more : (front mid after : List ℕ) (n : ℕ) → 10 ≤ n → n < 2 ^ 64 → mid ≡ front ++ decimal (n / 10) → after ≡ mid ++ ((48 + n % 10) ∷ []) → after ≡ front ++ decimal n
 one_digit_more front mid after n some fits e is =
     is ∙ ap (λ l. l ++ ((48 + n % 10) ∷ [])) e ∙ append_assoc front (decimal (n / 10)) ((48 + n % 10) ∷ []) ∙ ap (λ l. front ++ l) (sym (decimal_step n some fits))

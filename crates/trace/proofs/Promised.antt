@@ -1,4 +1,4 @@
--- What is promised of a heap with its history is promised of what a play leaves.
+-- A play leaves a heap with its history with all promises.
 use Rattle.std.proofs.Common.{◌≡◌, ◌<◌, ℕ, ◌+◌, inl, inr, Bool, true, Ok, Err, List, [], ◌∷◌, ◌++◌, length, arith, ap, ◌∙◌, sym, subst}
 use Rattle.std.specs.Prelude.{Option, None, Some, Result}
 use Rattle.graph_heap.specs.declared.command.Entry.{Entry}
@@ -35,8 +35,8 @@ Reaches old new = (es : List Event) × Runs old.course es new.course
 same_reached : (old new : PlayerState) → new ≡ old → Reaches old new
 same_reached old new e = ([], ap (λ (p : PlayerState). p.course) e)
 
--- what a line in fault leaves: a command of which a write failed is done, and so are quanta that are due where memory is
--- refused for the next
+-- The player after a line in fault: a command of which a write failed is done, and so are the due quanta before the
+-- one for which memory was refused.
 line_stopped : (style : Style) (fault : PlayFault) (line : Line) (number : ℕ) (mid new : Session) → Stops style fault line number mid new → Reaches mid.player new.player
 line_stopped style (At_line k ClockSpent) lines.Skip number mid new s = elim s [ ]
 line_stopped style (At_line k ClockSpent) (lines.Command m c) number mid new s = elim s [ ]
@@ -66,7 +66,7 @@ text_stopped style fault text mid new (inl none) = same_reached mid.player new.p
 text_stopped style fault text mid new (inr (inl (line, spells, stops))) = line_stopped style fault line text.number mid new stops
 text_stopped style fault text mid new (inr (inr told)) = same_reached mid.player new.player told.2
 
--- how a play ends
+-- the end of a play
 pub end_reached : (style : Style) (reached : Reached Session Event) (ended : Bool) (new : Session) (result : Result (Unit {0}) PlayFault) → ProcessingEnds (StopsText style) reached ended new result → Reaches reached.state.player new.player
 end_reached style reached ended new (Ok all) e = same_reached reached.state.player new.player (ap (λ (s : Session). s.player) e.2)
 end_reached style reached ended new (Err fault) (inl e) = same_reached reached.state.player new.player (ap (λ (s : Session). s.player) e.1)
@@ -77,13 +77,13 @@ play_reaches style given old new result p =
     let last = end_reached style (reached_by p.over) given.ended new result p.over.ends in
     (p.over.events ++ last.0, runs_then p.over.events last.0 old.player.course p.over.mid.player.course new.player.course p.runs last.1)
 
--- a player after what was played up to some event
+-- a player after a play up to some event
 pub up_to_reaches : (most : Option ℕ) (style : Style) (given : Given) (old new : Session) (result : Result (Unit {0}) PlayFault) → PlayedUpTo most style given old new result → Reaches old.player new.player
 up_to_reaches None style given old new result p = play_reaches style given old new result p
 up_to_reaches (Some n) style given old new result (inl (all, few)) = play_reaches style given old new result all
 up_to_reaches (Some n) style given old new result (inr w) = play_reaches style (record given { after = w.0; ended = true }) old new result w.2
 
--- the same where a sink held something back
+-- a player after a play in which a sink held something back
 held_reaches : (most : Option ℕ) (style : Style) (given : Given) (old new : Session) (taken : Taken) (result : Result (Unit {0}) PlayFault) → OrHeld style taken result (PlayedUpTo most style given old new) → Reaches old.player new.player
 held_reaches most style given old new taken result (inl p) = up_to_reaches most style given old new result p
 held_reaches most style given old new taken result (inr held) = up_to_reaches most style given old new (Err Read) held.3
@@ -107,7 +107,7 @@ new_course config p n =
     let some : 0 < length p.course.heap.store.pages = (let one = config.pages_in_range.0 in let e = ap (λ (s : HeapSettings). s.pages) n.settings in omega (arith, one, e)) in
     subst IsCourse (sym (new_opened config p n)) (opening_course p.course.heap n.heap some)
 
--- of what is played on a new player
+-- the promises after a play on a new player
 pub play_promised : (config : Config) (style : Style) (given : Given) (old new : Session) (result : Result (Unit {0}) PlayFault) (p : Played style given old new result) → IsNew config old.player → Holds new.player.course × SpaceSuffices config p.over.events
 play_promised config style given old new result p n =
     let w = play_reaches style given old new result p in

@@ -46,7 +46,7 @@ exact_slot_and_shape = exact_front 32 narrow shape_in shape_text ShapeFits exact
 abbrev SpellsCommand : Version → List ℕ → Command → Type 0
 SpellsCommand version bytes c = (bytes ≡ command_text c) × CommandFits c × IsOf c version
 
--- what a reader gives, made into a command
+-- the value of a reader, made into a command
 made : {A : Type 0} (version : Version) (read : List ℕ → Option A) (text : A → List ℕ) (Fits : A → Type 0) → Exact read text Fits → (k : Keyword) (f : A → Command) → ((x : A) → Fits x → SpellsCommand version (keyword_text k ++ 32 ∷ text x) (f x))
     → (rest : List ℕ) (c : Command) → (read rest >>= λ x. Some (f x)) ≡ Some c → SpellsCommand version (keyword_text k ++ 32 ∷ rest) c
 made version read text Fits exact k f is rest c e = bind_parts (read rest) _ c e (λ x ex e1.
@@ -71,7 +71,7 @@ arguments_found version keywords.CompareStatic = made version _ _ _ (exact_three
 arguments_found version keywords.Same = made version _ _ _ (exact_two 32 32 narrow narrow) keywords.Same (λ n. commands.Same n.0 n.1) (λ n f. (refl, f, tt))
 arguments_found version keywords.Describe = made version _ _ _ (exact_number 32 narrow) keywords.Describe (λ n. commands.Describe n) (λ n f. (refl, f, tt))
 
--- a command is read again, given what reads its arguments
+-- a command is read again, if its arguments are
 again : {A : Type 0} (version : Version) (read : List ℕ → Option A) (text : A → List ℕ) (Fits : A → Type 0) → Exact read text Fits → (k : Keyword) (f : A → Command) → ((bytes : List ℕ) → arguments_in k bytes ≡ (read bytes >>= λ y. Some (f y)))
     → (x : A) → Fits x → command_in version (keyword_text k ++ 32 ∷ text x) ≡ Some (f x)
 unfolding command_in

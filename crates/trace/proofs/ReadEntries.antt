@@ -66,7 +66,7 @@ lacks_both (c ∷ x) y p q (suc k) h e = lacks_both x y (λ j g d. p (suc j) (om
 digits : (n : ℕ) → n < 2 ^ 64 → Lacks 61 (decimal n)
 digits n h = plain 61 n (inr (omega arith)) h
 
--- a number, and what stands behind a blank
+-- a number, and the bytes after a blank
 behind : (n : ℕ) (rest : List ℕ) → n < 2 ^ 64 → Lacks 61 rest → Lacks 61 (decimal n ++ 32 ∷ rest)
 behind n rest h p = lacks_both (decimal n) (32 ∷ rest) (digits n h) (lacks_both (32 ∷ []) rest (lacks 61 (32 ∷ []) refl) p)
 
@@ -79,7 +79,7 @@ three_lack a b c ha hb hc = behind a (two b c) ha (two_lack b c hb hc)
 four_lack : (a b c d : ℕ) → a < 2 ^ 64 → b < 2 ^ 64 → c < 2 ^ 64 → d < 2 ^ 64 → Lacks 61 (four a b c d)
 four_lack a b c d ha hb hc hd = behind a (three b c d) ha (three_lack b c d hb hc hd)
 
--- a word, and what stands behind it
+-- a word, and the bytes after it
 worded : (word rest : List ℕ) → free 61 word ≡ true → Lacks 61 rest → Lacks 61 (word ++ rest)
 worded word rest e p = lacks_both word rest (lacks 61 word e) p
 

@@ -25,7 +25,7 @@ all_parts true true c h = (refl, refl, h)
 all_parts true false c h = absurd (cc)
 all_parts false b c h = absurd (cc)
 
--- a name and a number behind it
+-- a name and a number after it
 named : (name rest word : List ℕ) (n : ℕ) → bytes_eq name word ≡ true → rest ≡ decimal n → name ++ 32 ∷ rest ≡ word ++ 32 ∷ decimal n
 named name rest word n e g = ap (λ l. l ++ 32 ∷ rest) ((bytes_eq-Decides name word).0 e) ∙ ap (λ l. word ++ 32 ∷ l) g
 

@@ -1,4 +1,4 @@
--- What an observer sees of lines.
+-- The steps of lines, as an observer sees them.
 use Rattle.std.proofs.Common.{◌≡◌, ◌≢◌, ℕ, ◌+◌, ◌<◌, ◌≤◌, ◌⊎◌, inl, inr, true, List, [], ◌∷◌, ◌++◌, Ok, Err, refl, ap, ◌∙◌, sym, subst, append_assoc, append-nil}
 use Rattle.std.specs.Prelude.{Some, None, Result}
 use Rattle.graph_heap.specs.declared.command.Command.{Command}
@@ -18,7 +18,7 @@ use Rattle.trace.specs.Player as players
 use Rattle.trace.specs.Steps.{Step, step, IsCommand, IsBegin, steps_due, steps_of}
 use Rattle.trace.specs.Ticking.{Begun, Spent, DueDone}
 
--- a run with no steps more
+-- a run with no new steps
 no_steps : (run : Run) (now : Course) → run.now ≡ now → after_steps run [] now ≡ run
 no_steps run now e = ap (λ l. record run { steps = l; now = now }) (append-nil run.steps) ∙ ap (λ n. record run { now = n }) (sym e)
 
@@ -68,7 +68,7 @@ module _ {O : Type 0} (HasSeen : Run → O → Type 0) where
       subst T (sym s.4)
       (Quantum_done budget s.0 s.1 ∷ [], Spends budget s.0 s.1 s.2 s.3, sees (step number (Quantum_done budget s.0 s.1) old.player.course s.2) ((s.0, s.1, refl), s.3) refl (sym same))
 
-  -- quanta are done that are due below a time, and the observer has seen them
+  -- the quanta that are due below a time are done, and the observer has seen them
   abbrev pub QuantaSeen : ℕ → Observed O → Observed O → Type 0
   QuantaSeen until old new = (number : ℕ) → (es : List Event) × (due : QuantaDue until old.player es new.player)
       × SeesSteps HasSeen old.player.course (steps_due number until old.player es new.player due) new.player.course old.observer new.observer
@@ -76,7 +76,7 @@ module _ {O : Type 0} (HasSeen : Run → O → Type 0) where
   pub none_seen : (until : ℕ) (o : Observed O) → QuantaSeen until o o
   none_seen until o = λ number. ([], None_yet, sees_none o.player.course o.observer)
 
-  -- one more is
+  -- one more quantum is done
   pub one_seen : (until : ℕ) (first old new : Observed O) → DueDone until old.player new.player (Ok true) → SeesQuantum HasSeen old.player.budget old new → QuantaSeen until first old → QuantaSeen until first new
   one_seen until first old new d sees so = λ number.
       let l = so number in
@@ -118,7 +118,7 @@ module _ {O : Type 0} (HasSeen : Run → O → Type 0) where
   ticks_passed n old new (Ok passed) seen passes number = seen number
   ticks_passed n old new (Err why) seen passes number = absurd (passes why refl)
 
--- where memory can't be refused to the observer
+-- if memory can't be refused to the observer
 pub in_silence : {A B C : Type 0} → A ⊎ (B × ⊥ × C) → A
 in_silence (inl a) = a
 in_silence (inr b) = absurd b.1

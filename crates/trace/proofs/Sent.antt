@@ -1,4 +1,4 @@
--- How far what lines wrote is sent on: what comes behind waited in the reader's buffer.
+-- How far the text of lines is sent on: the bytes after these lines waited in the reader's buffer.
 use Rattle.std.proofs.Common.{◌≡◌, ℕ, ◌+◌, ◌≤◌, ◌⊎◌, inl, inr, Bool, Ok, List, [], ◌∷◌, ◌++◌, length, arith, length-append, append_assoc, append-nil, ap, ◌∙◌, sym, subst, refl}
 use Rattle.std.specs.Prelude.{Result}
 use Rattle.std.specs.List.{AllByRecursion}
@@ -24,7 +24,7 @@ text_one : (lines : List (List ℕ)) (line : List ℕ) → length (text_of (line
 text_one [] line = omega (arith, length-append (line ++ 10 ∷ []) [], length-append line (10 ∷ []))
 text_one (l ∷ lines) line = omega (arith, text_one lines line, length-append (l ++ 10 ∷ []) (text_of (lines ++ line ∷ [])), length-append (l ++ 10 ∷ []) (text_of lines))
 
--- All that the first of these lines wrote is sent on, and what comes behind them waited in a buffer.
+-- All that the first of these lines wrote is sent on, and the bytes after them waited in a buffer.
 pub record SentSoFar (style : Style) (old : Session) (lines : List (List ℕ)) (events : List Event) (rest : List ℕ) (sent : ℕ) : Type 0 where
   pub before : List (List ℕ)
   pub behind : List (List ℕ)
@@ -59,7 +59,7 @@ module _ (style : Style) (old : Session) (lines : List (List ℕ)) (events : Lis
     few = w.few;
   }
 
-  -- a line more, which waited in the buffer
+  -- one more line, which waited in the buffer
   pub sent_on : (more : List Event) (line rest : List ℕ) (sent sent' : ℕ) → sent ≤ sent' → SentSoFar style old lines events (line ++ 10 ∷ rest) sent → SentSoFar style old (lines ++ line ∷ []) (events ++ more) rest sent'
   sent_on more line rest sent sent' l w = record {
     before = w.before;
@@ -98,7 +98,7 @@ module _ (style : Style) (old : Session) (lines : List (List ℕ)) (events : Lis
       few = omega (arith, small);
     }
 
-    -- a call for the next line: what it found waited, or nothing is written of lines, or all was sent on before
+    -- a call for the next line: its bytes waited, or nothing is written for lines, or all was sent on before
     pub asked_on : (kept rest : List ℕ) (sent sent' : ℕ) → SentSoFar style old lines events kept sent → sent ≤ sent' → length rest ≤ 65536 → (kept ≡ rest) ⊎ ((style ≡ Nothing) ⊎ (sent' ≡ length mid.taken)) → SentSoFar style old lines events rest sent'
     asked_on kept rest sent sent' w l small (inl same) = subst (λ (bytes : List ℕ). SentSoFar style old lines events bytes sent') same (still_sent kept sent sent' l w)
     asked_on kept rest sent sent' w l small (inr (inl silent)) = all_sent rest sent' small (inl (nothing_taken silent))
@@ -130,7 +130,7 @@ all_front : (xs ys : List (List ℕ)) → AllByRecursion IsLine (xs ++ ys) → A
 all_front [] ys all = tt
 all_front (x ∷ xs) ys all = (all.0, all_front xs ys all.1)
 
--- the lines of a front, and all behind them as the rest
+-- the lines of a front, and all lines after them as the rest
 front_read : (given : Given) (lines before behind : List (List ℕ)) (rest : List ℕ) → LinesRead given lines rest → lines ≡ before ++ behind → length (text_of behind) + length rest ≤ 65536 → LinesRead given before (text_of behind ++ rest)
 front_read given lines before behind rest read are few = record {
   text = read.text;
@@ -148,7 +148,7 @@ longer old mid now new first more last m n l =
     l ∙ ap (λ h. h ++ entries_in last) (n ∙ ap (λ es. old ++ es) (entries_more first more) ∙ sym (append_assoc old (entries_in first) (entries_in more)) ∙ ap (λ h. h ++ entries_in more) (sym m))
     ∙ append_assoc mid (entries_in more) (entries_in last)
 
--- what lines wrote is sent on so far, whatever was done after them
+-- the text of lines is sent on so far, whatever was done after them
 pub sent_from : (style : Style) (given : Given) (old now new : Session) (lines : List (List ℕ)) (version : Version) (events : List Event) (rest : List ℕ) (sent : ℕ) → LinesRead given lines rest → LinesDone (PlaysLine style) old lines version events now → Reaches now.player new.player
     → SentSoFar style old lines events rest sent → IsSentUpTo style given old new sent
 sent_from style given old now new lines version events rest sent read done last w =
@@ -172,13 +172,13 @@ sent_from style given old now new lines version events rest sent read done last 
       );
     }
 
--- also where it ended so
+-- the same holds at such an end
 abbrev pub sent_at_end : {style : Style} {given : Given} {old : Session} (new : Session) (result : Result (Unit {0}) PlayFault) (sent : ℕ) (over : LinesProcessed (PlaysLine style) given old (λ reached. ProcessingEnds (StopsText style) reached given.ended new result)) → SentSoFar style old over.lines over.events over.rest sent
     → IsSentUpTo style given old new sent
 sent_at_end {style} {given} {old} new result sent over w =
     sent_from style given old over.mid new over.lines over.version over.events over.rest sent over.read over.done (end_reached style (reached_by over) given.ended new result over.ends) w
 
--- or goes on
+-- the same holds if it goes on
 abbrev pub sent_meanwhile : {style : Style} {given : Given} {old now : Session} {reader : Lines} (sent : ℕ) (so : SoFar (PlaysLine style) given old now reader) → SentSoFar style old so.lines so.events reader.kept sent → IsSentUpTo style given old now sent
 sent_meanwhile {style} {given} {old} {now} {reader} sent so w =
     sent_from style given old now now so.lines reader.next so.events reader.kept sent so.read so.done ([], refl) w

@@ -5,12 +5,12 @@ use Rattle.trace.specs.declared.version.Version.{Version}
 use Rattle.trace.specs.declared.version.Version.TheVariants.{First}
 use Rattle.trace.specs.LineReader.{Lines}
 
--- the version of the line handed out last: the first line is in the first version, and each line after it in that which
--- the first line told
+-- the version of the line handed out last: that of the first line is the first version, and that of each later line
+-- is the one that the first line told
 abbrev pub version_in : Inside → Version
 version_in a = if nat_le a.number 1 then First else a.next
 
--- the fields of a reader, as what it shows
+-- the view of a reader's fields
 abbrev pub lines_in : Inside → Lines
 lines_in a = record {
   text = record {
@@ -22,7 +22,7 @@ lines_in a = record {
   next = a.next;
 }
 
--- The ranges lie in the buffer, the lines can be counted, and before the first line no version is told.
+-- The ranges lie in the buffer, the lines can be counted, and no version is told before the first line.
 pub record IsBuffered (a : Inside) : Type 0 where
   pub line : a.line_start ≤ a.line_end
   pub line_within : a.line_end ≤ 65536

@@ -1,5 +1,5 @@
--- A sink that gathers what it takes: the sink below, and the bytes that wait to be written to it. The bytes that it has
--- taken are those that the sink below has, and then these.
+-- A sink that gathers the bytes that it takes: the sink below, and the bytes that wait to be written to it. It has
+-- taken the bytes that the sink below has, and then those that wait.
 use Rattle.std.specs.Prelude.{ℕ, List, take}
 use Rattle.trace.specs.declared.streams.buffered.BufferedSink.{BufferedSink}
 

@@ -1,14 +1,14 @@
--- A source or sink that fails on purpose: what it passes calls on to, how many calls from now the one that fails is (0
--- for none), and how often it failed itself.
+-- A source or sink that fails on purpose: the stream to which it passes calls on, the number of calls up to the one
+-- that fails (0 if none will), and how often it failed itself.
 use Rattle.std.specs.Prelude.{ℕ, if◌then◌else◌}
 use Rattle.trace.specs.declared.streams.fail_at.FailAt.{FailAt}
 
 module _ {T : Type 0} where
-  -- what calls are passed on to
+  -- the stream to which calls are passed on
   abbrev pub passes_to : FailAt T → T
   passes_to s = s.inner
 
-  -- how many calls from now the one that fails is, 0 for none
+  -- the number of calls up to the one that fails; 0 if none will
   abbrev pub calls_left : FailAt T → ℕ
   calls_left s = s.left
 

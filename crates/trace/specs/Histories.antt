@@ -1,4 +1,4 @@
--- What it is to check a history.
+-- The check of a history.
 use Rattle.std.specs.Prelude.{◌≡◌, ℕ, ◌+◌, Bool, IsTrue, List, [], ◌∷◌, length, Result, Ok, Err}
 use Rattle.graph_heap.specs.declared.command.Entry.{Entry}
 use Rattle.graph_heap.specs.Graph.{Graph}
@@ -22,7 +22,7 @@ use Rattle.trace.specs.declared.transcripts.histories.Outcome.TheVariants as out
 abbrev pub DoesNothing : Graph → Graph → Type 0
 DoesNothing old new = new ≡ old
 
--- What another line does to a graph heap: it is skipped, or it is that of an entry, which is a step.
+-- The effect of another line on a graph heap: it is skipped, or it is that of an entry, which is a step.
 abbrev pub DoesEntry : Version → List ℕ → Graph → List Entry → Graph → Type 0
 DoesEntry version text old [] new = SpellsEntry version text lines.Skip × (new ≡ old)
 DoesEntry version text old (e ∷ []) new = SpellsEntry version text (lines.Entry e) × IsEntryOf old e
@@ -33,7 +33,7 @@ DoesEntry version text old (e ∷ f ∷ more) new = ⊥
 abbrev pub IsWrong : Graph → Text → Type 0
 IsWrong g text = (e : Entry) × SpellsEntry text.version text.bytes (lines.Entry e) × (¬ IsEntryOf g e)
 
--- A fault at a line: no entry is spelled so, it isn't skipped, and it doesn't tell the version; or memory was
+-- A fault at a line: no entry is spelled so, the line isn't skipped, and it doesn't tell the version; or memory was
 -- refused at an entry.
 abbrev pub HistoryStops : PlayFault → Text → Graph → Graph → Type 0
 HistoryStops (At_line k NotAnEntry) text old new = (k ≡ text.number)
@@ -41,9 +41,9 @@ HistoryStops (At_line k NotAnEntry) text old new = (k ≡ text.number)
 HistoryStops NoMemory text old new = (e : Entry) × SpellsEntry text.version text.bytes (lines.Entry e) × (new ≡ old)
 HistoryStops fault text old new = ⊥
 
--- How checking ends.
+-- The end of a check.
 abbrev pub HistoryEnds : Bool → Graph → Result Checked PlayFault → Reached Graph Entry → Type 0
--- all lines of the input are done, and these are all the entries
+-- all lines of the input are done, and this is the number of their entries
 HistoryEnds ended new (Ok (Good n)) reached = (reached.rest ≡ []) × IsTrue ended × (new ≡ reached.state)
     × (n ≡ length reached.events)
 -- the entry of the next line isn't a step
@@ -51,8 +51,8 @@ HistoryEnds ended new (Ok (Wrong k)) reached = (k ≡ length reached.lines + 1)
     × NextThere reached (IsWrong reached.state) × (new ≡ reached.state)
 HistoryEnds ended new (Err fault) reached = ProcessingEnds HistoryStops {A = Checked} reached ended new (Err fault)
 
--- A history, as it was checked from one graph heap to another: the entries of the lines done are legal, and
--- lead to the graph heap after them.
+-- A history was checked, from one graph heap to another: the entries of its lines are legal, and lead to the graph
+-- heap after them.
 pub record EntriesChecked (given : Given) (old new : Graph) (result : Result Checked PlayFault) : Type 0 where
   pub over : LinesProcessed (LineEffect DoesNothing DoesEntry) given old (HistoryEnds given.ended new result)
   pub legal : IsLegal old over.events

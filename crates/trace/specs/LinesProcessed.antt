@@ -1,4 +1,4 @@
--- What it is to go through the lines of an input, one after the other, where the first may tell their version.
+-- Going through the lines of an input, one after the other; the first may tell their version.
 use Rattle.std.specs.Prelude.{◌≡◌, ℕ, ◌+◌, ◌<◌, ◌≤◌, Bool, IsTrue, ◌⊎◌, List, [], ◌∷◌, ◌++◌, length, take, Result, Ok, Err}
 use Rattle.trace.specs.declared.fault.LineFault.TheVariants.{TooLong, NotEnded}
 use Rattle.trace.specs.declared.fault.PlayFault.{PlayFault}
@@ -28,12 +28,12 @@ NoLine Read count rest ended = IsLine rest
 NoLine Write count rest ended = ⊥
 NoLine NoMemory count rest ended = ⊥
 
--- The rest begins with a line for which this holds.
+-- The rest begins with a line for which Is holds.
 abbrev pub NextLine : (List ℕ → Type 0) → List ℕ → Type 0
 NextLine Is rest = (line : List ℕ) × (more : List ℕ) × (rest ≡ line ++ 10 ∷ more) × IsLine line × Is line
 
--- The place that is reached among lines: these are done, with these events, and lead to a state. The next line would
--- be of this version, and the rest isn't done.
+-- A place among the lines of an input: the lines before it are done, with these events, and lead to this state. The
+-- next line would have this version, and the rest isn't done.
 pub record Reached (S E : Type 0) : Type 0 where
   pub lines : List (List ℕ)
   pub version : Version
@@ -41,20 +41,20 @@ pub record Reached (S E : Type 0) : Type 0 where
   pub state : S
   pub rest : List ℕ
 
--- the next line there is one for which this holds
+-- the next line there is one for which Is holds
 abbrev pub NextThere : {S E : Type 0} → Reached S E → (Text → Type 0) → Type 0
 NextThere reached Is = NextLine (λ line. Is (text_after reached.lines reached.version line)) reached.rest
 
--- Tells old new: what the line that tells the version does to a state. Does version line old events new: what
--- a line of a version does to a state, and the events of it.
+-- Tells old new: the effect on a state of the line that tells the version. Does version line old events new: the
+-- effect of a line of a version on a state, and its events.
 module _ {S E : Type 0} (Tells : S → S → Type 0) (Does : Version → List ℕ → S → List E → S → Type 0) where
-  -- what a line does: it tells the version of those after it, or it is a line of its version
+  -- the effect of a line: it tells the version of the lines after it, or it is a line of its version
   abbrev pub LineEffect : Text → S → List E → S → Type 0
   LineEffect text old events new =
       (IsVersionLine text × (events ≡ []) × Tells old new)
       ⊎ ((¬ IsVersionLine text) × Does text.version text.bytes old events new)
 
--- Moves text old events new: what a line does to a state, and the events of it.
+-- Moves text old events new: the effect of a line on a state, and its events.
 module _ {S E : Type 0} (Moves : Text → S → List E → S → Type 0) where
   -- the lines, one after the other, do these events, and the next is of this version
   pub data LinesDone (old : S) : List (List ℕ) → Version → List E → S → Type 0 where
@@ -64,8 +64,8 @@ module _ {S E : Type 0} (Moves : Text → S → List E → S → Type 0) where
         → IsNextVersion (text_after lines version line) next
         → LinesDone old (lines ++ line ∷ []) next (events ++ more) new
 
-  -- What was done of an input: the bytes that it gave are these lines and a rest, and the lines did these
-  -- events. Ends says why it ended there.
+  -- The play of an input: the bytes that it gave are these lines and a rest, and the lines did these events.
+  -- ProcessingEnds says why it ended there.
   pub record LinesProcessed (given : Given) (old : S) (ProcessingEnds : Reached S E → Type 0) : Type 0 where
     pub lines : List (List ℕ)
     pub version : Version
@@ -76,9 +76,9 @@ module _ {S E : Type 0} (Moves : Text → S → List E → S → Type 0) where
     pub done : LinesDone old lines version events mid
     pub ends : ProcessingEnds (record { lines = lines; version = version; events = events; state = mid; rest = rest })
 
--- Stops fault text old new: at the line, a fault comes, and leaves this state.
+-- Stops fault text old new: a fault comes at the line, and leaves this state.
 module _ {S E : Type 0} (Stops : PlayFault → Text → S → S → Type 0) where
-  -- How going through lines ends, with this state.
+  -- The end of the lines, in this state.
   abbrev pub ProcessingEnds : {A : Type 0} → Reached S E → Bool → S → Result A PlayFault → Type 0
   -- all lines of the input are done
   ProcessingEnds reached ended new (Ok all) = (reached.rest ≡ []) × IsTrue ended × (new ≡ reached.state)
@@ -87,12 +87,12 @@ module _ {S E : Type 0} (Stops : PlayFault → Text → S → S → Type 0) wher
       (NoLine fault (length reached.lines) reached.rest ended × (new ≡ reached.state))
       ⊎ NextThere reached (λ text. Stops fault text reached.state new)
 
--- how many reads failed, and how many writes
+-- the number of failed reads
 abbrev pub reads_failed : {A : Type 0} → Result A PlayFault → ℕ
 reads_failed (Err Read) = 1
 reads_failed _ = 0
 
--- how many writes failed
+-- the number of failed writes
 abbrev pub writes_failed : {A : Type 0} → Result A PlayFault → ℕ
 writes_failed (Err Write) = 1
 writes_failed _ = 0

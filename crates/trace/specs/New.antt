@@ -8,8 +8,7 @@ use Rattle.machine.specs.Space.{SpaceSuffices}
 use Rattle.quanta.specs.Timetable as timetables
 use Rattle.trace.specs.Player.{PlayerState}
 
--- a player of a configuration at time 0: its heap is as at the start, it has no history, and no
--- cycle has begun
+-- a player of a configuration at time 0, with the heap of the start, no history, and no cycle begun
 pub record IsNew (config : Config) (p : PlayerState) : Type 0 where
   pub heap : IsOpening p.course.heap
   pub settings : settings_of p.course.heap ≡ settings_by config
@@ -20,7 +19,7 @@ pub record IsNew (config : Config) (p : PlayerState) : Type 0 where
   pub starts : p.starts ≡ []
   pub begun : p.begun ≡ false
 
--- whatever events are done, space suffices for them, where the player is a new one of a configuration
+-- if the player is a new one of a configuration, space suffices for whatever events are done
 abbrev pub StartsWithSpace : PlayerState → Type 0
 StartsWithSpace p = (config : Config) (es : List Event) (new : Course)
     → IsNew config p → Runs p.course es new → SpaceSuffices config es

@@ -12,8 +12,8 @@ abbrev pub IsNoEvent : PlayFault → Text → Type 0
 IsNoEvent fault text = (fault ≡ At_line text.number NotAnEvent)
     × ((x : Line) → Spells text.version text.bytes x → ⊥) × (¬ IsVersionLine text)
 
--- What is read of a line: that it tells the version of those after it; the one line that is spelled so; or that there
--- is none.
+-- The result for a line: it tells the version of the lines after it; or it is the one line that is spelled so; or no
+-- line is.
 abbrev pub LineRead : Text → Result (Option Line) PlayFault → Type 0
 LineRead text (Ok None) = IsVersionLine text
 LineRead text (Ok (Some line)) = (¬ IsVersionLine text) × Spells text.version text.bytes line

@@ -1,4 +1,4 @@
--- What an observer has seen of a run.
+-- The run that an observer has seen.
 use Rattle.std.specs.Prelude.{◌≡◌, ℕ, ◌<◌, ◌⊎◌, Bool, true, if◌then◌else◌, List, [], ◌∷◌, ◌++◌, length, Result, Ok, Err}
 use Rattle.graph_heap.specs.declared.no_memory.NoMemory.{NoMemory}
 use Rattle.size_classes.specs.declared.config.Config.{Config}
@@ -25,7 +25,7 @@ use Rattle.trace.specs.Playing.{Session, session, PlaysLine, Stops, StopsText, P
 use Rattle.trace.specs.Steps.{Step, IsQuantum, steps_of, steps_in}
 use Rattle.trace.specs.Ticking.{Ticked}
 
--- a heap, and after how many lines
+-- a heap, and the number of lines after which it was so
 pub record Moment : Type 0 where
   pub line : ℕ
   pub heap : HeapState
@@ -43,18 +43,18 @@ abbrev pub moments_in : (text : Text) (old : Session) (events : List Event) (new
     → PlaysLine Nothing text old events new → List Moment
 moments_in text old events new goes = moment_after text new.player.course.heap
 
--- Brings text old events new goes: what a line brings that was played.
+-- Brings text old events new goes: the items that a line brings that was played.
 module _ {X : Type 0}
     (Brings : (text : Text) (old : Session) (events : List Event) (new : Session)
     → PlaysLine Nothing text old events new → List X) where
-  -- what lines bring that were played, one after the other
+  -- the items that all these lines bring, one after the other
   abbrev pub brought : {old new : Session} {lines : List (List ℕ)} {version : Version} {events : List Event}
       → LinesDone (PlaysLine Nothing) old lines version events new → List X
   brought No_lines = []
   brought (One_line_more before version next events more line mid new done goes after) =
       brought done ++ Brings (text_after before version line) mid more new goes
 
--- A run so far: where it began, its steps, the moments after its lines of events, and where it is.
+-- A run so far: its beginning, its steps, the moments after its lines of events, and its present place.
 pub record Run : Type 0 where
   pub first : Course
   pub steps : List Step
@@ -83,11 +83,11 @@ run_of {old} {new} done = record {
   now = new.player.course;
 }
 
--- the run that played an input to its end
+-- the run of an input that was played to its end
 abbrev pub run_by : {given : Given} {old new : Session} → Played Nothing given old new (Ok tt) → Run
 run_by {new = new} played = record (run_of played.over.done) { now = new.player.course }
 
--- where the collector of a heap is
+-- the state of a heap's collector
 pub record IsMark (h : HeapState) (m : Mark) : Type 0 where
   pub phase : m.phase ≡ h.phase
   pub units : m.units ≡ h.units
@@ -100,7 +100,8 @@ observed player observer = record { player = player; observer = observer }
 abbrev pub IsDoneOrNot : Line → PlayerState → PlayerState → Type 0
 IsDoneOrNot line old new = (new ≡ old) ⊎ ((es : List Event) × DoesLine old line es new)
 
--- What a fault at a line's text is; or memory was refused to the observer, before the line was done or after it.
+-- A fault at a line's text is one of a play, or memory was refused to the observer, before the line was done or after
+-- it.
 abbrev pub TextStops : PlayFault → Text → PlayerState → PlayerState → Type 0
 TextStops fault text old new = StopsText Nothing fault text (session old []) (session new [])
     ⊎ ((fault ≡ Without_memory) × (line : Line) × Spells text.version text.bytes line × IsDoneOrNot line old new)
@@ -110,31 +111,31 @@ abbrev pub RunRefused : Given → PlayerState → PlayerState → Type 0
 RunRefused given old new = LinesProcessed (PlaysLine Nothing) given (session old [])
     (λ reached. NextThere reached (λ text. TextStops Without_memory text reached.state.player new))
 
--- Memory was refused: before anything was read; or lines of an input, or all of it, are played on a new player, and then
--- it was refused.
+-- Memory was refused before anything was read; or lines of an input, or all of it, were played on a new player, and
+-- then memory was refused.
 abbrev pub RefusedNew : Config → Given → Type 0
 RefusedNew config given = (given.after ≡ given.before)
     ⊎ ((old : PlayerState) × (new : PlayerState) × IsNew config old
     × (RunRefused given old new ⊎ Played Nothing given (session old []) (session new []) (Ok tt)))
 
--- the fault is that with which playing an input on a new player ends; or memory was refused
+-- the fault is one with which playing an input on a new player ends; or memory was refused
 abbrev pub StopsNew : Config → Given → PlayFault → Type 0
 StopsNew config given Without_memory = RefusedNew config given
 StopsNew config given fault = (old : PlayerState) × (new : Session)
     × Played Nothing given (session old []) new (Err fault) × IsNew config old
 
--- HasSeen run observer: what holds of an observer that has seen a run.
+-- HasSeen run observer: the condition on an observer that has seen a run.
 module _ {O : Type 0} (HasSeen : Run → O → Type 0) where
-  -- an observer that has seen a run has seen these steps of it, too, which lead from one moment to another
+  -- an observer that has seen a run has also seen these next steps, which lead from one moment to another
   abbrev pub SeesSteps : Course → List Step → Course → O → O → Type 0
   SeesSteps before more after old new =
       (run : Run) → HasSeen run old → run.now ≡ before → HasSeen (after_steps run more after) new
 
-  -- an observer that has seen a run that led to a step has seen this step, too
+  -- an observer that has seen a run up to a step has also seen this step
   abbrev pub SeesStep : Step → O → O → Type 0
   SeesStep s = SeesSteps s.before (s ∷ []) s.after
 
-  -- an observer has seen a quantum of this budget, which was done
+  -- an observer has seen a quantum of this budget
   abbrev pub SeesQuantum : ℕ → Observed O → Observed O → Type 0
   SeesQuantum budget old new = (s : Step) → IsQuantum budget s → s.before ≡ old.player.course
       → s.after ≡ new.player.course → SeesStep s old.observer new.observer
@@ -150,13 +151,13 @@ module _ {O : Type 0} (HasSeen : Run → O → Type 0) where
       × SeesSteps old.player.course (steps_of number old.player line es new.player does) new.player.course
       old.observer new.observer
 
-  -- ticks pass so, whatever the number of their line, or they don't pass
+  -- ticks pass so, whatever the number of their line is; or they don't pass
   abbrev pub TicksSeen : ℕ → Observed O → Observed O → Result (Unit {0}) TickFault → Type 0
   TicksSeen n old new (Ok passed) = (number : ℕ) → LineSeen number (lines.Tick n) old new
   TicksSeen n old new (Err fault) = Ticked n old.player new.player (Err fault)
 
-  -- The outcome of a line of this number, whatever the style and the text before it: it may stop with a fault, or
-  -- because memory was refused to the observer, where that may be, before it is done or after it.
+  -- The outcome of a line of this number, for any style and any text before it. The line stops with a fault; or, if
+  -- memory may be refused to the observer, because it was, before the line was done or after it.
   abbrev pub LineObserved :
       Type 0 → Line → ℕ → Observed O → Observed O → Result (Unit {0}) PlayFault → Type 0
   LineObserved Refuses line number old new (Ok done) = LineSeen number line old new
@@ -165,8 +166,8 @@ module _ {O : Type 0} (HasSeen : Run → O → Type 0) where
       → Stops style fault line number (session old.player taken) (session new.player taken))
       ⊎ ((fault ≡ Without_memory) × Refuses × IsDoneOrNot line old.player new.player)
 
-  -- the outcome of a line, by its text: it is played, and the observer has seen its steps and its moment; or it stops
-  -- with a fault
+  -- the outcome of a line's text: it is played, and the observer has seen its steps and its moment; or it stops with
+  -- a fault
   abbrev pub TextObserved : Text → Observed O → Observed O → Result (Unit {0}) PlayFault → Type 0
   TextObserved text old new (Ok done) =
       (es : List Event) × (goes : PlaysLine Nothing text (session old.player []) es (session new.player []))
@@ -178,13 +179,13 @@ module _ {O : Type 0} (HasSeen : Run → O → Type 0) where
       }) new.observer)
   TextObserved text old new (Err fault) = TextStops fault text old.player new.player
 
-  -- before the line of a number the observer has seen a run that led here, with fewer lines of events
+  -- before a line of this number the observer has seen a run that led here, with fewer lines of events
   abbrev pub IsObserved : ℕ → Observed O → Type 0
   IsObserved number o =
       (run : Run) × HasSeen run o.observer × (run.now ≡ o.player.course) × (length run.moments < number)
 
-  -- The lines of an input are played, and the observer has seen the run, of so many lines; or playing them ends with
-  -- this fault; or memory was refused at a line.
+  -- The lines of an input are played, and the observer has seen their run, and end.lines is their number; or playing
+  -- them ends with this fault; or memory was refused at a line.
   abbrev pub RunObserved : Given → Observed O → Observed O → Result InputEnd PlayFault → Type 0
   RunObserved given old new (Ok end) =
       (played : Played Nothing given (session old.player []) (session new.player []) (Ok tt))

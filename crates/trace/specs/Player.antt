@@ -1,4 +1,4 @@
--- A player: what lines do to it.
+-- A player, and the effects of lines on it.
 use Rattle.std.specs.Prelude.{◌≡◌, ℕ, ◌+◌, ◌<◌, ◌≤◌, Bool, true, false, List, [], ◌∷◌, ◌++◌, Some, None}
 use Rattle.graph_heap.specs.declared.command.Command.{Command}
 use Rattle.graph_heap.specs.declared.command.Reply.{Reply}
@@ -14,9 +14,9 @@ use Rattle.trace.specs.declared.player.Player.TheInside.{Inside}
 use Rattle.trace.specs.declared.player.start.QuantumStart.{QuantumStart}
 use Rattle.trace.specs.Starts.{name_of}
 
--- A heap with its history, the timetable of the collector's quanta, and the budget of each of them, in
--- units; how the quanta started that have an interval, in their order, and whether a cycle has begun since the last of
--- these. The memory that the timetable has reserved isn't shown.
+-- A heap with its history, the timetable of the collector's quanta, and the budget of each of them, in units. Then
+-- how the quanta with an interval started, in their order, and whether a cycle has begun since the last of them. The
+-- memory that the timetable has reserved isn't part of it.
 pub record PlayerState : Type 0 where
   pub course : Course
   pub timetable : Timetable
@@ -34,7 +34,7 @@ player_of a = record {
   begun = a.begun;
 }
 
--- a cycle begins: when its first quantum is due
+-- a cycle begins: its first quantum becomes due
 abbrev pub started : Timetable → Timetable
 started t = record t { due = Some (first_due t) }
 
@@ -43,18 +43,18 @@ abbrev pub timetable_after : Phase → Timetable → Timetable
 timetable_after phases.Idle t = record t { due = None }
 timetable_after phase t = t
 
--- the quantum that is due at a time has its interval, and the next is due after it
+-- the quantum that is due at a time gets its interval, and the next becomes due after it
 abbrev pub placed : ℕ → Timetable → Timetable
 placed due t = record t {
   intervals = t.intervals ++ (record { start = due; end = due + t.collector_ticks }) ∷ [];
   due = Some (due + t.collector_ticks + t.mutator_ticks);
 }
 
--- how a quantum starts that takes ticks
+-- the start of a quantum that takes ticks
 abbrev pub start_of : PlayerState → QuantumStart
 start_of p = record { phase = name_of p.course.heap.phase; opens_cycle = p.begun }
 
--- the player once a quantum was done, with its interval
+-- the player after a quantum with its interval
 abbrev pub after_quantum : PlayerState → ℕ → Phase → Course → PlayerState
 after_quantum p due phase course =
     record p {
@@ -72,8 +72,8 @@ pub data QuantaDue (until : ℕ) (p : PlayerState) : List Event → PlayerState 
       → Does q.course (Quantum_done q.budget units phase) course
       → QuantaDue until p (es ++ Quantum_done q.budget units phase ∷ []) (after_quantum q due phase course)
 
--- What a line does: the events that are done, and the player after them. A cycle that is running already
--- goes on. Ticks are the quanta that are due in them, and then the clock.
+-- A line does these events, and leads to this player. A running cycle goes on. Ticks do the quanta that are due in
+-- them, and then move the clock.
 pub data DoesLine (p : PlayerState) : Line → List Event → PlayerState → Type 0 where
   Skips : DoesLine p lines.Skip [] p
   Commands : (m : ℕ) (c : Command) (reply : Reply) (course : Course) → Does p.course (Command_done m c reply) course

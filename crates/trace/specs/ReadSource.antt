@@ -14,6 +14,6 @@ source_given s = s.transcript.bytes
 abbrev pub source_ended : {R : Type 0} {g : _} → ReadSource R g → Bool
 source_ended s = s.ended
 
--- how many calls failed
+-- the number of failed calls
 abbrev pub source_failures : {R : Type 0} {g : _} → ReadSource R g → ℕ
 source_failures s = s.transcript.failures

@@ -1,4 +1,4 @@
--- How private functions read, as functions on lists. What is promised of reading stands in Spelling.
+-- The reading of private functions, as functions on lists. Spelling has the promises.
 use Rattle.std.specs.Prelude.{ℕ, ◌+◌, ◌-◌, ◌^◌, true, false, ◌&&◌, nat_lt, nat_le, ◌==◌, if◌then◌else◌, List, [], ◌∷◌, ◌++◌, length, take, drop, get_or, codes, decimal, Option, Some, None, position, find}
 use Rattle.std.specs.Str.{bytes_eq}
 use Rattle.std.specs.Str.Parse.{digits_value}
@@ -34,28 +34,28 @@ unfoldable pub number_in : ℕ → List ℕ → Option ℕ
 number_in bits bytes = if nat_lt (digits_value 10 bytes) (2 ^ bits) && bytes_eq bytes (decimal (digits_value 10 bytes))
     then Some (digits_value 10 bytes) else None
 
--- what stands before the first such byte, and after it
+-- the bytes before the first such byte, and those after it
 unfoldable pub cut_at : ℕ → List ℕ → Option (List ℕ × List ℕ)
 cut_at byte bytes = do
   i ← position (λ b. b == byte) bytes
   Some (take i bytes, drop (i + 1) bytes)
 
--- the number before the first blank, and what stands after that
+-- the number before the first blank, and the bytes after it
 unfoldable pub field_in : ℕ → List ℕ → Option (ℕ × List ℕ)
 field_in bits bytes = do
   c ← cut_at 32 bytes
   n ← number_in bits c.0
   Some (n, c.1)
 
--- what stands before the first blank, and after it what another reader gives
+-- the value before the first blank, and after it the result of another reader
 abbrev pub lead_then : {A B : Type 0} → (List ℕ → Option (A × List ℕ)) → (List ℕ → Option B) → List ℕ → Option (A × B)
 lead_then lead read bytes = lead bytes >>= λ a. read a.1 >>= λ b. Some (a.0, b)
 
--- a number of this many bits, a blank, and after it what another reader gives
+-- a number of this many bits, a blank, and after it the result of another reader
 abbrev pub number_then : {A : Type 0} → ℕ → (List ℕ → Option A) → List ℕ → Option (ℕ × A)
 number_then bits = lead_then (field_in bits)
 
--- numbers of a, b and c bits, separated by blanks
+-- numbers of a and b bits, separated by a blank
 abbrev pub two_in : ℕ → ℕ → List ℕ → Option (ℕ × ℕ)
 two_in a b = number_then a (number_in b)
 
@@ -65,7 +65,7 @@ three_in a b c = number_then a (two_in b c)
 abbrev pub four_in : ℕ → ℕ → ℕ → ℕ → List ℕ → Option (ℕ × (ℕ × (ℕ × ℕ)))
 four_in a b c d = number_then a (three_in b c d)
 
--- what stands after a word at the front
+-- the bytes after a word at the front
 unfoldable pub after_in : List ℕ → List ℕ → Option (List ℕ)
 after_in word bytes = if bytes_eq (take (length word) bytes) word then Some (drop (length word) bytes) else None
 
@@ -73,7 +73,7 @@ after_in word bytes = if bytes_eq (take (length word) bytes) word then Some (dro
 abbrev pub comparing : List Keyword
 comparing = keywords.CompareStore ∷ keywords.ComparePut ∷ keywords.CompareStatic ∷ []
 
--- the kinds whose words begin with these two bytes; for bytes with which no word begins, some of the kinds
+-- the kinds whose words begin with these two bytes; if no word does, some of the kinds
 unfoldable pub keywords_by : ℕ → ℕ → List Keyword
 keywords_by first second =
     if first == 110 then keywords.New ∷ [] else
@@ -85,21 +85,21 @@ keywords_by first second =
     if second == 111 then keywords.Copy ∷ [] else
     if second == 108 then keywords.Clear ∷ [] else comparing
 
--- a kind and what stands after its word, where that was found, or another answer
+-- a kind and the bytes after its word, if they were found; if not, another result
 abbrev pub found_or : Keyword → Option (List ℕ) → Option (Keyword × List ℕ) → Option (Keyword × List ℕ)
 found_or k None other = other
 found_or k (Some rest) other = Some (k, rest)
 
--- the first of these kinds whose word is at the front, and what stands after it and a blank
+-- the first of these kinds whose word is at the front, and the bytes after it and a blank
 unfoldable pub first_keyword_in : List Keyword → List ℕ → Option (Keyword × List ℕ)
 first_keyword_in [] bytes = None
 first_keyword_in (k ∷ ks) bytes = found_or k (after_in (keyword_text k ++ codes " ") bytes) (first_keyword_in ks bytes)
 
--- the kind whose word is at the front, and what stands after it and a blank
+-- the kind whose word is at the front, and the bytes after it and a blank
 unfoldable pub front_keyword_in : List ℕ → Option (Keyword × List ℕ)
 front_keyword_in bytes = first_keyword_in (keywords_by (get_or bytes 0 0) (get_or bytes 1 0)) bytes
 
--- what a reader gives of what stands after a word at the front, or another answer
+-- the result of a reader for the bytes after a word at the front; if there are none, another result
 abbrev pub after_or : {A : Type 0} → Option (List ℕ) → (List ℕ → Option A) → Option A → Option A
 after_or None read other = other
 after_or (Some rest) read other = read rest
@@ -115,7 +115,7 @@ shape_in bytes =
 abbrev pub slot_and_shape_in : List ℕ → Option (ℕ × Shape)
 slot_and_shape_in = number_then 32 shape_in
 
--- what stands after the keyword of a command
+-- the arguments of a command, after its keyword
 unfoldable pub arguments_in : Keyword → List ℕ → Option Command
 arguments_in keywords.New bytes = slot_and_shape_in bytes >>= λ n. Some (commands.New n.0 n.1)
 arguments_in keywords.Load bytes = three_in 32 32 32 bytes >>= λ n. Some (commands.Load n.0 n.1.0 n.1.1)
@@ -142,7 +142,7 @@ bare_in Second bytes =
     if bytes_eq bytes (codes "join") then Some commands.Join else
     if bytes_eq bytes (codes "leave") then Some commands.Leave else None
 
--- what stands after a keyword, where there is one
+-- the command after a keyword; if there is no keyword, a command without arguments
 abbrev pub keyword_or : Option (Keyword × List ℕ) → Option Command → Option Command
 keyword_or None bare = bare
 keyword_or (Some c) bare = arguments_in c.0 c.1
@@ -173,7 +173,7 @@ event_in version (first ∷ rest) = if nat_le 48 first && nat_le first 57
 unfoldable pub line_in : Version → List ℕ → Option Line
 line_in version bytes = if is_skipped bytes then Some lines.Skip else event_in version bytes
 
--- a refusal by its number
+-- all refusals, in the order of their numbers
 abbrev pub all_refusals : List Refusal
 all_refusals = refusals.BadSlot ∷ refusals.NullSlot ∷ refusals.BadIndex ∷ refusals.WrongKind ∷ refusals.TooLarge
     ∷ refusals.IdentitiesSpent ∷ refusals.NoSpace ∷ refusals.BadStatic ∷ refusals.NotLive ∷ refusals.AlreadyLive ∷ []
@@ -209,12 +209,12 @@ reply_in bytes =
     if bytes_eq bytes (codes "is yes") then Some (replies.Is true) else
     if bytes_eq bytes (codes "is no") then Some (replies.Is false) else long_reply_in bytes
 
--- what stands before the blank at the end
+-- the bytes before the blank at the end
 unfoldable pub before_blank_in : List ℕ → Option (List ℕ)
 before_blank_in bytes = if bytes_eq (drop (length bytes - 1) bytes) (codes " ")
     then Some (take (length bytes - 1) bytes) else None
 
--- what stands before the arrow " => ", and after it
+-- the bytes before the arrow " => ", and those after it
 unfoldable pub arrow_in : List ℕ → Option (List ℕ × List ℕ)
 arrow_in bytes = do
   c ← cut_at 61 bytes

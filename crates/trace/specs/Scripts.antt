@@ -1,4 +1,4 @@
--- What it is to read scripts.
+-- The reading of scripts.
 use Rattle.std.specs.Prelude.{◌≡◌, ℕ, ◌<◌, ◌≤◌, ◌==◌, if◌then◌else◌, IsTrue, ◌⊎◌, List, [], ◌∷◌, ◌++◌, map, slice_set, slice_index_or, Option, Some, None, Result, Ok, Err, IfOk, Vec, vec_len}
 use Rattle.std.specs.List.{range_with_len}
 use Rattle.std.specs.declared.alloc.Global.{Global}
@@ -21,7 +21,7 @@ IsOfScripts mutators lines.Skip = Unit {0}
 IsOfScripts mutators (lines.Command m c) = m < mutators
 IsOfScripts mutators line = ⊥
 
--- a line of scripts says this
+-- a line of scripts spells this
 abbrev pub DoesScript : ℕ → Version → List ℕ → Unit {0} → List Line → Unit {0} → Type 0
 DoesScript mutators version text old (line ∷ []) new = Spells version text line × IsOfScripts mutators line
 DoesScript mutators version text old spelled new = ⊥
@@ -40,12 +40,12 @@ script_of (line ∷ rest) m = script_of rest m
 abbrev pub scripts_of : ℕ → List Line → List (List Command)
 scripts_of mutators spelled = map (script_of spelled) (range_with_len 0 mutators)
 
--- scripts, wherever they lie
+-- the lists of scripts, whatever memory they are in
 abbrev pub lists_in : Vec (Vec Command Global) Global → List (List Command)
 lists_in scripts = map (λ (script : Vec Command Global). script.items) scripts.items
 
--- what is wrong with a line, in scripts: it is neither skipped nor a command, or its mutator isn't below
--- the number of mutators
+-- the fault of a line of scripts: it is neither skipped nor a command; or its mutator isn't below the number of
+-- mutators
 abbrev pub ScriptLineIs : ℕ → Version → LineFault → List ℕ → Type 0
 ScriptLineIs mutators version faults.NotACommand text = (¬ IsTrue (is_skipped text))
     × ((m : ℕ) (c : Command) → Spells version text (lines.Command m c) → ⊥)
@@ -57,43 +57,43 @@ ScriptLineIs mutators version fault text = ⊥
 abbrev pub IsCommand : ℕ → Version → List ℕ → Type 0
 IsCommand mutators version text = (m : ℕ) × (c : Command) × Spells version text (lines.Command m c) × (m < mutators)
 
--- a fault at a line: the line doesn't tell the version and is refused, or memory was at a command
+-- a fault at a line: it doesn't tell the version and is refused; or it is a command, and memory was refused
 abbrev pub ScriptStops : ℕ → PlayFault → Text → Unit {0} → Unit {0} → Type 0
 ScriptStops mutators (At_line k fault) text old new = (k ≡ text.number)
     × ScriptLineIs mutators text.version fault text.bytes × (¬ IsVersionLine text)
 ScriptStops mutators NoMemory text old new = IsCommand mutators text.version text.bytes
 ScriptStops mutators fault text old new = ⊥
 
--- what is read of scripts: their version, and the commands of each mutator
+-- the result of reading scripts: their version, and the commands of each mutator
 abbrev pub ReadScripts : Type 0
 ReadScripts = Version × Vec (Vec Command Global) Global
 
--- Scripts of this many mutators, as the lines of an input are.
+-- The lines of an input are scripts of this many mutators.
 pub record AreScripts (given : Given) (mutators : ℕ) (result : Result ReadScripts PlayFault) : Type 0 where
   pub over : LinesProcessed (LineEffect AsksNothing (DoesScript mutators)) given tt
       (λ reached. ProcessingEnds (ScriptStops mutators) reached given.ended tt result)
   pub are : IfOk result (λ read. (read.0 ≡ over.version) × (lists_in read.1 ≡ scripts_of mutators over.events))
 
--- What was read of an input; or memory was refused before anything was read.
+-- An input was read, or memory was refused before anything was read.
 abbrev pub ScriptsRead : Given → ℕ → Result ReadScripts PlayFault → Type 0
 ScriptsRead given mutators result = ((result ≡ Err NoMemory) × (given.after ≡ given.before))
     ⊎ AreScripts given mutators result
 
--- what a line asks for
+-- the line that asks for this
 abbrev pub line_of : Option (ℕ × Command) → Line
 line_of None = lines.Skip
 line_of (Some asked) = lines.Command asked.0 asked.1
 
--- one command more of a mutator
+-- the scripts with one more command of a mutator
 abbrev pub one_more : List (List Command) → ℕ → Command → List (List Command)
 one_more scripts m c = slice_set scripts m (slice_index_or scripts m [] ++ c ∷ [])
 
--- the scripts with what a line asks for
+-- the scripts with the command of a line
 abbrev pub with_line : List (List Command) → Line → List (List Command)
 with_line scripts (lines.Command m c) = one_more scripts m c
 with_line scripts line = scripts
 
--- The outcome of one line: it tells the version of those after it, or asks for something.
+-- The outcome of one line: it tells the version of the lines after it, or its command is added.
 abbrev pub LineAdded : Text → Vec (Vec Command Global) Global → Vec (Vec Command Global) Global
     → Result (Unit {0}) PlayFault → Type 0
 LineAdded text old new (Ok done) =

@@ -1,5 +1,5 @@
--- The grammar of traces and histories: how commands, lines, replies and entries are spelled, and which
--- of them a version has.
+-- The grammar of traces and histories: how commands, lines, replies and entries are spelled, and which commands a
+-- version has.
 use Rattle.std.specs.Prelude.{◌≡◌, ℕ, ◌^◌, ◌<◌, ◌≤◌, ◌==◌, Bool, true, false, IsTrue, List, [], ◌∷◌, ◌++◌, codes, decimal}
 use Rattle.graph_heap.specs.declared.command.Shape.{Shape}
 use Rattle.graph_heap.specs.declared.command.Shape.TheVariants.{Plain, RefArray, WordArray}
@@ -24,11 +24,11 @@ use Rattle.trace.specs.declared.version.Version.TheVariants.{First}
 abbrev pub version_line : List ℕ
 version_line = codes "version 2"
 
--- a line, by its number from 1, tells the version of those after it
+-- a line tells the version of the lines after it: it is number 1, and the line of the second version
 abbrev pub TellsVersion : ℕ → List ℕ → Type 0
 TellsVersion number line = (number ≡ 1) × (line ≡ version_line)
 
--- numbers in decimal, without leading zeros, each separated from the next by one blank (byte 32)
+-- two numbers in decimal, without leading zeros, separated by one blank (byte 32)
 abbrev pub two : ℕ → ℕ → List ℕ
 two a b = decimal a ++ 32 ∷ decimal b
 
@@ -119,12 +119,12 @@ IsOf commands.Join First = ⊥
 IsOf commands.Leave First = ⊥
 IsOf command version = Unit {0}
 
--- a skipped line: an empty one, or one whose first byte is # (byte 35), whatever follows
+-- a skipped line: an empty one, or one whose first byte is # (byte 35), with any bytes after it
 abbrev pub is_skipped : List ℕ → Bool
 is_skipped [] = true
 is_skipped (first ∷ rest) = first == 35
 
--- In a version the bytes are a spelling of the line. All but the skipped lines have one spelling each.
+-- In a version the bytes are a spelling of the line. Each line has one spelling, except skipped ones.
 abbrev pub Spells : Version → List ℕ → Line → Type 0
 Spells version bytes lines.Skip = IsTrue (is_skipped bytes)
 Spells version bytes (lines.Command mutator command) = (bytes ≡ command_line mutator command) × (mutator < 2 ^ 32)

@@ -4,7 +4,7 @@ use Rattle.heap_model.specs.declared.phase.Phase.TheVariants as phases
 use Rattle.trace.specs.declared.player.start.PhaseName.{PhaseName}
 use Rattle.trace.specs.declared.player.start.PhaseName.TheVariants.{Idle, Roots, Marking, Sweeping, Moving}
 
--- which phase it is, and not how far it has come
+-- the phase, without its progress
 abbrev pub name_of : Phase → PhaseName
 name_of phases.Idle = Idle
 name_of (phases.Roots next) = Roots

@@ -10,7 +10,7 @@ use Rattle.trace.specs.declared.player.style.Style.TheVariants.{Nothing}
 use Rattle.trace.specs.Player.{PlayerState, QuantaDue, None_yet, One_more, DoesLine, Skips, Commands, Begins, Goes_on, Spends, Ticks}
 use Rattle.trace.specs.Playing.{Session, PlaysLine}
 
--- An event that was done: the number of the line that asked for it, and the heap with its history before and after it.
+-- An event that was done: the number of its line, and the heap with its history before and after it.
 pub record Step : Type 0 where
   pub line : ℕ
   pub event : Event
@@ -25,7 +25,7 @@ step line event before after = record { line = line; event = event; before = bef
 abbrev pub events_of : List Step → List Event
 events_of steps = map (λ s. s.event) steps
 
--- the event of a step leads from the one to the other
+-- the event of a step leads from the heap before it to that after it
 abbrev pub IsDone : Step → Type 0
 IsDone s = Does s.before s.event s.after
 
@@ -33,7 +33,7 @@ IsDone s = Does s.before s.event s.after
 abbrev pub IsCommand : Entry → Step → Type 0
 IsCommand e s = (s.event ≡ Command_done e.mutator e.command e.reply) × IsDone s
 
--- with the step a line of this number begins a cycle at this moment, or finds one running
+-- a line of this number begins a cycle at this moment by the step, or finds one running
 abbrev pub IsBegin : ℕ → Course → Step → Type 0
 IsBegin number now s =
     (s.line ≡ number) × (s.before ≡ now) × (s.event ≡ Cycle_begun ⊎ s.event ≡ Begin_refused) × IsDone s

@@ -1,4 +1,4 @@
--- What it is to survey a run.
+-- The survey of a run.
 use Rattle.std.specs.Prelude.{[], Result, Ok, Err}
 use Rattle.size_classes.specs.declared.config.Config.{Config}
 use Rattle.trace.specs.declared.fault.PlayFault.{PlayFault}
@@ -16,10 +16,10 @@ pub record NewRun (config : Config) (given : Given) : Type 0 where
   pub played : Played Nothing given (session old []) new (Ok tt)
   pub is_new : IsNew config old
 
--- Tells config given run findings: what is told of a run.
+-- Tells config given run findings: the meaning of the findings for a run.
 module _ {Findings : Type 0} (Tells : (config : Config) (given : Given) → NewRun config given → Findings → Type 0) where
-  -- The lines of an input are played on a new player, and this is told of the run; or the fault is that with which
-  -- playing them ends; or memory was refused.
+  -- The lines of an input are played on a new player, with these findings; or the fault is one with which playing
+  -- them ends; or memory was refused.
   abbrev pub Surveyed : Config → Given → Result Findings PlayFault → Type 0
   Surveyed config given (Ok findings) = (run : NewRun config given) × Tells config given run findings
   Surveyed config given (Err fault) = StopsNew config given fault

@@ -5,7 +5,7 @@ use Rattle.trace.specs.declared.version.Version.{Version}
 use Rattle.trace.specs.declared.version.Version.TheVariants.{Second}
 use Rattle.trace.specs.Spelling.{TellsVersion}
 
--- a line of an input: its bytes, without LF, its number, counted from 1, and the version that it is in
+-- a line of an input: its bytes without LF, its number from 1, and its version
 pub record Text : Type 0 where
   pub bytes : List ℕ
   pub number : ℕ
@@ -19,7 +19,7 @@ text_in line = record { bytes = line.bytes.now; number = line.number; version = 
 abbrev pub text_after : List (List ℕ) → Version → List ℕ → Text
 text_after lines version line = record { bytes = line; number = length lines + 1; version = version }
 
--- the line tells the version of those after it
+-- the line tells the version of the lines after it
 abbrev pub IsVersionLine : Text → Type 0
 IsVersionLine text = TellsVersion text.number text.bytes
 

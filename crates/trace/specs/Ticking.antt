@@ -1,4 +1,4 @@
--- What single calls do to a player.
+-- The effects of single calls on a player.
 use Rattle.std.specs.Prelude.{◌≡◌, ℕ, ◌+◌, ◌<◌, Bool, true, false, List, Some, None, Result, Ok, Err}
 use Rattle.graph_heap.specs.declared.no_memory.NoMemory.{NoMemory}
 use Rattle.heap_model.specs.declared.phase.Phase.{Phase}
@@ -14,14 +14,14 @@ use Rattle.trace.specs.Player.{PlayerState, QuantaDue, timetable_after, after_qu
 abbrev pub Begun : PlayerState → PlayerState → Type 0
 Begun old new = (es : List Event) × DoesLine old lines.Begin es new
 
--- a quantum of a budget is done; where it ends in idle, the timetable's cycle ends
+-- a quantum of a budget is done; if it ends in idle, the timetable's cycle ends
 abbrev pub Spent : PlayerState → ℕ → PlayerState → Type 0
 Spent old budget new =
     (units : ℕ) × (phase : Phase) × (course : Course) × Does old.course (Quantum_done budget units phase) course
     × (new ≡ record old { course = course; timetable = timetable_after phase old.timetable })
 
--- the quantum that is due below a time is done, with its interval; or none is due; or memory was refused
--- for the interval
+-- the quantum that is due below a time is done, with its interval; or none is due; or memory was refused for the
+-- interval
 abbrev pub DueDone : ℕ → PlayerState → PlayerState → Result Bool NoMemory → Type 0
 DueDone until old new (Ok true) =
     (due : ℕ) × (units : ℕ) × (phase : Phase) × (course : Course) × (old.timetable.due ≡ Some due) × (due < until)

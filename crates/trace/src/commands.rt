@@ -1,4 +1,4 @@
-//! Commands as text: the words with which they begin, reading, and writing.
+//! Commands as text: their keywords, how they are read, and how they are written.
 ghost use Rattle.std.specs.Prelude.{◌≡◌, ◌≤◌, ◌+◌, ◌∷◌, [], ◌++◌, codes, get_or, length, option_map, take};
 ghost use Rattle.trace.specs.Spelling.{keyword_text, command_text};
 ghost use Rattle.trace.specs.Reading.{after_in, comparing, first_keyword_in, keyword_or};
@@ -38,7 +38,7 @@ pub(crate) enum Keyword {
     Describe,
 }
 
-/// The byte at a place, or 0 where there is none.
+/// Returns the byte at a place, or 0 if there is none.
 #[inline(always)]
 fn byte(bytes: &[u8], i: usize) -> u8
     ensures { result ≡ get_or bytes.now i 0 }
@@ -47,7 +47,7 @@ fn byte(bytes: &[u8], i: usize) -> u8
 }
 
 impl Keyword {
-    /// The word.
+    /// Returns the keyword.
     pub(crate) fn text(self) -> &'static [u8]
         ensures { result.now ≡ keyword_text self }
     {
@@ -69,7 +69,8 @@ impl Keyword {
         }
     }
 
-    /// What stands after the word and a blank, where the bytes begin with them. Each kind compares with a constant.
+    /// Returns the bytes after the keyword and a blank, if the bytes begin with them. Each kind compares with a
+    /// constant.
     #[inline(always)]
     fn strip(self, bytes: &[u8]) -> Option<&[u8]>
         ensures { option_map (λ b. b.now) result ≡ after_in (keyword_text self ++ codes " ") bytes.now }
@@ -93,7 +94,7 @@ impl Keyword {
     }
 }
 
-/// Two numbers. Such readers stand apart, so that each kind of command reads its numbers in one call.
+/// Reads two numbers. Each kind of command reads its numbers in one such call.
 #[inline(never)]
 fn two(bytes: &[u8]) -> Option<Two>
     ensures { result ≡ two_in 32 32 bytes.now }
@@ -101,7 +102,7 @@ fn two(bytes: &[u8]) -> Option<Two>
     Two::read(bytes)
 }
 
-/// Three numbers.
+/// Reads three numbers.
 #[inline(never)]
 fn three(bytes: &[u8]) -> Option<Three>
     ensures { result ≡ three_in 32 32 32 bytes.now }
@@ -109,7 +110,7 @@ fn three(bytes: &[u8]) -> Option<Three>
     Three::read(bytes)
 }
 
-/// Four numbers.
+/// Reads four numbers.
 #[inline(never)]
 fn four(bytes: &[u8]) -> Option<Four>
     ensures { result ≡ four_in 32 32 32 32 bytes.now }
@@ -117,7 +118,7 @@ fn four(bytes: &[u8]) -> Option<Four>
     Four::read(bytes)
 }
 
-/// Two numbers and a word.
+/// Reads two numbers and a word.
 #[inline(never)]
 fn two_and_word(bytes: &[u8]) -> Option<(u32, (u32, u64))>
     ensures { result ≡ three_in 32 32 64 bytes.now }
@@ -125,7 +126,7 @@ fn two_and_word(bytes: &[u8]) -> Option<(u32, (u32, u64))>
     <(u32, (u32, u64))>::read(bytes)
 }
 
-/// Two numbers and two words.
+/// Reads two numbers and two words.
 #[inline(never)]
 fn two_and_words(bytes: &[u8]) -> Option<(u32, (u32, (u64, u64)))>
     ensures { result ≡ four_in 32 32 64 64 bytes.now }
@@ -133,7 +134,7 @@ fn two_and_words(bytes: &[u8]) -> Option<(u32, (u32, (u64, u64)))>
     <(u32, (u32, (u64, u64)))>::read(bytes)
 }
 
-/// A slot and a shape.
+/// Reads a slot and a shape.
 #[inline(never)]
 fn slot_and_shape(bytes: &[u8]) -> Option<(u32, Shape)>
     ensures { result ≡ slot_and_shape_in bytes.now }
@@ -157,7 +158,7 @@ impl Spelled for Shape {
     }
 }
 
-/// What stands after the keyword of a command.
+/// Reads the arguments of a command, after its keyword.
 #[tactic(auto, unfolding(crate::specs::Reading::arguments_in))]
 #[inline(always)]
 fn arguments(keyword: Keyword, bytes: &[u8]) -> Option<Command>
@@ -197,7 +198,7 @@ fn arguments(keyword: Keyword, bytes: &[u8]) -> Option<Command>
     }
 }
 
-/// A command that is a word alone.
+/// Reads a command that has no arguments.
 #[tactic(auto, unfolding(crate::specs::Reading::bare_in))]
 #[inline(always)]
 fn bare(version: Version, bytes: &[u8]) -> Option<Command>
@@ -217,7 +218,7 @@ fn bare(version: Version, bytes: &[u8]) -> Option<Command>
     }
 }
 
-/// A command of a kind, if its word and a blank are at the front; else a word alone.
+/// Reads a command of one kind, if its keyword and a blank are at the front; if not, one without arguments.
 #[tactic(auto, unfolding(crate::specs::Reading::first_keyword_in))]
 #[inline(always)]
 fn command_of(kind: Keyword, version: Version, bytes: &[u8]) -> Option<Command>
@@ -229,7 +230,7 @@ fn command_of(kind: Keyword, version: Version, bytes: &[u8]) -> Option<Command>
     }
 }
 
-/// The same of two kinds, the first of which is tried first.
+/// Reads a command of two kinds, trying the first one first; if it is neither, one without arguments.
 #[tactic(auto, unfolding(crate::specs::Reading::first_keyword_in))]
 #[inline(always)]
 fn command_of_two(kind: Keyword, other: Keyword, version: Version, bytes: &[u8]) -> Option<Command>
@@ -241,7 +242,7 @@ fn command_of_two(kind: Keyword, other: Keyword, version: Version, bytes: &[u8])
     }
 }
 
-/// The same of the kinds that compare.
+/// Reads a command of the kinds that compare; if it is none of them, one without arguments.
 #[tactic(auto, unfolding(crate::specs::Reading::first_keyword_in))]
 #[inline(always)]
 fn comparing_command(version: Version, bytes: &[u8]) -> Option<Command>
@@ -253,7 +254,7 @@ fn comparing_command(version: Version, bytes: &[u8]) -> Option<Command>
     }
 }
 
-/// A command. The first two bytes tell the kinds that it can have, so that each arm reads the arguments of these alone.
+/// Reads a command. The first two bytes leave few kinds, so each arm reads the arguments of these kinds alone.
 #[tactic(auto, unfolding(crate::specs::Reading::command_in, crate::specs::Reading::front_keyword_in, crate::specs::Reading::keywords_by))]
 #[inline(always)]
 fn command(version: Version, bytes: &[u8]) -> Option<Command>
@@ -273,7 +274,7 @@ fn command(version: Version, bytes: &[u8]) -> Option<Command>
     }
 }
 
-/// A command, after the number of its mutator.
+/// Reads the number of a mutator, and its command.
 #[tactic(auto, unfolding(crate::specs::Reading::mutator_and_command_in))]
 #[inline(always)]
 pub(crate) fn mutator_and_command(version: Version, bytes: &[u8]) -> Option<(u32, Command)>
@@ -284,7 +285,7 @@ pub(crate) fn mutator_and_command(version: Version, bytes: &[u8]) -> Option<(u32
     Some((mutator, command))
 }
 
-/// Writes the command that makes an object, without its mutator.
+/// Writes the command that makes an object, without its mutator, from place `at` on. Returns the place after it.
 fn put_new(out: &mut [u8], at: usize, dst: u32, shape: &Shape) -> usize
     requires { at + 90 ≤ length out.old }
     ensures text { take result out.new ≡ take at out.old ++ command_text (Command.New dst shape.now) }
@@ -295,7 +296,7 @@ fn put_new(out: &mut [u8], at: usize, dst: u32, shape: &Shape) -> usize
     put_shape(out, next, shape)
 }
 
-/// Writes a command without its mutator.
+/// Writes a command without its mutator, from place `at` on. Returns the place after it.
 pub(crate) fn put_command(out: &mut [u8], at: usize, command: &Command) -> usize
     requires { at + 90 ≤ length out.old }
     ensures text { take result out.new ≡ take at out.old ++ command_text command.now }

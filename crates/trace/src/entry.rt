@@ -11,16 +11,16 @@ use crate::replies::reply;
 use crate::version::Version;
 use graph_heap::Entry;
 
-/// What a line of a history says.
+/// The meaning of a line of a history.
 #[derive(Clone, Copy, Debug, PartialEq, Eq)]
 pub enum EntryLine {
     /// Nothing: the line is empty or a comment.
     Skip,
-    /// A command, whose it was, and its reply.
+    /// A command with its mutator and its reply.
     Entry(Entry),
 }
 
-/// What stands before the blank at the end.
+/// Returns the bytes before the blank at the end, if there is one.
 #[tactic(auto, unfolding(crate::specs::Reading::before_blank_in))]
 fn before_blank(bytes: &[u8]) -> Option<&[u8]>
     ensures { option_map (λ b. b.now) result ≡ before_blank_in bytes.now }
@@ -28,7 +28,7 @@ fn before_blank(bytes: &[u8]) -> Option<&[u8]>
     bytes.strip_suffix(b" ".as_slice())
 }
 
-/// What stands before the arrow ` => `, and after it.
+/// Returns the bytes before the arrow ` => `, and those after it.
 #[tactic(auto, unfolding(crate::specs::Reading::arrow_in))]
 fn arrow(bytes: &[u8]) -> Option<(&[u8], &[u8])>
     ensures { option_map (λ c. (c.0.now, c.1.now)) result ≡ arrow_in bytes.now }
@@ -39,7 +39,7 @@ fn arrow(bytes: &[u8]) -> Option<(&[u8], &[u8])>
     Some((front, back))
 }
 
-/// An entry.
+/// Reads an entry.
 #[tactic(auto, unfolding(crate::specs::Reading::entry_in))]
 fn entry(version: Version, bytes: &[u8]) -> Option<Entry>
     ensures { result ≡ entry_in version bytes.now }
@@ -65,11 +65,12 @@ fn meaning(version: Version, bytes: &[u8]) -> Option<EntryLine>
     Some(EntryLine::Entry(e))
 }
 
-/// Reads a line of a history of a version, without its LF. The line that tells the version isn't read here.
+/// Reads a line of a history of a version, without its LF. The line that tells the version isn't read here. Returns
+/// None if no line is spelled so.
 pub fn read_entry(version: Version, bytes: &[u8]) -> Option<EntryLine>
-    // What is read is spelled so, each byte of it.
+    // The line that is returned is spelled so, each byte of it.
     ensures found { IfSome result (λ line. SpellsEntry version bytes.now line) }
-    // What is spelled so is read. So there is nothing to read only where no line is spelled so.
+    // A line that is spelled so is returned. So the result is None only if no line is spelled so.
     ensures only { (line : EntryLine) → SpellsEntry version bytes.now line → result ≡ Some line }
 {
     meaning(version, bytes)

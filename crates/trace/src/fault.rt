@@ -1,4 +1,4 @@
-//! What can be wrong with a line, and with an input.
+//! The faults of a line, and of an input.
 ghost use Rattle.std.specs.Prelude.{◌≡◌};
 ghost use Rattle.trace.specs.declared.fault.PlayFault.TheVariants as faults;
 
@@ -6,7 +6,7 @@ use crate::WriteFailed;
 use graph_heap::NoMemory;
 use thiserror::Error;
 
-/// What can be wrong with a line of a trace, of a history or of scripts.
+/// The fault of a line of a trace, of a history or of scripts.
 #[derive(Clone, Copy, Debug, PartialEq, Eq, Error)]
 pub enum LineFault {
     /// It has more than 256 bytes.
@@ -32,19 +32,19 @@ pub enum LineFault {
     ClockSpent,
 }
 
-/// Why the lines of an input were not all done. What was done before stands.
+/// Why the lines of an input were not all done. The lines before the fault stay done.
 #[derive(Clone, Copy, Debug, PartialEq, Eq, Error)]
 pub enum PlayFault {
-    /// A line, by its number from 1, and what is wrong with it.
+    /// A line, by its number from 1, has this fault.
     #[error("line {0}: {1}")]
     Line(u64, LineFault),
     /// A read failed.
     #[error("cannot read")]
     Read,
-    /// A write failed. The last command is done; of its line a beginning is written.
+    /// A write failed. The last command is done, and a beginning of its line is written.
     #[error("cannot write")]
     Write,
-    /// Memory was refused, for what the next line asks.
+    /// Memory was refused for the next line.
     #[error("no memory")]
     NoMemory,
 }

@@ -3,10 +3,10 @@ ghost use Rattle.std.specs.Prelude.{◌≡◌, ℕ, Option, ◌<◌, ◌≤◌, 
 ghost use Rattle.trace.specs.Numbers.{DigitAt, DigitsSpell, NoDigitAt, Fronts};
 ghost use Rattle.trace.specs.Reading.{number_in, lead_then, cut_at, after_in, field_in};
 
-/// How many digits a number has, at least, where it may be 2^64 or more.
+/// The most digits with which every number fits in 64 bits.
 const LONG: usize = 19;
 
-/// The number that the digit at a place writes, if there is one.
+/// Returns the digit at a place, as a number, if there is one.
 #[inline(always)]
 fn digit_at(bytes: &[u8], i: usize) -> Option<u64>
     ensures some { IfSome result (DigitAt bytes.now i) }
@@ -19,7 +19,7 @@ fn digit_at(bytes: &[u8], i: usize) -> Option<u64>
     }
 }
 
-/// The digits at the front, up to so many: the number that they write, and how many they are.
+/// Reads the digits at the front, at most `most` of them: returns the number that they write, and how many they are.
 #[inline(always)]
 fn front_digits(bytes: &[u8], most: usize) -> (u64, usize)
     requires { most ≤ 19 }
@@ -40,7 +40,7 @@ fn front_digits(bytes: &[u8], most: usize) -> (u64, usize)
     (n, at)
 }
 
-/// The number that the first digits write, this many, if they are the spelling of one.
+/// Returns the number that the first `count` digits write, if they are the spelling of a number.
 #[inline(always)]
 fn few_digits(bytes: &[u8], count: usize) -> Option<u32>
     requires some { 0 < count }
@@ -58,7 +58,7 @@ fn few_digits(bytes: &[u8], count: usize) -> Option<u32>
     Some(n as u32)
 }
 
-/// A number of this many digits, behind which a blank stands, and what stands after that.
+/// Reads a number of `count` digits before a blank. Returns the number, and the bytes after the blank.
 #[inline(always)]
 fn digits_before_blank(bytes: &[u8], count: usize) -> Option<(u32, &[u8])>
     requires some { 0 < count }
@@ -71,7 +71,8 @@ fn digits_before_blank(bytes: &[u8], count: usize) -> Option<(u32, &[u8])>
     Some((n, &bytes[count + 1..]))
 }
 
-/// What stands before the first blank, if it is a number of this many digits, and what stands after that.
+/// Reads the field before the first blank, if it is a number of `count` digits. Returns the number, and the bytes
+/// after the blank.
 #[inline(always)]
 fn short_lead(bytes: &[u8], count: usize) -> Option<(u32, &[u8])>
     requires some { 0 < count }
@@ -85,7 +86,7 @@ fn short_lead(bytes: &[u8], count: usize) -> Option<(u32, &[u8])>
     }
 }
 
-/// The same of up to three digits, which most numbers have.
+/// Reads the field before the first blank, if it is a number of up to three digits, as most numbers are.
 #[inline(always)]
 fn few_lead(bytes: &[u8]) -> Option<(u32, &[u8])>
     ensures { IfSome result (λ f. Some (f.0, f.1.now) ≡ field_in 32 bytes.now) }
@@ -99,7 +100,7 @@ fn few_lead(bytes: &[u8]) -> Option<(u32, &[u8])>
     short_lead(bytes, 3)
 }
 
-/// The number that all the bytes spell, if it has this many digits.
+/// Returns the number that all the bytes spell, if it has `count` digits.
 #[inline(always)]
 fn short_number(bytes: &[u8], count: usize) -> Option<u32>
     requires some { 0 < count }
@@ -114,7 +115,7 @@ fn short_number(bytes: &[u8], count: usize) -> Option<u32>
     }
 }
 
-/// The same of up to three digits.
+/// Returns the number that all the bytes spell, if it has up to three digits.
 #[inline(always)]
 fn few_number(bytes: &[u8]) -> Option<u32>
     ensures wide { IfSome result (λ n. Some n ≡ number_in 64 bytes.now) }
@@ -129,7 +130,7 @@ fn few_number(bytes: &[u8]) -> Option<u32>
     short_number(bytes, 3)
 }
 
-/// The number at the front, where its first 19 digits are read.
+/// Returns the number at the front and how many digits it has, after its first 19 digits were read as `n`.
 #[inline(always)]
 fn long_number(bytes: &[u8], n: u64) -> Option<(u64, usize)>
     requires { DigitsSpell bytes.now n 19 }
@@ -152,12 +153,12 @@ fn long_number(bytes: &[u8], n: u64) -> Option<(u64, usize)>
     Some((n, LONG + 1))
 }
 
-/// The number at the front, and how many digits it has. No digit follows it.
+/// Returns the number at the front, and how many digits it has. No digit follows it.
 #[inline(always)]
 fn front_number(bytes: &[u8]) -> Option<(u64, usize)>
-    // What is read stands at the front, as it is spelled.
+    // The number that is returned stands at the front, as it is spelled.
     ensures found { IfSome result (λ f. Fronts bytes.now f.0 f.1) }
-    // What is spelled there is read.
+    // A number that is spelled at the front is returned.
     ensures only { (m : ℕ) (rest : List ℕ) → m < 2 ^ 64 → bytes.now ≡ decimal m ++ rest → NoDigitAt rest 0
         → result ≡ Some (m, length (decimal m)) }
 {
@@ -174,14 +175,14 @@ fn front_number(bytes: &[u8]) -> Option<(u64, usize)>
     Some((n, count))
 }
 
-/// Where a byte stands first.
+/// Returns the place of the first such byte.
 fn place_of(byte: u8, bytes: &[u8]) -> Option<usize>
     ensures { result ≡ position (λ b. b == byte) bytes.now }
 {
     bytes.iter().position(|b| *b == byte)
 }
 
-/// What stands before the first such byte, and after it.
+/// Returns the bytes before the first such byte, and those after it.
 #[tactic(auto, using(crate::proofs::Cuts::rest_of), unfolding(crate::specs::Reading::cut_at))]
 pub(crate) fn cut(byte: u8, bytes: &[u8]) -> Option<(&[u8], &[u8])>
     ensures { option_map (λ c. (c.0.now, c.1.now)) result ≡ cut_at byte bytes.now }
@@ -190,7 +191,8 @@ pub(crate) fn cut(byte: u8, bytes: &[u8]) -> Option<(&[u8], &[u8])>
     Some((&bytes[..i], &bytes[i + 1..]))
 }
 
-/// What stands after a word at the front. The word's length is constant, so that few bytes are compared at once.
+/// Returns the bytes after a word at the front. The word's length is constant, so that few bytes are compared at
+/// once.
 #[tactic(auto, unfolding(crate::specs::Reading::after_in))]
 #[inline(always)]
 pub(crate) fn after<'a, const N: usize>(word: &[u8; N], bytes: &'a [u8]) -> Option<&'a [u8]>
@@ -200,27 +202,27 @@ pub(crate) fn after<'a, const N: usize>(word: &[u8; N], bytes: &'a [u8]) -> Opti
     if *front == *word { Some(rest) } else { None }
 }
 
-/// What bytes can spell.
+/// A value that bytes can spell.
 pub(crate) trait Spelled: Sized {
-    /// What they spell, if they spell anything.
+    /// The value that bytes spell, if they spell one.
     ghost read_in: { List ℕ → Option Self };
 
-    /// What the bytes spell.
+    /// Reads the value that all the bytes spell.
     fn read(bytes: &[u8]) -> Option<Self>
         ensures { result ≡ read_in bytes.now };
 }
 
-/// What can stand before the first blank of bytes.
+/// A value that can stand before the first blank of bytes.
 pub(crate) trait Leading: Copy {
-    /// What stands there, and what stands after the blank.
+    /// The value before the first blank, and the bytes after the blank.
     ghost lead_in: { List ℕ → Option (Self × List ℕ) };
 
-    /// What stands before the first blank, and what stands after that.
+    /// Reads the value before the first blank. Returns it, and the bytes after the blank.
     fn lead(bytes: &[u8]) -> Option<(Self, &[u8])>
         ensures { option_map (λ c. (c.0, c.1.now)) result ≡ lead_in bytes.now };
 }
 
-/// The same of up to five digits.
+/// Returns the number that all the bytes spell, if it has up to five digits.
 #[inline(always)]
 fn some_number(bytes: &[u8]) -> Option<u32>
     ensures wide { IfSome result (λ n. Some n ≡ number_in 64 bytes.now) }
@@ -235,7 +237,7 @@ fn some_number(bytes: &[u8]) -> Option<u32>
     short_number(bytes, 5)
 }
 
-/// The word that the bytes spell, of whatever digits. Such readers stand apart, so that those of few digits are short.
+/// Reads a word of any number of digits. This function stands apart, so that the readers of few digits stay short.
 #[inline(never)]
 fn any_word(bytes: &[u8]) -> Option<u64>
     ensures { result ≡ number_in 64 bytes.now }
@@ -244,7 +246,7 @@ fn any_word(bytes: &[u8]) -> Option<u64>
     if count == bytes.len() { Some(w) } else { None }
 }
 
-/// A number of 32 bits, of whatever digits.
+/// Reads a number of 32 bits, of any number of digits.
 #[tactic(auto, unfolding(crate::specs::Reading::number_in))]
 #[inline(never)]
 fn any_number(bytes: &[u8]) -> Option<u32>
@@ -254,7 +256,8 @@ fn any_number(bytes: &[u8]) -> Option<u32>
     if n < 4294967296 { Some(n as u32) } else { None }
 }
 
-/// What stands before the first blank, a number of 32 bits, of whatever digits, and what stands after that.
+/// Reads a number of 32 bits before the first blank, of any number of digits. Returns it, and the bytes after the
+/// blank.
 #[tactic(auto, unfolding(crate::specs::Reading::field_in))]
 #[inline(never)]
 fn any_lead(bytes: &[u8]) -> Option<(u32, &[u8])>

@@ -1,5 +1,5 @@
-//! Traces and histories as text: what lines and replies say, read from a source and written to a sink; and the player,
-//! which does what a trace says.
+//! Traces and histories as text, read from a source and written to a sink; and the player, which does the lines of a
+//! trace.
 #![tactic(auto)]
 
 mod commands;

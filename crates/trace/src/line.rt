@@ -15,14 +15,14 @@ use graph_heap::Command;
 use quanta::CLOCK_LIMIT;
 use size_classes::{LEAST_BUDGET, MOST_BUDGET};
 
-/// What a line of a trace says.
+/// The meaning of a line of a trace.
 #[derive(Clone, Copy, Debug, PartialEq, Eq)]
 pub enum Line {
     /// Nothing: the line is empty or a comment.
     Skip,
     /// A command of a mutator.
     Command { mutator: u32, command: Command },
-    /// A cycle is begun.
+    /// A cycle begins.
     Begin,
     /// One quantum of this budget, in units.
     Quantum(u32),
@@ -30,7 +30,7 @@ pub enum Line {
     Tick(u64),
 }
 
-/// A line for the collector.
+/// Reads a line for the collector.
 #[tactic(auto, unfolding(crate::specs::Reading::collector_in))]
 fn collector_line(bytes: &[u8]) -> Option<Line>
     ensures { result ≡ collector_in bytes.now }
@@ -50,7 +50,7 @@ fn collector_line(bytes: &[u8]) -> Option<Line>
     }
 }
 
-/// Whether a line says nothing: it is empty, or a comment.
+/// Returns whether a line is skipped: it is empty, or a comment.
 pub fn is_skipped(bytes: &[u8]) -> bool
     ensures { result ≡ is_skipped bytes.now }
 {
@@ -74,19 +74,20 @@ fn meaning(version: Version, bytes: &[u8]) -> Option<Line>
     }
 }
 
-/// Reads a line of a trace of a version, without its LF. The line that tells the version isn't read here.
+/// Reads a line of a trace of a version, without its LF. The line that tells the version isn't read here. Returns
+/// None if no line is spelled so.
 #[inline(always)]
 pub fn read_line(version: Version, bytes: &[u8]) -> Option<Line>
-    // What is read is spelled so, each byte of it.
+    // The line that is returned is spelled so, each byte of it.
     ensures found { IfSome result (λ line. Spells version bytes.now line) }
-    // What is spelled so is read. So there is nothing to read only where no line is spelled so.
+    // A line that is spelled so is returned. So the result is None only if no line is spelled so.
     ensures only { (line : Line) → Spells version bytes.now line → result ≡ Some line }
 {
     meaning(version, bytes)
 }
 
-/// Reads a line of a trace. Answers none for the line that tells the version of those after it. A line that says
-/// nothing that a trace of its version may say is a fault.
+/// Reads a line of a trace. Returns None for the line that tells the version of the lines after it. A line that no
+/// trace of its version may have is a fault.
 #[inline(always)]
 pub fn read_numbered(text: TextLine) -> Result<Option<Line>, PlayFault>
     ensures { LineRead (text_in text.entry) result }

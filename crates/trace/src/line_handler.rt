@@ -12,15 +12,15 @@ use crate::line_reader::LineReader;
 use crate::text_line::TextLine;
 use crate::version::Version;
 
-/// What is done with the lines of an input, one after the other.
+/// A handler of the lines of an input, which gets them one after the other.
 pub trait LineHandler {
-    /// What holds of it before the line of a number, from 1.
+    /// The condition on the handler before the line of this number, from 1.
     ghost is_ready: { ℕ → Self → Type 0 };
 
-    /// What a line does: the handler before and after it, and the outcome.
+    /// The effect of a line: the handler before and after it, and the outcome.
     ghost handles: { Text → Self → Self → Result (Unit {0}) PlayFault → Type 0 };
 
-    /// Does a line, and reads nothing.
+    /// Handles a line, and reads nothing.
     fn handle(&mut self, text: TextLine) -> Result<(), PlayFault>
         requires { is_ready text.number self.old }
         ensures handles { handles (text_in text.entry) self.old self.new result }
@@ -28,17 +28,17 @@ pub trait LineHandler {
         ensures reads { reads_failed result ≡ 0 };
 }
 
-/// Where an input ended.
+/// The end of an input.
 #[derive(Clone, Copy, Debug, PartialEq, Eq)]
 pub struct InputEnd {
-    /// How many lines it has.
+    /// The number of its lines.
     pub lines: u64,
     /// The version that its first line tells.
     pub version: Version,
 }
 
-/// Hands a handler the lines of a source, where the first may tell their version, one after the other, to the
-/// source's end or the first fault.
+/// Hands the lines of a source to a handler, one after the other, to the source's end or the first fault. The first
+/// line may tell the version.
 pub fn each_line<S: Source, H: LineHandler>(
     source: &mut S,
     handler: &mut H,

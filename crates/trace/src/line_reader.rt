@@ -1,4 +1,4 @@
-//! Cutting what a source gives into lines.
+//! Cutting the bytes of a source into lines.
 ghost use Rattle.std.specs.Prelude.{true, false, ◌⊎◌, Ok, Err, ◌∷◌, ◌++◌, ◌≡◌, ◌==◌, ◌+◌, ◌-◌, ◌<◌, ◌≤◌, ◌^◌, length, take, slice_range, IfOk, IfSome, IsNone, OnOk, OnErr, IsTrue};
 ghost use Rattle.trace.specs.Streams.{failed, Stays, given_by};
 ghost use Rattle.memchr.specs.Find.{IsFirstByte, is_byte};
@@ -12,16 +12,16 @@ use memchr::memchr;
 use std::marker::Model;
 use std::simd::prelude::*;
 
-/// How many bytes are read at once, at most.
+/// The most bytes that are read at once.
 pub const CAPACITY: usize = 65536;
 
-/// How many bytes a line has, at most, before its LF.
+/// The most bytes of a line, without its LF.
 pub(crate) const LONGEST: usize = 256;
 
-/// How many bytes are compared at once.
+/// The number of bytes that are compared at once.
 const NEAR: usize = 32;
 
-/// Where the first LF stands, if it is among the first 32 bytes.
+/// Returns the place of the first LF, if it is among the first 32 bytes.
 #[inline(always)]
 fn near_line_feed(bytes: &[u8]) -> Option<usize>
     requires { NEAR ≤ length bytes.now }
@@ -36,7 +36,7 @@ fn near_line_feed(bytes: &[u8]) -> Option<usize>
     Some(places.trailing_zeros() as usize)
 }
 
-/// Where the first LF stands, if it is among the first 257 bytes, by a search of all of them.
+/// Returns the place of the first LF, if it is among the first 257 bytes, by a search of all of them.
 #[inline(never)]
 fn far_line_feed(bytes: &[u8]) -> Option<usize>
     ensures { IsFirstByte (is_byte 10) (take 257 bytes.now) result }
@@ -45,7 +45,8 @@ fn far_line_feed(bytes: &[u8]) -> Option<usize>
     memchr(b'\n', front)
 }
 
-/// Where the first LF stands, if it is among the first 257 bytes. Most lines end within 32, which are compared at once.
+/// Returns the place of the first LF, if it is among the first 257 bytes. Most lines end within 32, which are
+/// compared at once.
 #[inline(always)]
 fn line_feed(bytes: &[u8]) -> Option<usize>
     ensures found { IfSome result (λ i. FirstLf bytes.now i) }
@@ -68,7 +69,7 @@ fn to_front(buffer: &mut [u8], start: usize, end: usize)
     buffer.copy_within(start..end, 0);
 }
 
-/// Reads into a buffer, after the bytes at its front. Answers how many bytes were read.
+/// Reads into a buffer, after the bytes at its front. Returns the number of bytes read.
 fn read_after<S: Source>(source: &mut S, buffer: &mut [u8], at: usize) -> Result<usize, ReadFailed>
     requires { at < length buffer.old }
     ensures within { IfOk result (λ n. at + n ≤ length buffer.new) }
@@ -84,8 +85,8 @@ fn read_after<S: Source>(source: &mut S, buffer: &mut [u8], at: usize) -> Result
     source.read(&mut buffer[at..])
 }
 
-/// A reader of lines: a buffer of 65536 bytes, with the line that was handed out last and the bytes that
-/// came after it. It hands out lines of at most 256 bytes, without their LF, with their numbers and their versions.
+/// A reader of lines: a buffer of 65536 bytes, with the line that was handed out last and the bytes after it. It
+/// hands out lines of at most 256 bytes, without their LF, with their numbers and their versions.
 #[derive(Drop)]
 pub struct LineReader {
     buffer: [u8; CAPACITY],
@@ -114,7 +115,7 @@ impl LineReader {
     ghost use Rattle.trace.specs.LineReader.{ReadsLine, no_lines, unflushed_as_unread};
     ghost use Rattle.trace.specs.TextLine.{text_in, IsNextVersion};
 
-    /// A reader that has read nothing yet.
+    /// Returns a reader that has read nothing yet.
     pub fn new() -> LineReader
         ensures { result ≡ no_lines }
     {
@@ -129,7 +130,7 @@ impl LineReader {
         }
     }
 
-    /// The version of the line that was handed out last. All lines after the first have the same one.
+    /// Returns the version of the line that was handed out last. All lines after the first have the same one.
     #[inline(always)]
     fn version(&self) -> Version
         ensures { result ≡ self.now.text.version }
@@ -141,7 +142,7 @@ impl LineReader {
         }
     }
 
-    /// The line that was handed out last.
+    /// Returns the line that was handed out last.
     #[inline(always)]
     pub fn text(&self) -> TextLine<'_>
         ensures { text_in result ≡ self.now.text }
@@ -153,21 +154,21 @@ impl LineReader {
         }
     }
 
-    /// The number of that line, counted from 1. It is also how many lines were handed out.
+    /// Returns the number of that line, from 1. It is also the number of lines handed out.
     pub fn number(&self) -> u64
         ensures { result ≡ self.now.text.number }
     {
         self.number
     }
 
-    /// The version of the next line: it is the second exactly where the first line was handed out and tells it.
+    /// Returns the version of the next line. It is the second exactly if the first line was handed out and tells it.
     pub fn next_version(&self) -> Version
         ensures { result ≡ self.now.next }
     {
         self.next
     }
 
-    /// Reads after the bytes that are kept. Answers how many were read.
+    /// Reads after the kept bytes. Returns the number of bytes read.
     fn fill<S: Source>(&mut self, source: &mut S) -> Result<usize, ReadFailed>
         requires short { length self.old.kept ≤ 256 }
         requires behind { self.old.text.number + length self.old.kept ≤ length (S.given source.old) }
@@ -193,14 +194,15 @@ impl LineReader {
         Ok(n)
     }
 
-    /// How many bytes are kept.
+    /// Returns the number of kept bytes.
     fn kept(&self) -> usize
         ensures { result ≡ length self.now.kept }
     {
         self.end - self.start
     }
 
-    /// Hands out the line that the bytes kept begin with, if its LF is among their first 257.
+    /// Hands out the line with which the kept bytes begin, if its LF is among their first 257. Returns whether it
+    /// did.
     #[inline(always)]
     fn cut_line(&mut self) -> bool
         ensures cut { IsTrue result → self.old.kept ≡ self.new.text.bytes ++ 10 ∷ self.new.kept }
@@ -226,7 +228,7 @@ impl LineReader {
         true
     }
 
-    /// The fault of the line that begins with the bytes kept.
+    /// Returns the fault of the line with which the kept bytes begin.
     fn fault(&self, fault: LineFault) -> PlayFault
         requires { 0 < length self.now.kept }
         ensures { result ≡ PlayFault.Line (self.now.text.number + 1) fault }
@@ -234,10 +236,10 @@ impl LineReader {
         PlayFault::Line(self.number + 1, fault)
     }
 
-    /// Hands out the next line. Ok(false) is the end of the input. An error takes no line: what has come
-    /// of one is kept.
+    /// Hands out the next line. Ok(false) is the end of the input. If there is an error, no line is handed out, and
+    /// the bytes of it that have come are kept.
     pub fn next_line<S: Source>(&mut self, source: &mut S) -> Result<bool, PlayFault>
-        // The source has given the bytes that are kept, and at least one for each line.
+        // The source has given the kept bytes, and at least one byte for each line.
         requires { self.old.text.number + length self.old.kept ≤ length (S.given source.old) }
         ensures hands { ReadsLine (given_by S.given S.ended source.old source.new) self.old self.new result }
         ensures behind { self.new.text.number + length self.new.kept ≤ length (S.given source.new) }
@@ -259,15 +261,15 @@ impl LineReader {
         Ok(true)
     }
 
-    /// Hands out the next line, as `next_line` does. Before the source is read the sink is flushed, so nothing waits in the
-    /// sink while the source is asked for more. A failed flush ends it as a failed read does.
+    /// Hands out the next line, as `next_line` does. It flushes the sink before it reads the source, so that no byte
+    /// waits in the sink while the source is asked for more. A failed flush ends the call as a failed read does.
     pub fn next_line_once_flushed<S: Source, K: Sink>(
         &mut self,
         source: &mut S,
         sink: &mut K,
     ) -> Result<bool, PlayFault>
         requires { self.old.text.number + length self.old.kept ≤ length (S.given source.old) }
-        // The source was asked for nothing, or all that the sink has taken is sent on.
+        // Either the source was asked for nothing, or the sink has sent on all that it has taken.
         ensures asked { (source.new ≡ source.old) ⊎ (K.sent sink.new ≡ length (K.taken sink.new)) }
         ensures hands { ReadsLine
             (given_by S.given S.ended source.old source.new) self.old self.new (unflushed_as_unread result) }

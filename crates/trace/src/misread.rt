@@ -1,4 +1,4 @@
-//! What is told of a line that is refused, to a user who asks for more than its fault.
+//! The explanation of a refused line, for a user who asks for more than its fault.
 mod fields;
 mod odd_bytes;
 mod rows;
@@ -13,12 +13,12 @@ use odd_bytes::odd_byte;
 use quanta::CLOCK_LIMIT;
 use std::fmt;
 
-/// A line that is refused, as what is wrong with it is told.
+/// A refused line. Its text form explains the fault.
 #[derive(Clone, Copy)]
 pub struct Refused<'a> {
     pub text: TextLine<'a>,
     pub fault: LineFault,
-    /// How many mutators there are.
+    /// The number of mutators.
     pub mutators: u32,
 }
 
@@ -44,7 +44,7 @@ impl fmt::Display for Refused<'_> {
     }
 }
 
-/// Tells what is wrong with a line that isn't read, as one that begins with this part.
+/// Writes why a line isn't read, as one that begins with this part.
 fn tell_misread<W: fmt::Write>(
     f: &mut fmt::Formatter<W>,
     part: Part,
@@ -69,7 +69,7 @@ fn tell_misread<W: fmt::Write>(
     }
 }
 
-/// Whether a line is for the collector.
+/// Returns whether a line is for the collector.
 fn is_for_collector(line: &[u8]) -> bool {
     matches!(
         read_line(Version::Second, line),
@@ -77,7 +77,7 @@ fn is_for_collector(line: &[u8]) -> bool {
     )
 }
 
-/// Tells what is wrong with an entry: with its command, or else with its reply.
+/// Writes the fault of an entry: of its command, or if that is right, of its reply.
 fn tell_entry<W: fmt::Write>(
     f: &mut fmt::Formatter<W>,
     version: Version,

@@ -36,9 +36,9 @@ pub use style::Style;
 pub use surveying::{Survey, survey_run};
 use thiserror::Error;
 
-/// A heap with its history, and the schedule of its collector: when quanta are due, the intervals
-/// that they took, and how they started. Contracts see the course of the heap, the timetable, the budget of a quantum,
-/// how the quanta with an interval started, and whether a cycle has begun since the last of these.
+/// A heap with its history, and the schedule of its collector: when quanta are due, the intervals that they took, and
+/// how they started. Contracts see the course of the heap, the timetable and the budget of a quantum. They also see
+/// how each quantum with an interval started, and whether a cycle has begun since the last of these quanta.
 pub struct Player {
     recorded: Recorded,
     schedule: Schedule,
@@ -48,7 +48,8 @@ pub struct Player {
 }
 
 impl Drop for Player {
-    // One call: a derived drop is written into each function that drops one, and is proved there anew.
+    // Makes this one call. Otherwise the compiler writes a derived drop into each function that drops a player, and
+    // each is proved anew.
     fn drop(self) {
         let Player {
             recorded: _,
@@ -77,8 +78,8 @@ pub enum TickFault {
     /// The clock would pass its limit. Nothing was done.
     #[error("clock spent")]
     ClockSpent,
-    /// Memory was refused for the interval of a quantum. Those due before it are done, and the clock
-    /// has not moved.
+    /// Memory was refused for the interval of a quantum. The quanta due before it are done, and the clock has not
+    /// moved.
     #[error("no memory")]
     NoMemory,
 }
@@ -98,7 +99,7 @@ impl TickFault {
     ghost use Rattle.trace.specs.declared.fault.PlayFault.TheVariants as text_faults;
     ghost use Rattle.trace.specs.declared.player.TickFault.TheVariants as faults;
 
-    /// What is wrong with an input whose line of this number lets the ticks pass.
+    /// Returns the fault of an input in which line `number` lets the ticks pass.
     pub fn at_line(self, number: u64) -> PlayFault
         ensures spent { self ≡ faults.ClockSpent → result ≡ text_faults.Line number line_faults.ClockSpent }
         ensures memory { self ≡ faults.NoMemory → result ≡ text_faults.NoMemory }
@@ -111,7 +112,7 @@ impl TickFault {
 }
 
 impl Player {
-    /// A new heap without history, at time 0. Refused only for lack of memory.
+    /// Returns a player of a new heap without history, at time 0. It is refused only for lack of memory.
     pub fn new(alloc: Global, config: &Config) -> Result<Player, NoMemory>
         ensures { IfOk result (IsNew config.now) }
     {
@@ -124,28 +125,28 @@ impl Player {
         })
     }
 
-    /// The heap with its history.
+    /// Returns the heap with its history.
     pub fn recorded(&self) -> &Recorded
         ensures { result.now.course ≡ self.now.course }
     {
         &self.recorded
     }
 
-    /// The schedule.
+    /// Returns the schedule.
     pub fn schedule(&self) -> &Schedule
         ensures { timetables.with_reserved result.now 0 ≡ self.now.timetable }
     {
         &self.schedule
     }
 
-    /// How the quanta started that the schedule has an interval of, the first one first.
+    /// Returns how each quantum started of which the schedule has an interval, the first one first.
     pub fn starts(&self) -> &[QuantumStart]
         ensures { result.now ≡ self.now.starts }
     {
         &self.starts
     }
 
-    /// The budget of a quantum that is due, in units.
+    /// Returns the budget of a quantum that is due, in units.
     pub fn budget(&self) -> u32
         ensures budget { result ≡ self.now.budget }
         ensures within { IsBudget result }
@@ -153,7 +154,7 @@ impl Player {
         self.budget
     }
 
-    /// Does a command of a mutator. Where memory is refused for its entry, nothing has changed.
+    /// Does a command of a mutator. If memory is refused for its entry, nothing has changed.
     #[inline(always)]
     pub fn call(&mut self, mutator: u32, command: Command) -> Result<Receipt, NoMemory>
         ensures entry { IfOk result (λ r. (r.entry.mutator ≡ mutator) × (r.entry.command ≡ command)) }
@@ -165,8 +166,8 @@ impl Player {
         self.recorded.call(mutator, command)
     }
 
-    /// Begins a cycle, and its schedule, for the line of this number, once the observer is told. A cycle that is running
-    /// already goes on. Where memory is refused to the observer, nothing has changed.
+    /// Reports the beginning of a cycle to the observer, for line `number`; then begins the cycle and its schedule.
+    /// If a cycle is running already, it goes on. If memory is refused to the observer, nothing has changed.
     pub fn begin<O: Observer>(&mut self, number: u64, observer: &mut O) -> Result<(), NoMemory>
         ensures begun { OnOk result (LineSeen O.has_seen number lines.Begin (observed self.old observer.old)
             (observed self.new observer.new)) }
@@ -181,7 +182,7 @@ impl Player {
         Ok(())
     }
 
-    /// Spends units of a budget. Where the quantum ends in idle, the schedule's cycle ends.
+    /// Spends units of a budget. If the quantum ends in idle, the schedule's cycle ends.
     #[inline(always)]
     fn spend(&mut self, budget: u32)
         requires { IsBudget budget }
@@ -193,7 +194,8 @@ impl Player {
         }
     }
 
-    /// Spends units of a budget, and tells the observer. Where the quantum ends in idle, the schedule's cycle ends.
+    /// Spends units of a budget, and reports the quantum to the observer. If it ends in idle, the schedule's cycle
+    /// ends.
     pub fn quantum<O: Observer>(&mut self, budget: u32, observer: &mut O)
         requires { IsBudget budget }
         ensures spent { Spent self.old budget self.new }
@@ -205,8 +207,8 @@ impl Player {
         observer.quantum_done(&before, budget, &self.recorded);
     }
 
-    /// Does the quantum that is due below a time, with its interval, and tells the observer. Answers whether there was
-    /// one.
+    /// Does the quantum that is due below a time, with its interval, and reports it to the observer. Returns whether
+    /// a quantum was due. If memory is refused for its interval, the quantum isn't done.
     pub fn due_quantum<O: Observer>(
         &mut self,
         until: u64,
@@ -232,8 +234,8 @@ impl Player {
         Ok(true)
     }
 
-    /// Lets ticks pass: the quanta that are due in them are done, in order and each with its
-    /// interval, while the cycle runs, and the observer is told of each; then the clock moves.
+    /// Lets ticks pass. While the cycle runs, it does the quanta that are due in these ticks in order, each with its
+    /// interval, and reports each to the observer. Then it moves the clock.
     pub fn tick<O: Observer>(&mut self, ticks: u64, observer: &mut O) -> Result<(), TickFault>
         ensures { TicksSeen O.has_seen ticks (observed self.old observer.old) (observed self.new observer.new) result }
     {

@@ -3,15 +3,15 @@ ghost use Rattle.std.specs.Prelude.{◌≤◌, length};
 
 use std::fmt;
 
-/// How many characters of a text are shown at most.
+/// The most characters of a text that are shown.
 const MOST_SHOWN: usize = 80;
 
-/// A text as it is quoted: its first 80 characters, where a control character is written in hexadecimal, and whether more
-/// follows. What isn't UTF-8 isn't shown.
+/// A quoted text: its first 80 characters, and whether more follow. Control characters are written in hexadecimal.
+/// Bytes that aren't UTF-8 aren't shown.
 #[derive(Clone, Copy)]
 pub struct Quoted<'a>(pub &'a [u8]);
 
-/// How many bytes in front are UTF-8.
+/// Returns how many bytes at the front are UTF-8.
 fn count_valid(bytes: &[u8]) -> usize
     ensures { result ≤ length bytes.now }
 {

@@ -19,7 +19,7 @@ const REFUSALS: [Refusal; 10] = [
     Refusal::AlreadyLive,
 ];
 
-/// The refusal of a number.
+/// Returns the refusal with a number.
 #[tactic(auto, unfolding(crate::specs::Reading::refusal_in))]
 pub(crate) fn refusal(number: u64) -> Option<Refusal>
     ensures { result ≡ refusal_in number }
@@ -30,7 +30,7 @@ pub(crate) fn refusal(number: u64) -> Option<Refusal>
         .find(|r| r.number() as u64 == number)
 }
 
-/// A refusal by its number, as a reply.
+/// Reads the number of a refusal, as a reply.
 #[tactic(auto, unfolding(crate::specs::Reading::refused_in))]
 fn refused(bytes: &[u8]) -> Option<Reply>
     ensures { result ≡ refused_in bytes.now }
@@ -40,7 +40,7 @@ fn refused(bytes: &[u8]) -> Option<Reply>
     Some(Reply::Refused(r))
 }
 
-/// A reply of several words.
+/// Reads a reply of several words.
 #[tactic(auto, unfolding(crate::specs::Reading::long_reply_in))]
 fn long_reply(bytes: &[u8]) -> Option<Reply>
     ensures { result ≡ long_reply_in bytes.now }
@@ -62,7 +62,7 @@ fn long_reply(bytes: &[u8]) -> Option<Reply>
     }
 }
 
-/// A reply.
+/// Reads a reply.
 #[tactic(auto, unfolding(crate::specs::Reading::reply_in))]
 pub(crate) fn reply(bytes: &[u8]) -> Option<Reply>
     ensures { result ≡ reply_in bytes.now }

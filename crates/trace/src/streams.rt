@@ -1,4 +1,4 @@
-//! Readers and writers of bytes, as contracts see them: what was given, what was taken, and how often a call failed.
+//! Readers and writers of bytes, as contracts see them: the bytes given and taken, and how many calls failed.
 pub mod buffered;
 pub mod fail_at;
 mod fault;

@@ -5,8 +5,8 @@ ghost use Rattle.trace.specs.Streams.{GrowsByPart, failed};
 use crate::{Sink, WriteFailed, write_all};
 use itoa::Buffer;
 
-/// Writes bytes at a place, after which there must be room for them, and answers the place after
-/// them. What stands before the place stays.
+/// Writes bytes at a place, and returns the place after them. There must be room for them. The bytes before the place
+/// stay.
 #[inline(always)]
 pub fn put(out: &mut [u8], at: usize, bytes: &[u8]) -> usize
     requires { at + length bytes.now ≤ length out.old }
@@ -104,8 +104,8 @@ pub(crate) fn put_number(out: &mut [u8], at: usize, n: u64) -> usize
     }
 }
 
-/// Writes a word, and after it a number in decimal, at a place, and answers the place after them.
-/// There must be room for the word and 20 digits. What stands before the place stays.
+/// Writes a word at a place, and after it a number in decimal. Returns the place after them. There must be room for
+/// the word and 20 digits. The bytes before the place stay.
 #[inline(always)]
 pub fn put_named(out: &mut [u8], at: usize, word: &[u8], n: u64) -> usize
     requires { at + length word.now + 20 ≤ length out.old }
@@ -116,8 +116,8 @@ pub fn put_named(out: &mut [u8], at: usize, word: &[u8], n: u64) -> usize
     put_number(out, next, n)
 }
 
-/// Ends the line at the front of an array with LF, and writes it to a sink, all of it. There must be
-/// room for the LF. After an error the sink has taken a beginning of the line.
+/// Ends the line at the front of an array with LF, and writes all of it to a sink. There must be room for the LF.
+/// After an error the sink has taken a beginning of the line.
 #[inline(always)]
 pub fn end_line<K: Sink>(sink: &mut K, out: &mut [u8; 256], end: usize) -> Result<(), WriteFailed>
     requires { end < 256 }

@@ -10,12 +10,12 @@ pub struct TextLine<'a> {
     pub bytes: &'a [u8],
     /// Its number, counted from 1.
     pub number: u64,
-    /// The version that it is in.
+    /// Its version.
     pub version: Version,
 }
 
 impl TextLine<'_> {
-    /// Whether it tells the version of the lines after it.
+    /// Returns whether it tells the version of the lines after it.
     #[inline(always)]
     pub fn tells_version(&self) -> bool
         ensures { IsTrue result ↔ IsVersionLine (text_in self.now) }
@@ -23,7 +23,7 @@ impl TextLine<'_> {
         tells_version(self.number, self.bytes)
     }
 
-    /// The version of the line after it.
+    /// Returns the version of the line after it.
     #[inline(always)]
     pub fn next_version(&self) -> Version
         ensures { IsNextVersion (text_in self.now) result }

@@ -1,5 +1,5 @@
-//! Transcripts that are read whole: scripts, which are the commands of each mutator, and histories,
-//! whose entries are checked against a graph heap.
+//! Transcripts that are read whole: scripts, which are the commands of each mutator, and histories, which are checked
+//! against a graph heap.
 mod histories;
 mod scripts;
 

@@ -11,15 +11,15 @@ pub enum Version {
     Second,
 }
 
-/// The line that tells the second version, without LF. It is the first of its text.
+/// Returns the line that tells the second version, without LF. It is the first line of its text.
 pub fn version_line() -> &'static [u8]
     ensures { result.now ≡ version_line }
 {
     b"version 2"
 }
 
-/// Whether a line of this number, from 1, tells the version of those after it, which is the second. It is
-/// the first, and is `version 2`.
+/// Returns whether a line of this number, from 1, tells that the lines after it have the second version: it is the
+/// first line, and is `version 2`.
 pub fn tells_version(number: u64, line: &[u8]) -> bool
     ensures { IsTrue result ↔ TellsVersion number line.now }
 {

@@ -66,8 +66,8 @@ pub(crate) fn put_shape(out: &mut [u8], at: usize, shape: &Shape) -> usize
     }
 }
 
-/// Writes a mutator's command at a place, without LF, and answers the place after it. What stands
-/// before the place stays.
+/// Writes a mutator's command at a place, without LF, and returns the place after it. The bytes before the place
+/// stay.
 pub fn write_command(mutator: u32, command: &Command, out: &mut [u8; 256], at: usize) -> usize
     requires { at ≤ 128 }
     ensures text { take result out.new ≡ take at out.old ++ command_line mutator command.now }
@@ -106,8 +106,7 @@ fn put_reply(out: &mut [u8], at: usize, reply: &Reply) -> usize
     }
 }
 
-/// Writes a reply at a place, without LF, and answers the place after it. What stands before the
-/// place stays.
+/// Writes a reply at a place, without LF, and returns the place after it. The bytes before the place stay.
 #[inline(always)]
 pub fn write_reply(reply: &Reply, out: &mut [u8; 256], at: usize) -> usize
     requires { at ≤ 128 }
@@ -118,7 +117,7 @@ pub fn write_reply(reply: &Reply, out: &mut [u8; 256], at: usize) -> usize
     put_reply(out.as_mut_slice(), at, reply)
 }
 
-/// Writes an entry's line, without LF, at the front, and answers the place after it.
+/// Writes an entry's line at the front, without LF, and returns the place after it.
 pub fn write_entry(entry: &Entry, out: &mut [u8; 256]) -> usize
     ensures text { take result out.new ≡ entry_line entry.now }
     ensures short { length (entry_line entry.now) ≤ 193 }

@@ -1,4 +1,4 @@
-//! Which field of a text is wrong, and what may stand there.
+//! The wrong field of a text, and the values that it may have.
 use crate::misread::rows::{COMMANDS, EVENTS, Example, FORMS, Field, count_right};
 use crate::quoted::Quoted;
 use std::fmt;
@@ -10,14 +10,14 @@ pub(crate) enum Part {
     Event,
     /// A line of scripts.
     Command,
-    /// What stands before the arrow of an entry.
+    /// The text of an entry before its arrow.
     EntryCommand,
-    /// What stands behind the arrow of an entry.
+    /// The text of an entry after its arrow.
     Reply,
 }
 
 impl Part {
-    /// The forms that it may have.
+    /// Returns the forms that it may have.
     fn forms(self) -> &'static [&'static [Field]] {
         match self {
             Part::Event => &FORMS[..EVENTS],
@@ -26,7 +26,7 @@ impl Part {
         }
     }
 
-    /// Where in a line its fields stand.
+    /// Returns where in a line its fields stand.
     fn place(self) -> &'static str {
         match self {
             Part::Event | Part::Command => "",
@@ -36,8 +36,8 @@ impl Part {
     }
 }
 
-/// A text that isn't read as its part of a line, and whose fields are printed and separated by one blank: as it is told which
-/// of them is wrong, and what may stand there.
+/// A text that can't be read as its part of a line. All its bytes are printable, and its fields are separated by one
+/// blank. Its text form says which field is wrong, and which values the field may have.
 #[derive(Clone, Copy)]
 pub(crate) struct WrongFields<'a> {
     pub(crate) part: Part,
@@ -45,7 +45,7 @@ pub(crate) struct WrongFields<'a> {
 }
 
 impl WrongFields<'_> {
-    /// The first form of which as many fields of the text are right as of any, and how many that are.
+    /// Returns the first form of which the most fields of the text are right, and how many these are.
     fn nearest(&self) -> (&'static [Field], usize) {
         let (mut nearest, mut right): (&'static [Field], usize) = (&[], 0);
         for form in self.part.forms() {
@@ -89,8 +89,8 @@ impl fmt::Display for WrongFields<'_> {
     }
 }
 
-/// What the field at a place may be, in forms that are before it as this one is. Forms that have the same there stand next to one
-/// another.
+/// The values that the field at a place may have, in forms that agree with this one before the place. Forms with the
+/// same field there stand next to one another.
 #[derive(Clone, Copy)]
 struct Choices {
     forms: &'static [&'static [Field]],

@@ -8,9 +8,9 @@ pub(crate) enum OddByte {
     Mark,
     /// The last byte is 13.
     CarriageReturn,
-    /// A blank is in front, behind the line, or follows another.
+    /// A blank is in front, at the end of the line, or after another.
     Blank(usize),
-    /// A byte that is no printable ASCII.
+    /// A byte isn't printable ASCII.
     Unprinted(usize, u8),
 }
 
@@ -38,7 +38,7 @@ impl fmt::Display for OddByte {
     }
 }
 
-/// The first byte of a line that is wrong whatever its fields are.
+/// Returns the first byte of a line that is wrong whatever the fields are.
 pub(crate) fn odd_byte(line: &[u8]) -> Option<OddByte> {
     if line.starts_with(b"\xef\xbb\xbf".as_slice()) {
         return Some(OddByte::Mark);

@@ -6,11 +6,11 @@ use quanta::CLOCK_LIMIT;
 use size_classes::{LEAST_BUDGET, MOST_BUDGET};
 use std::fmt;
 
-/// What a field of a form may be.
+/// The values that a field of a form may have.
 #[derive(Clone, Copy, Debug, PartialEq, Eq)]
 pub(crate) enum Field {
     Word(&'static str),
-    /// A number in this range, with one of them as an example.
+    /// A number in this range, with an example.
     Number(u64, u64, u64),
     /// The number of a refusal.
     Refusal,
@@ -28,7 +28,7 @@ const UNITS: Field = Number(LEAST_BUDGET as u64, MOST_BUDGET as u64, LEAST_BUDGE
 
 const TICKS: Field = Number(1, CLOCK_LIMIT, 1);
 
-/// How many forms commands have, and how many lines of a trace.
+/// The number of forms of commands, and that of lines of a trace.
 pub(crate) const COMMANDS: usize = 18;
 
 pub(crate) const EVENTS: usize = 21;
@@ -72,7 +72,7 @@ pub(crate) const FORMS: [&[Field]; 34] = [
 ];
 
 impl Field {
-    /// Whether it may be this text.
+    /// Returns whether the field may be this text.
     fn admits(&self, text: &str) -> bool {
         match self {
             Word(word) => *word == text,
@@ -84,7 +84,7 @@ impl Field {
     }
 }
 
-/// How many fields of a text are as a form has them, from the first on.
+/// Returns how many fields of a text are as a form has them, from the first on.
 pub(crate) fn count_right(form: &[Field], text: &str) -> usize {
     form.iter()
         .zip(text.split(' '))

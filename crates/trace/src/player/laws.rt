@@ -9,8 +9,7 @@ ghost use Rattle.trace.specs.declared.player.style.Style.{Style};
 ghost use Rattle.trace.specs.New.{IsNew};
 ghost use Rattle.trace.specs.Playing.{Session, Played};
 
-/// What is played on a new player leaves a heap for which all that is promised holds, and space suffices for its
-/// events.
+/// A play on a new player leaves a heap for which all promises hold, and space suffices for its events.
 pub fn plays_are_promised()
     ensures { (config : Config) (style : Style) (given : Given) (old new : Session)
         (result : Result (Unit {0}) PlayFault)

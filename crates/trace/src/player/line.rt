@@ -17,7 +17,7 @@ use crate::{
 };
 use graph_heap::Entry;
 
-/// Writes the line of an entry to a sink, in a style. It is made in an array.
+/// Writes the line of an entry to a sink, in a style. The line is made in an array.
 #[inline(always)]
 fn tell_entry<K: Sink>(
     entry: &Entry,
@@ -33,7 +33,7 @@ fn tell_entry<K: Sink>(
     let end = match style {
         Style::Replies => write_reply(&entry.reply, out, 0),
         Style::Entries => {
-            // A copy, so that the entry isn't in memory where only its reply is written.
+            // Makes a copy, so that the entry isn't in memory if only its reply is written.
             let copy = *entry;
             write_entry(&copy, out)
         }
@@ -42,7 +42,7 @@ fn tell_entry<K: Sink>(
     end_line(sink, out, end)
 }
 
-/// Writes the line that tells the version to a sink, in a style. It is made in an array.
+/// Writes the line that tells the version to a sink, in a style. The line is made in an array.
 fn tell_version<K: Sink>(style: Style, out: &mut [u8; 256], sink: &mut K) -> Result<(), WriteFailed>
     ensures ok { OnOk result (K.taken sink.new ≡ K.taken sink.old ++ written_version versions.Second style) }
     ensures err { OnErr result (GrowsByPart (K.taken sink.old) (K.taken sink.new)
@@ -59,7 +59,7 @@ fn tell_version<K: Sink>(style: Style, out: &mut [u8; 256], sink: &mut K) -> Res
     }
 }
 
-/// Does what a line of this number says, and tells the observer of its events.
+/// Does a line of this number, and reports its events to the observer.
 #[inline(always)]
 pub fn do_line<O: Observer>(
     line: Line,
@@ -70,7 +70,7 @@ pub fn do_line<O: Observer>(
     requires { HasBudget line }
     ensures done { LineObserved O.has_seen O.may_be_refused line number (observed player.old observer.old)
         (observed player.new observer.new) result }
-    // No write is in it that could fail, and no read.
+    // It makes no write that could fail, and no read.
     ensures calls { (writes_failed result ≡ 0) × (reads_failed result ≡ 0) }
 {
     match line {
@@ -90,7 +90,7 @@ pub fn do_line<O: Observer>(
     Ok(())
 }
 
-/// Whether a line says an event: all do but those that are skipped.
+/// Returns whether a line is that of an event. All lines are, except skipped ones.
 #[inline(always)]
 pub fn is_event(line: Line) -> bool
     ensures { result ≡ says_event line }
@@ -98,7 +98,8 @@ pub fn is_event(line: Line) -> bool
     !matches!(line, Line::Skip)
 }
 
-/// Does a line, and writes to a sink what is written of it, which is made in an array. Answers whether it is that of an event.
+/// Does a line, and writes its entries to a sink; the text is made in an array. Returns whether the line is that of
+/// an event.
 #[inline(always)]
 pub fn play_line<K: Sink>(
     text: TextLine,

@@ -1,7 +1,7 @@
-//! A player, and what observes it.
+//! A player with its observer.
 use crate::player::Player;
 
-/// A player, and what observes it.
+/// A player with its observer.
 #[derive(Drop)]
 pub struct Observed<O: Drop> {
     pub player: Player,

@@ -1,4 +1,4 @@
-//! What is told of a run while it is played.
+//! Observers of a run while it is played.
 ghost use Rattle.std.specs.Prelude.{◌≡◌, ◌<◌, length, OnErr, OnOk};
 ghost use Rattle.trace.specs.Steps.{Step, IsCommand, IsBegin, IsQuantum};
 ghost use Rattle.trace.specs.Observing.{Run, after_line, IsMark, SeesStep};
@@ -7,7 +7,7 @@ use graph_heap::{Entry, NoMemory};
 use heap_model::phase::Phase;
 use machine::{Heap, Recorded};
 
-/// Where the collector of a heap is: its phase, and the units of the cycle.
+/// The state of a heap's collector: its phase, and the units of the cycle.
 #[derive(Clone, Copy, Debug, PartialEq, Eq)]
 pub struct Mark {
     pub phase: Phase,
@@ -15,7 +15,7 @@ pub struct Mark {
 }
 
 impl Mark {
-    /// Where the collector of a heap is now.
+    /// Returns the present state of a heap's collector.
     #[inline(always)]
     pub fn from_heap(heap: &Heap) -> Mark
         ensures { IsMark heap.now result }
@@ -27,10 +27,10 @@ impl Mark {
     }
 }
 
-/// What is told of a run, event by event, while its lines are played. It changes nothing of the run, but where memory
-/// is refused to it the run ends.
+/// An observer of a run. It gets each event while the lines are played, and changes nothing of the run. But if memory
+/// is refused to it, the run ends.
 pub trait Observer {
-    /// What holds of it once it has seen a run.
+    /// The condition on an observer that has seen a run.
     ghost has_seen: { Run → Self → Type 0 };
 
     /// Whether memory may be refused to it.
@@ -41,18 +41,18 @@ pub trait Observer {
         ensures seen { OnOk result ((s : Step) → IsCommand entry.now s → SeesStep has_seen s self.old self.new) }
         ensures err { OnErr result may_be_refused };
 
-    /// The line of this number begins a cycle next, or finds one running: so the heap is before that.
+    /// The line of this number will begin a cycle, or find one running. The heap is that before the line.
     fn begins(&mut self, number: u64, recorded: &Recorded) -> Result<(), NoMemory>
         ensures seen { OnOk result ((s : Step) → IsBegin number recorded.now.course s
             → SeesStep has_seen s self.old self.new) }
         ensures err { OnErr result may_be_refused };
 
-    /// A quantum of this budget was done, before which the collector was at this mark.
+    /// A quantum of this budget was done. Before it the collector had the state `before`.
     fn quantum_done(&mut self, before: &Mark, budget: u32, recorded: &Recorded)
         ensures seen { (s : Step) → IsQuantum budget s → IsMark s.before.heap before.now
             → s.after ≡ recorded.now.course → SeesStep has_seen s self.old self.new };
 
-    /// The line of this number was done, which is that of an event.
+    /// The line of this number, which is that of an event, was done.
     fn line_done(&mut self, number: u64, recorded: &Recorded) -> Result<(), NoMemory>
         requires { (run : Run) × has_seen run self.old × (length run.moments < number) }
         ensures seen { OnOk result ((run : Run) → has_seen run self.old → run.now ≡ recorded.now.course
@@ -60,7 +60,7 @@ pub trait Observer {
         ensures err { OnErr result may_be_refused };
 }
 
-/// Nothing is told: a run that is played in silence.
+/// Observes nothing: a run that is played in silence.
 impl Observer for () {
     ghost has_seen = { λ run self. Unit {0} };
 

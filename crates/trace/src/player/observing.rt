@@ -1,4 +1,4 @@
-//! Playing a trace while something observes it.
+//! Playing a trace with an observer.
 ghost use Rattle.std.specs.Prelude.{◌≡◌, ◌+◌};
 ghost use Rattle.trace.specs.LinesProcessed.{reads_failed};
 ghost use Rattle.trace.specs.Streams.{Stays, given_by};
@@ -27,10 +27,10 @@ impl<O: Observer + Drop> LineHandler for Observed<O> {
     }
 }
 
-/// Plays the lines of a source, one after the other, and writes nothing of them. The observer is told of each event:
-/// of a command and of a quantum once it is done, also of each that is due in ticks; of a line `begin` before it is
-/// done; and then of each line that is an event's. A fault is that with which playing the lines ends; or memory was
-/// refused, for that or to the observer.
+/// Plays the lines of a source, one after the other, and writes nothing. It reports each event to the observer: a
+/// command and a quantum after it was done, also each quantum that is due in ticks; a line `begin` before it is done.
+/// Then it reports the end of each line that is an event's. A fault is one with which playing the lines ends, or
+/// memory was refused to the play or to the observer.
 pub fn observe<S: Source, O: Observer + Drop>(
     source: &mut S,
     run: &mut Observed<O>,

@@ -13,7 +13,7 @@ use crate::player::line::play_line;
 use crate::player::style::Style;
 use crate::{LineReader, PlayFault, Sink, Source};
 
-/// Whether an event is left, or their number isn't limited.
+/// Returns whether an event is left, or the number of events isn't limited.
 fn is_any_left(left: Option<u32>) -> bool
     ensures some { IsTrue result → left ≢ Some 0 }
     ensures none { result ≡ false → left ≡ Some 0 }
@@ -21,7 +21,7 @@ fn is_any_left(left: Option<u32>) -> bool
     !matches!(left, Some(0))
 }
 
-/// How many events are left after a line, where their number is limited.
+/// Returns how many events are left after a line, if their number is limited.
 fn left_after(left: Option<u32>, is_event: bool) -> Option<u32>
     requires { left ≢ Some 0 }
     ensures { result ≡ option_map (λ n. n - (if is_event then 1 else 0)) left }
@@ -32,8 +32,8 @@ fn left_after(left: Option<u32>, is_event: bool) -> Option<u32>
     }
 }
 
-/// Hands out the next line. Where something is written of lines, the sink is flushed before the source is asked for more. A
-/// failed flush ends it as a failed read does.
+/// Hands out the next line. If the style writes anything, it flushes the sink before it asks the source for more. A
+/// failed flush ends the call as a failed read does.
 #[inline(always)]
 fn next_line<S: Source, K: Sink>(
     reader: &mut LineReader,
@@ -62,8 +62,8 @@ fn next_line<S: Source, K: Sink>(
     }
 }
 
-/// Plays the lines of a source, up to the line of the nth event where there is an n. It is written into its callers, which know
-/// the style, so that no line asks for it.
+/// Plays the lines of a source, up to the line of the nth event if there is an n. It is written into its callers,
+/// which know the style, so that no line tests the style.
 #[inline(always)]
 fn play_lines<S: Source, K: Sink>(
     n: Option<u32>,
@@ -92,12 +92,14 @@ fn play_lines<S: Source, K: Sink>(
     Ok(())
 }
 
-/// Plays the lines of a source, up to the line of the nth event where there is an n and as many, and writes to a sink
-/// what the style says of each command: each line is done, one after the other, and what was done and written before a
-/// fault stands; a failed write is one of the last command's line. Skipped lines are no events. No line after that of the
-/// nth event is looked at, and for 0 nothing is read. Where something is written of lines, the sink is flushed before the
-/// source is asked for more. What waits in it at the end is for the caller to flush. What is left is promised all that is
-/// promised of a heap with its history, and space suffices for what is done from a new player.
+/// Plays the lines of a source, up to the line of the nth event; all lines, if n is None or there are fewer events.
+/// It does the lines in order, and writes to a sink what the style asks for each command. Skipped lines are no
+/// events. It looks at no line after that of the nth event, and reads nothing if n is 0.
+///
+/// After a fault all that was done and written before it stays so. After a failed write the last command is done, and
+/// a beginning of its line is written. If the style writes anything, the sink is flushed before the source is asked
+/// for more. The caller must flush the sink at the end. The heap with its history is left with all its promises, and
+/// space suffices for what is done from a new player.
 #[inline(always)]
 pub fn play_up_to<S: Source, K: Sink>(
     n: Option<u32>,
@@ -122,7 +124,7 @@ pub fn play_up_to<S: Source, K: Sink>(
     play_lines(n, source, sink, player, style)
 }
 
-/// Plays the lines of a source as `play_up_to` does, all of them.
+/// Plays all lines of a source, as `play_up_to` does.
 #[inline(always)]
 pub fn play<S: Source, K: Sink>(
     source: &mut S,
@@ -144,7 +146,7 @@ pub fn play<S: Source, K: Sink>(
     play_up_to(None, source, sink, player, style)
 }
 
-/// Plays the lines of a source as `play_up_to` does, up to the line of the nth event, or all where there are fewer.
+/// Plays the lines of a source as `play_up_to` does: up to the line of the nth event, or all if there are fewer.
 pub fn play_first<S: Source, K: Sink>(
     n: u32,
     source: &mut S,

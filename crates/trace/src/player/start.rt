@@ -4,7 +4,7 @@ ghost use Rattle.trace.specs.Starts.{name_of};
 
 use heap_model::phase::Phase;
 
-/// Which phase a collector is in, and not how far it has come.
+/// The phase of a collector, without its progress.
 #[derive(Clone, Copy, Debug, PartialEq, Eq)]
 pub enum PhaseName {
     Idle,
@@ -15,7 +15,7 @@ pub enum PhaseName {
 }
 
 impl PhaseName {
-    /// Which phase this is.
+    /// Returns the name of a phase.
     pub fn of(phase: Phase) -> PhaseName
         ensures { result ≡ name_of phase }
     {
@@ -29,10 +29,10 @@ impl PhaseName {
     }
 }
 
-/// How a quantum started that took ticks.
+/// The start of a quantum that took ticks.
 #[derive(Clone, Copy, Debug, PartialEq, Eq)]
 pub struct QuantumStart {
-    /// The phase that the collector was in.
+    /// The phase of the collector at the start.
     pub phase: PhaseName,
     /// Whether it is the first one that took ticks since a cycle began.
     pub opens_cycle: bool,

@@ -1,7 +1,7 @@
-//! What is written of a trace that is played.
+//! The text that a play writes.
 
-/// What is written of each command that is done. Of other lines nothing is, except that a history has the line
-/// that tells the version, too.
+/// The text that a play writes for each command that is done. It writes nothing for other lines, except that a
+/// history also gets the line that tells the version.
 #[derive(Clone, Copy, Debug, PartialEq, Eq)]
 pub enum Style {
     /// The line of its reply.

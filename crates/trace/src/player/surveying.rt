@@ -1,4 +1,4 @@
-//! What is told of a whole run.
+//! Surveys of a whole run.
 ghost use Rattle.std.specs.Prelude.{◌≡◌, ◌+◌, length, IfOk};
 ghost use Rattle.size_classes.specs.declared.config.Config.{Config};
 ghost use Rattle.trace.specs.LinesProcessed.{reads_failed};
@@ -16,20 +16,20 @@ use graph_heap::NoMemory;
 use size_classes::Config;
 use std::alloc::Global;
 
-/// An observer of a whole run, from a new player to the end of the input, which then tells what it found.
+/// An observer of a whole run, from a new player to the end of the input. At the end it returns its findings.
 pub trait Survey: Observer + Drop + Sized {
-    /// What it found.
+    /// The findings.
     type Findings;
 
-    /// What they tell of a run.
+    /// The meaning of the findings for a run.
     ghost tells: { (config : Config) (given : Given) → NewRun config given → Self.Findings → Type 0 };
 
-    /// An observer of a new player of a configuration.
+    /// Returns an observer of a new player of a configuration.
     fn start(alloc: Global, config: &Config, player: &Player) -> Result<Self, NoMemory>
         requires { IsNew config.now player.now }
         ensures { IfOk result (Self.has_seen (run_from player.now.course)) };
 
-    /// What it found of the run that led to a player, of an input of so many lines.
+    /// Returns the findings about the run that led to a player, of an input of this many lines.
     fn finish(self, player: &Player, lines: u64) -> Result<Self::Findings, NoMemory>
         requires { (run : Run) × Self.has_seen run self }
         ensures { IfOk result (λ findings. (config : Config) (given : Given) (run : NewRun config given)
@@ -37,9 +37,9 @@ pub trait Survey: Observer + Drop + Sized {
             → Self.has_seen (run_by run.played) self → tells config given run findings) };
 }
 
-/// Plays the lines of a trace on a new heap of a configuration, one after the other, writes nothing of them, and
-/// answers what a survey finds of the run. A fault is that with which playing the trace ends; or memory was refused,
-/// for that or to the survey.
+/// Plays the lines of a trace on a new heap of a configuration, one after the other, and writes nothing. Returns the
+/// survey's findings about the run. A fault is one with which playing the trace ends, or memory was refused to the
+/// play or to the survey.
 pub fn survey_run<O: Survey, S: Source>(
     alloc: Global,
     config: &Config,

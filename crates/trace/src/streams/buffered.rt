@@ -6,11 +6,11 @@ ghost use Rattle.trace.specs.Streams.{failed};
 use crate::streams::fault::WriteFailed;
 use crate::streams::sink::Sink;
 
-/// How many bytes wait, at most.
+/// The most bytes that wait.
 const CAPACITY: usize = 65536;
 
-/// A sink that gathers what it takes, and writes it to the sink below in one piece: where it has no room for more, and where
-/// it is flushed. At most 65536 bytes wait in it. What waits when it is dropped is lost.
+/// A sink that gathers the bytes that it takes. It writes them to the sink below in one piece, if it has no room for
+/// more and when it is flushed. At most 65536 bytes wait in it. If it is dropped, the bytes that wait are lost.
 #[derive(Drop)]
 pub struct BufferedSink<K: Drop> {
     below: K,
@@ -22,7 +22,7 @@ pub struct BufferedSink<K: Drop> {
 impl<K: Drop> BufferedSink<K> {
     ghost use Rattle.trace.specs.BufferedSink.{sink_below, bytes_waiting};
 
-    /// A sink that has taken nothing yet.
+    /// Returns a sink that has taken nothing yet.
     pub fn new(below: K) -> BufferedSink<K>
         ensures below { sink_below result ≡ below }
         ensures waiting { bytes_waiting result ≡ [] }
@@ -34,7 +34,7 @@ impl<K: Drop> BufferedSink<K> {
         }
     }
 
-    /// The sink below.
+    /// Returns the sink below.
     pub fn get_ref(&self) -> &K
         ensures { result.now ≡ sink_below self.now }
     {
@@ -45,7 +45,7 @@ impl<K: Drop> BufferedSink<K> {
 impl<K: Sink + Drop> BufferedSink<K> {
     ghost use Rattle.trace.specs.BufferedSink.{sink_below, bytes_waiting};
 
-    /// Writes some of what waits to the sink below.
+    /// Writes some of the bytes that wait to the sink below.
     fn send_some(&mut self) -> Result<(), WriteFailed>
         requires { 0 < self.old.end }
         ensures taken { K.taken (sink_below self.new) ++ bytes_waiting self.new

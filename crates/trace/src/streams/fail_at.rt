@@ -7,7 +7,7 @@ use crate::streams::sink::Sink;
 use crate::streams::source::Source;
 use std::io;
 
-/// A source or a sink, of which one read or write fails. All its other calls are passed on. It is for tests.
+/// A source or a sink for tests. One of its reads or writes fails; all other calls are passed on.
 #[derive(Drop)]
 pub struct FailAt<T: Drop> {
     inner: T,
@@ -19,7 +19,8 @@ pub struct FailAt<T: Drop> {
 impl<T: Drop> FailAt<T> {
     ghost use Rattle.trace.specs.FailAt.{passes_to, calls_left, own_failures};
 
-    /// Fails this read or write of those to come, counted from 1, or none where it is 0.
+    /// Returns a stream of which the read or write number `call` from now on, from 1, fails; if `call` is 0, none
+    /// fails.
     pub fn new(inner: T, call: u64) -> FailAt<T>
         ensures inner { passes_to result ≡ inner }
         ensures left { calls_left result ≡ call }
@@ -32,14 +33,14 @@ impl<T: Drop> FailAt<T> {
         }
     }
 
-    /// What the calls are passed on to.
+    /// Returns the stream to which calls are passed on.
     pub fn get_ref(&self) -> &T
         ensures { result.now ≡ passes_to self.now }
     {
         &self.inner
     }
 
-    /// Counts a read or a write, and answers whether it is to fail.
+    /// Counts a read or a write, and returns whether it must fail.
     fn fails_now(&mut self) -> bool
         ensures now { IsTrue result ↔ (calls_left self.old ≡ 1) }
         ensures inner { passes_to self.new ≡ passes_to self.old }

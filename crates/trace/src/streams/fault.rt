@@ -1,4 +1,4 @@
-//! That a read or a write failed.
+//! Failed reads and writes.
 use thiserror::Error;
 
 /// A read failed.

@@ -10,7 +10,7 @@ use crate::streams::transcript::Transcript;
 use std::alloc::Global;
 use std::io;
 
-/// Copies as many bytes as there is room for to the front of a buffer, and answers how many.
+/// Copies bytes to the front of a buffer, as many as it has room for, and returns how many.
 fn copy_front(from: &[u8], to: &mut [u8]) -> usize
     ensures count { result ≡ min (length from.now) (length to.old) }
     ensures bytes { take result to.new ≡ take result from.now }
@@ -32,12 +32,12 @@ pub struct MemorySource<'a> {
 impl<'a> MemorySource<'a> {
     ghost use Rattle.trace.specs.MemorySource.{source_bytes, source_place};
 
-    /// A source of these bytes, none of which is read yet.
+    /// Returns a source of these bytes, of which none is read yet.
     pub fn new(bytes: &'a [u8]) -> MemorySource<'a>
         ensures bytes { source_bytes result ≡ bytes.now }
         ensures place { source_place result ≡ 0 }
     {
-        // Where a length is read, it is known to fit its type.
+        // Reads the length, so that it is known to fit its type.
         let _few = bytes.len();
         MemorySource { bytes, at: 0 }
     }
@@ -67,7 +67,7 @@ impl<'a> Source for MemorySource<'a> {
     }
 }
 
-/// Bytes that are written to memory. A write fails only where memory is refused.
+/// A sink that keeps its bytes in memory. A write fails only if memory is refused.
 #[derive(Drop)]
 pub struct MemorySink {
     bytes: Vec<u8>,
@@ -77,7 +77,7 @@ pub struct MemorySink {
 impl MemorySink {
     ghost use Rattle.trace.specs.MemorySink.{sink_bytes, sink_failures};
 
-    /// A sink that has taken nothing yet.
+    /// Returns a sink that has taken nothing yet.
     pub fn new(alloc: Global) -> MemorySink
         ensures bytes { sink_bytes result ≡ [] }
         ensures failures { sink_failures result ≡ 0 }
@@ -88,7 +88,7 @@ impl MemorySink {
         }
     }
 
-    /// The bytes that it has taken.
+    /// Returns the bytes that it has taken.
     pub fn bytes(&self) -> &[u8]
         ensures { result.now ≡ sink_bytes self.now }
     {

@@ -4,20 +4,19 @@ ghost use Rattle.trace.specs.Streams.{failed, GrowsByPart};
 
 use crate::streams::fault::WriteFailed;
 
-/// What bytes are written to. Contracts see the bytes that it has taken so far, how many of them it has sent on, and how
-/// many of its calls have failed.
+/// A writer of bytes. Contracts see the bytes that it has taken so far, how many of them it has sent on, and how many
+/// of its calls have failed.
 pub trait Sink {
     /// The bytes that it has taken so far.
     ghost taken: { Self → List ℕ };
 
-    /// How many of them, the first ones, it has sent on. The others wait in it.
+    /// How many of these bytes it has sent on, from the first one. The others wait in it.
     ghost sent: { Self → ℕ };
 
-    /// How many calls have failed.
+    /// The number of failed calls.
     ghost failures: { Self → ℕ };
 
-    /// Takes bytes, and answers how many of them, from the front, it took: of a piece that isn't empty
-    /// at least one.
+    /// Takes bytes from the front of a piece, and returns how many: at least one, if the piece isn't empty.
     fn write(&mut self, bytes: &[u8]) -> Result<usize, WriteFailed>
         ensures within { IfOk result (λ n. n ≤ length bytes.now) }
         ensures bytes { IfOk result (λ n. taken self.new ≡ taken self.old ++ take n bytes.now) }
@@ -26,8 +25,8 @@ pub trait Sink {
         ensures sent { sent self.old ≤ sent self.new }
         ensures cause { failures self.new ≡ failures self.old + failed result };
 
-    /// Sends on what waits, all of it: for a caller that is about to wait for something else, or has written all. It fails
-    /// only where something waits, and then something still does.
+    /// Sends on all bytes that wait. Callers flush before they wait for something else, and after they have written
+    /// all. It fails only if some bytes wait, and then some still do.
     fn flush(&mut self) -> Result<(), WriteFailed>
         ensures taken { taken self.new ≡ taken self.old }
         ensures ok { OnOk result (sent self.new ≡ length (taken self.new)) }
@@ -35,11 +34,11 @@ pub trait Sink {
         ensures sent { sent self.old ≤ sent self.new }
         ensures cause { failures self.new ≡ failures self.old + failed result };
 
-    /// No more was sent on than was taken.
+    /// It has sent on at most the bytes that it has taken.
     ghost within: { (sink : Self) → sent sink ≤ length (taken sink) };
 }
 
-/// Writes bytes, all of them. After an error the sink has taken a beginning of them.
+/// Writes all bytes of a piece. After an error the sink has taken a beginning of them.
 #[inline(always)]
 pub fn write_all<K: Sink>(sink: &mut K, bytes: &[u8]) -> Result<(), WriteFailed>
     ensures ok { OnOk result (K.taken sink.new ≡ K.taken sink.old ++ bytes.now) }

@@ -12,9 +12,8 @@ use crate::streams::source::Source;
 use crate::streams::transcript::Transcript;
 use std::io::{self, Read, Write};
 
-/// A reader of std as a source. It counts the bytes that it gives: a read that would pass
-/// 18446744073709551615 bytes in all is a failed call. It is at its end from the first read on that
-/// finds none.
+/// A reader of std as a source. It counts the bytes that it gives: a read that would pass 18446744073709551615 bytes
+/// in all is a failed call. It has ended from the first read on that finds no byte.
 #[derive(Drop)]
 pub struct ReadSource<R: Read + Drop> {
     reader: R,
@@ -30,7 +29,7 @@ pub struct ReadSource<R: Read + Drop> {
 impl<R: Read + Drop> ReadSource<R> {
     ghost use Rattle.trace.specs.ReadSource.{source_reader, source_given, source_failures, source_ended};
 
-    /// A source that has given nothing yet.
+    /// Returns a source that has given nothing yet.
     pub fn new(reader: R) -> ReadSource<R>
         ensures reader { source_reader result ≡ reader }
         ensures given { source_given result ≡ [] }
@@ -84,7 +83,7 @@ impl<R: Read + Drop> Source for ReadSource<R> {
     }
 }
 
-/// A writer of std as a sink. A write of a piece that isn't empty and takes nothing is a failed call.
+/// A writer of std as a sink. A write fails if it takes nothing of a piece that isn't empty.
 #[derive(Drop)]
 pub struct WriteSink<W: Write + Drop> {
     writer: W,
@@ -94,7 +93,7 @@ pub struct WriteSink<W: Write + Drop> {
 impl<W: Write + Drop> WriteSink<W> {
     ghost use Rattle.trace.specs.WriteSink.{sink_writer, sink_taken, sink_failures};
 
-    /// A sink that has taken nothing yet.
+    /// Returns a sink that has taken nothing yet.
     pub fn new(writer: W) -> WriteSink<W>
         ensures writer { sink_writer result ≡ writer }
         ensures taken { sink_taken result ≡ [] }
@@ -106,14 +105,14 @@ impl<W: Write + Drop> WriteSink<W> {
         }
     }
 
-    /// The writer.
+    /// Returns the writer.
     pub fn get_ref(&self) -> &W
         ensures { result.now ≡ sink_writer self.now }
     {
         &self.writer
     }
 
-    /// The writer.
+    /// Returns the writer.
     pub fn into_inner(self) -> W
         ensures { result ≡ sink_writer self }
     {
@@ -139,7 +138,7 @@ impl<W: Write + Drop> Sink for WriteSink<W> {
         ensures some { IfOk result (λ n. 0 < length bytes.now → 0 < n) }
         ensures sent { length (sink_taken self.old) ≤ length (sink_taken self.new) }
         ensures cause { sink_failures self.new ≡ sink_failures self.old + failed result }
-        // Where the writer shows what it contains, that is what the sink has taken.
+        // If the writer shows its contents, they are the bytes that the sink has taken.
         ensures writer { WriteAppends (W.contents (sink_writer self.old))
             (W.contents (sink_writer self.new)) result bytes.now }
     {

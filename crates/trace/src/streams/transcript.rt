@@ -1,11 +1,11 @@
-//! What went through a reader or a writer, for proofs alone.
+//! The bytes that went through a reader or a writer, for proofs alone.
 ghost use Rattle.std.specs.Prelude.{◌≡◌, ℕ, ◌+◌, List, [], ◌++◌};
 ghost use Rattle.std.specs.Borrow.{ftrue};
 
 use std::marker::{Model, PhantomData};
 
-/// The bytes that went through so far, and how many calls failed. It takes no memory, and its methods
-/// do nothing: only contracts read it.
+/// The bytes that went through so far, and how many calls failed. It takes no memory, and its methods do nothing:
+/// only contracts read it.
 #[derive(Drop)]
 pub struct Transcript {
     marker: PhantomData<u8>,
@@ -18,7 +18,7 @@ impl Model for Transcript {
 }
 
 impl Transcript {
-    /// Nothing went through yet.
+    /// Returns a transcript of nothing.
     pub(crate) fn new() -> Transcript
         ensures { (result.bytes ≡ []) × (result.failures ≡ 0) }
     {
@@ -27,12 +27,12 @@ impl Transcript {
         }
     }
 
-    /// These bytes went through.
+    /// Notes that these bytes went through.
     pub(crate) fn note(&mut self, _bytes: &[u8])
         ensures { (self.new.bytes ≡ self.old.bytes ++ _bytes.now) × (self.new.failures ≡ self.old.failures) }
     {}
 
-    /// A call failed.
+    /// Notes that a call failed.
     pub(crate) fn note_failure(&mut self)
         ensures { (self.new.bytes ≡ self.old.bytes) × (self.new.failures ≡ self.old.failures + 1) }
     {}

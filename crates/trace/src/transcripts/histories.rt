@@ -11,9 +11,9 @@ use graph_heap::Reference;
 /// The outcome of checking a history.
 #[derive(Clone, Copy, Debug, PartialEq, Eq)]
 pub enum Checked {
-    /// Each entry is a step of the graph heap at its place. There are this many.
+    /// Each entry is a step of the graph heap at its place. This is the number of entries.
     Good(u64),
-    /// The entry of this line, counted from 1, is the first that isn't.
+    /// The line with this number, from 1, has the first entry that isn't a step.
     Wrong(u64),
 }
 
@@ -28,7 +28,7 @@ enum Outcome {
     Wrong,
 }
 
-/// Checks one line, and does its entry if that is a step.
+/// Checks one line, and does its entry if it is a step.
 fn check_line(text: TextLine, reference: &mut Reference) -> Result<Outcome, PlayFault>
     ensures { LineChecked (text_in text.entry) reference.old reference.new result }
 {
@@ -48,9 +48,9 @@ fn check_line(text: TextLine, reference: &mut Reference) -> Result<Outcome, Play
     }
 }
 
-/// Plays the entries of a source's lines, where the first line may tell their version, on a graph heap, from where that
-/// stands: to the source's end, or to the first entry that isn't a step, and then no line after it is looked at. The
-/// graph heap is left as it is after the entries before.
+/// Plays the entries of a source's lines on a graph heap, from its present state on, to the source's end or to the
+/// first entry that isn't a step. It looks at no line after that. The first line may tell the version. The graph heap
+/// is left as it is after the entries before the end.
 pub fn check_entries<S: Source>(
     source: &mut S,
     reference: &mut Reference,

@@ -12,7 +12,7 @@ use graph_heap::{Command, NoMemory};
 use size_classes::Config;
 use std::alloc::Global;
 
-/// What a line of scripts says: nothing, or a command and whose it is.
+/// Reads a line of scripts: a skipped line, or a command with its mutator.
 fn script_line(
     version: Version,
     bytes: &[u8],
@@ -48,7 +48,7 @@ fn add(scripts: &mut Vec<Vec<Command>>, mutator: usize, command: Command) -> Res
     Ok(())
 }
 
-/// The scripts that the lines so far are.
+/// The scripts of the lines so far.
 #[derive(Drop)]
 struct Scripts {
     lists: Vec<Vec<Command>>,
@@ -71,7 +71,7 @@ impl LineHandler for Scripts {
     }
 }
 
-/// This many empty scripts.
+/// Returns this many empty scripts.
 fn empty(alloc: Global, mutators: u32) -> Result<Vec<Vec<Command>>, NoMemory>
     ensures lists { IfOk result (λ scripts. lists_in scripts ≡ replicate mutators []) }
     ensures len { IfOk result (λ scripts. vec_len scripts ≡ mutators) }
@@ -83,8 +83,8 @@ fn empty(alloc: Global, mutators: u32) -> Result<Vec<Vec<Command>>, NoMemory>
     Ok(scripts)
 }
 
-/// Reads the scripts that a source's lines are, to its end: the version, which the first line may tell, and
-/// for each mutator its commands, in the order of their lines.
+/// Reads the scripts of a source's lines, to its end: their version, which the first line may tell, and for each
+/// mutator its commands, in the order of their lines.
 pub fn read_scripts<S: Source>(
     alloc: Global,
     source: &mut S,

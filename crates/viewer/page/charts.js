@@ -1,4 +1,4 @@
-// Utilisation over windows, quanta in their order, plans. Nothing is drawn between windows, or plans: there may be less between.
+// Utilisation over windows, quanta in their order, plans. Nothing is drawn between windows or plans: the values there may be lower.
 const said = (x, y, text, anchor = "middle") => `<text x="${x}" y="${y}" text-anchor="${anchor}">${escaped(text)}</text>`;
 /** A frame with a grid: `across` and `up` are lists of [position from 0 to 1, text]. */
 function frame(width, height, across, up, name) {
@@ -30,7 +30,7 @@ function utilisationChart(width, height) {
       <circle cx="${x}" cy="${y}" r="3.2" fill="var(--pages)"/></g>`).join("");
 }
 
-/** Quanta in their order: a bar for each, or where they are many for as many in a row, as high as the longest of these. */
+/** Quanta in their order, with a bar for each. If they are many, a bar stands for several in a row, and shows the longest. */
 function quantaChart(width, height) {
   const most = Math.max(greatest(quanta.budget), 1) * 1.06, count = quanta.units.length;
   const { x, y, back } = frame(width, height, scale(count, width / 90), scale(most, 5), "quanta");

@@ -1,4 +1,4 @@
-// The run's data, and what stands where in it. Nothing here reckons a promise: shares and limits are the program's.
+// The run's data, and the place of each figure. Nothing here calculates a promise: the program gives shares and limits.
 const began = performance.now(), data = JSON.parse(document.getElementById("data").textContent);
 const { settings, run } = data;
 const PHASES = ["roots", "marking", "sweeping", "moving"]; // bits 0 to 3 of the phases
@@ -43,7 +43,7 @@ const blocksOf = size => Math.floor(PAGE_WORDS / size);
 const sampleAt = line => Math.max(0, lastAt(samples.line, line));
 const nextSample = i => i + 1 < samples.line.length ? samples.line[i + 1] : run.lines + 1;
 const phasesText = bits => PHASES.filter((_, i) => bits >> i & 1).join(", ") || "idle";
-/** The last line of a cycle as far as the samples tell: that of its last sample with a phase, before the next cycle. */
+/** The last line of a cycle, by the samples: that of its last sample with a phase, before the next cycle. */
 function cycleEnd(i) {
   const next = cycles.line[i + 1] ?? run.lines + 1;
   let at = sampleAt(cycles.line[i]) + 1;
@@ -57,7 +57,7 @@ function cycleAt(line) {
   return i >= 0 && line <= cycleEnd(i) ? i : -1;
 }
 
-/** What a page is, in words. */
+/** A page, in words. */
 function pageText(page) {
   const size = pages.size[page], blocks = blocksOf(size), mark = MARKS[pages.marks[page]];
   return `Page ${number(page)}: ` + (size ? `blocks of ${many(size, "word")}, ${pages.allocated[page]} of ${blocks} allocated (${

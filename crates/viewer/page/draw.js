@@ -7,7 +7,7 @@ function readColours() {
     + "sweeping moving evacuating target shade-low shade-high shade-ink").split(" ")) ink[name] = style.getPropertyValue("--" + name).trim();
 }
 
-/** The pen of a canvas of so many CSS pixels, cleared, whatever the screen's pixels are. */
+/** Clears a canvas of this size in CSS pixels, and returns its pen. The screen may have more or fewer pixels. */
 function surface(canvas, width, height) {
   const ratio = window.devicePixelRatio || 1;
   canvas.width = Math.round(width * ratio);
@@ -19,13 +19,13 @@ function surface(canvas, width, height) {
   return pen;
 }
 
-/** Text on a canvas. */
+/** Writes text on a canvas. */
 function label(pen, text, x, y, name, align = "left") {
   pen.fillStyle = ink[name];
   pen.textAlign = align;
   pen.fillText(text, x, y);
 }
-/** Steps of values between edges, one edge more than there are values; filled down to the base where there is one. */
+/** Draws values as steps between edges, of which there is one more than values. If there is a base, fills the area down to it. */
 function stepped(pen, edges, values, base) {
   pen.beginPath();
   values.forEach((y, i) => { pen.lineTo(edges[i], y); pen.lineTo(edges[i + 1], y); });
@@ -35,7 +35,7 @@ function stepped(pen, edges, values, base) {
   pen.fill();
 }
 
-/** Round numbers from low to high, about so many: steps of 1, 2, 5, 10 and so on. */
+/** Round numbers from low to high, about as many as asked for: steps of 1, 2, 5, 10 and so on. */
 function steps(low, high, about) {
   const raw = Math.max((high - low) / Math.max(1, about), 1), power = 10 ** Math.floor(Math.log10(raw));
   const step = power * ([1, 2, 5].find(k => k * power >= raw) ?? 10), list = [];
@@ -63,7 +63,7 @@ const table = (heads, rows) => `<thead><tr>${heads.map(head => `<th scope="col">
   rows.map(row => `<tr>${row.map(cell => `<td>${cell}</td>`).join("")}</tr>`).join("")}</tbody>`;
 const press = (id, key, value) => { for (const button of element(id).children) button.ariaPressed = button.dataset[key] === value; };
 
-/** A table that is made when its <details> is opened, and made anew by the function that this answers. */
+/** Makes a table when its <details> is opened. Returns the function that makes it anew. */
 function tableIn(id, heads, rows) {
   const box = element(id), place = box.appendChild(document.createElement("div"));
   place.className = "scroll";
@@ -72,7 +72,7 @@ function tableIn(id, heads, rows) {
   return renew;
 }
 
-/** A picture in SVG, drawn for the width that there is, and anew where that changes. */
+/** Draws a picture in SVG for the width of its box, and draws it anew if the width changes. */
 function chart(id, name, draw, height = 270) {
   const box = element(id);
   let drawn = 0;
@@ -84,7 +84,7 @@ function chart(id, name, draw, height = 270) {
   }).observe(box);
 }
 
-/** The small box beside the pointer. */
+/** Shows the small box beside the pointer. */
 function tip(text, event) {
   const box = element("tip");
   box.hidden = !text;

@@ -1,4 +1,4 @@
-// All views, once; then what changes is drawn again.
+// Makes all views once. Afterwards only changed views are drawn again.
 
 tellOverview();
 tellTexts();

@@ -1,7 +1,7 @@
 // Zooming, moving and the cursor, by pointer and keys.
 
 let drag = {}, queued = null;
-/** Draws again what changed, once for each frame: all, or what goes with the cursor. */
+/** Draws again what changed, once for each frame: everything, or only the views of the cursor. */
 function redraw(all) {
   if (queued) { queued.all ||= all; return; }
   queued = { all };
@@ -43,14 +43,14 @@ const nextCycle = i => { if (i >= 0 && i < cycles.line.length) zoomToCycle(i); }
 
 const keys = {
   ArrowRight: by => by, ArrowLeft: by => -by, ArrowUp: by => by, ArrowDown: by => -by, PageUp: () => 50, PageDown: () => -50,
-  Home: () => -Infinity, End: () => Infinity, // these tell by how many samples the cursor goes
+  Home: () => -Infinity, End: () => Infinity, // these return how many samples the cursor moves
   "+": () => zoom(.6, state.cursor), "=": () => zoom(.6, state.cursor), "-": () => zoom(1 / .6, state.cursor),
   0: showWhole, Escape: () => { state.pinned = false; showWhole(); },
   "]": () => nextCycle(lastAt(cycles.line, state.cursor) + 1), "[": () => nextCycle(lastAt(cycles.line, state.cursor) - 1),
 };
 
 const xOf = (event, box = plot) => clamp(event.clientX - box.getBoundingClientRect().left, left, width);
-/** The wheel zooms, or moves where it goes sideways. Where there is nothing to zoom out of, the page scrolls. */
+/** Zooms by the wheel, or moves if it goes sideways. If the whole run is in view, the page scrolls in place of zooming out. */
 function onWheel(event) {
   if (isWhole() && event.deltaY > 0) return;
   event.preventDefault();

@@ -1,8 +1,8 @@
-// The map of the pages at the end of the run, and what its block sizes have.
+// The map of the pages at the end of the run, and the figures of its block sizes.
 const map = element("map");
 let grid = null, drawn = null;
 
-/** Pages a row, such that all stand within some height, each a square as large as may be. */
+/** Finds how many pages stand in a row, so that all fit in some height and each square is as large as possible. */
 function layOut(width) {
   const margin = width < 560 ? 0 : 44, count = settings.pages;
   let best = null;
@@ -38,7 +38,7 @@ function drawPages() {
     pen.lineWidth = line;
     if (!size || mark) pen.strokeRect(x + line / 2, y + line / 2, inner - line, inner - line);
     if (!(mark & 1) || cell < 8) continue;
-    pen.fillStyle = ink.evacuating; // a corner besides, for who can't tell the colours
+    pen.fillStyle = ink.evacuating; // a corner too, for readers who can't tell the colours apart
     pen.beginPath(); pen.moveTo(x + cell * .55, y); pen.lineTo(x + inner, y); pen.lineTo(x + inner, y + cell * .45); pen.fill();
   }
   pen.strokeStyle = ink.accent;
@@ -49,7 +49,7 @@ function drawPages() {
   tellPages();
 }
 
-/** Of each block size its pages, the blocks allocated, and of how many; in rising order. */
+/** For each block size, in rising order: its pages, the blocks allocated, and the blocks that there are. */
 function bySize() {
   const sizes = new Map();
   pages.size.forEach((size, page) => {

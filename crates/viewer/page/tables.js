@@ -1,4 +1,4 @@
-// Key numbers, cycles, shapes, settings, and the sentences that say in words what each picture shows.
+// Key numbers, cycles, shapes, settings, and the sentences that say what each picture shows.
 
 function tellOverview() {
   element("subtitle").textContent = `${many(settings.pages, "page")} of 16 KB, ${many(settings.mutators, "mutator")}`;
@@ -65,7 +65,7 @@ function tellCycles() {
   markCycle();
 }
 
-/** The row of the cycle at the cursor. */
+/** Marks the row of the cycle at the cursor. */
 function markCycle() {
   document.querySelector("tr.here")?.classList.remove("here");
   document.querySelector(`tr[data-cycle="${cycleAt(state.cursor)}"]`)?.classList.add("here");

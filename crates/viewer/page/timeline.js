@@ -37,7 +37,7 @@ function drawTracks() {
   PHASES.forEach((name, i) => label(pen, name, left - 5, ROWS[3].y + i * 14 + 10, "soft", "right"));
 }
 
-/** A row with its title and its numbers. */
+/** Draws a row with its title and its numbers. */
 function drawRow(pen, row) {
   label(pen, row.title, left, row.y - 9, "text");
   for (const value of steps(0, row.most, row.height / 24)) {
@@ -51,7 +51,7 @@ function drawRow(pen, row) {
   pen.restore();
 }
 
-/** What the marks of the row of words mean. */
+/** Draws the meaning of the marks of the row of words. */
 function drawKey(pen) {
   let x = width;
   for (const [name, text, high] of [["words", "of allocated blocks", 3], ["pages-most", "of pages in use", 9]]) {
@@ -90,7 +90,7 @@ function drawPhases(pen, row) {
   });
 }
 
-/** The cursor, and the part that is being dragged over. */
+/** Draws the cursor, and the part over which it is being dragged. */
 function drawOver() {
   const pen = surface(element("over"), width, bottom + FOOT), x = Math.round(toX(state.cursor)) + .5, i = sampleAt(state.cursor);
   if (x >= left && x <= width) {
@@ -110,7 +110,7 @@ function drawOver() {
   pen.fillRect(drag.from, ROWS[0].y, drag.to - drag.from, bottom - ROWS[0].y + 4);
 }
 
-/** The whole run in small, with a frame around what is in view. */
+/** Draws the whole run in small, with a frame around the part in view. */
 function drawStrip() {
   const pen = surface(strip, width, STRIP), x = line => left + line / (run.lines + 1) * (width - left);
   const [from, to] = state.view.map(x);
@@ -136,7 +136,7 @@ function tellCursor() {
   plot.ariaValueText = list.map(([name, value]) => `${name} ${value}`).join(", ");
 }
 
-/** What happened in the part of the run that is in view. */
+/** Shows the figures of the part of the run that is in view. */
 function tellView() {
   const inside = cycles.line.map((line, i) => i).filter(i => cycles.line[i] >= state.view[0] && cycles.line[i] <= state.view[1]);
   const of = column => number(sum(inside.map(i => column[i] ?? 0)));

@@ -72,20 +72,35 @@ fn put_below_1000(out: &mut [u8], at: usize, n: u64) -> usize
     put_digit(out, next, n % 10)
 }
 
-/// Writes a number, in place if it has up to four digits.
+/// Writes a number of up to four digits.
+#[inline(always)]
+fn put_below_10000(out: &mut [u8], at: usize, n: u64) -> usize
+    requires room { at + 4 ≤ length out.old }
+    requires few { n < 10000 }
+    ensures text { take result out.new ≡ take at out.old ++ decimal n }
+    ensures place { result ≤ at + 4 }
+{
+    if n < 1000 {
+        return put_below_1000(out, at, n);
+    }
+    let next = put_below_1000(out, at, n / 10);
+    put_digit(out, next, n % 10)
+}
+
+/// Writes a number, in place if it has up to five digits.
 #[inline(never)]
 fn put_some_digits(out: &mut [u8], at: usize, n: u64) -> usize
     requires { at + 20 ≤ length out.old }
     ensures text { take result out.new ≡ take at out.old ++ decimal n }
     ensures place { result ≤ at + 20 }
 {
-    if n < 1000 {
-        return put_below_1000(out, at, n);
+    if n < 10000 {
+        return put_below_10000(out, at, n);
     }
-    if n >= 10000 {
+    if n >= 100000 {
         return put_digits(out, at, n);
     }
-    let next = put_below_1000(out, at, n / 10);
+    let next = put_below_10000(out, at, n / 10);
     put_digit(out, next, n % 10)
 }
 

@@ -9,6 +9,34 @@ use crate::streams::sink::Sink;
 /// The most bytes that wait.
 const CAPACITY: usize = 65536;
 
+/// Copies the first `count` bytes of a piece, and its last `count` bytes, which are all of it together.
+#[inline(always)]
+fn copy_ends(out: &mut [u8], bytes: &[u8], count: usize)
+    requires same { length out.old ≡ length bytes.now }
+    requires part { count ≤ length bytes.now }
+    requires whole { length bytes.now ≤ count + count }
+    ensures { out.new ≡ bytes.now }
+{
+    let rest = bytes.len() - count;
+    out[..count].copy_from_slice(&bytes[..count]);
+    out[rest..].copy_from_slice(&bytes[rest..]);
+}
+
+/// Copies a piece of bytes. If it has 2 to 32 bytes, as a line has, it is copied without a call.
+#[inline(always)]
+fn copy(out: &mut [u8], bytes: &[u8])
+    requires { length out.old ≡ length bytes.now }
+    ensures { out.new ≡ bytes.now }
+{
+    match bytes.len() {
+        2..=3 => copy_ends(out, bytes, 2),
+        4..=7 => copy_ends(out, bytes, 4),
+        8..=15 => copy_ends(out, bytes, 8),
+        16..=32 => copy_ends(out, bytes, 16),
+        _ => out.copy_from_slice(bytes),
+    }
+}
+
 /// A sink that gathers the bytes that it takes. It writes them to the sink below in one piece, if it has no room for
 /// more and when it is flushed. At most 65536 bytes wait in it. If it is dropped, the bytes that wait are lost.
 #[derive(Drop)]
@@ -80,7 +108,7 @@ impl<K: Sink + Drop> Sink for BufferedSink<K> {
             self.flush()?;
             count = count.min(CAPACITY - self.end);
         }
-        self.bytes[self.end..self.end + count].copy_from_slice(&bytes[..count]);
+        copy(&mut self.bytes[self.end..self.end + count], &bytes[..count]);
         self.end += count;
         Ok(count)
     }

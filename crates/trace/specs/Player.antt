@@ -6,6 +6,7 @@ use Rattle.graph_heap.specs.declared.command.Entry.{Entry}
 use Rattle.heap_model.specs.declared.phase.Phase.{Phase}
 use Rattle.heap_model.specs.declared.phase.Phase.TheVariants as phases
 use Rattle.heap_model.specs.Event.{Course, Event, IsBudget, Command_done, Cycle_begun, Begin_refused, Quantum_done, Does}
+use Rattle.heap_model.specs.Pages.{free_pages}
 use Rattle.quanta.specs.declared.schedule.TheConstants.{CLOCK_LIMIT}
 use Rattle.quanta.specs.Timetable.{Timetable, first_due, due_below, with_reserved}
 use Rattle.trace.specs.declared.line.Line.{Line}
@@ -52,7 +53,11 @@ placed due t = record t {
 
 -- the start of a quantum that takes ticks
 abbrev pub start_of : PlayerState → QuantumStart
-start_of p = record { phase = name_of p.course.heap.phase; opens_cycle = p.begun }
+start_of p = record {
+  phase = name_of p.course.heap.phase;
+  opens_cycle = p.begun;
+  free_pages = free_pages p.course.heap.store.pages;
+}
 
 -- the player after a quantum with its interval
 abbrev pub after_quantum : PlayerState → ℕ → Phase → Course → PlayerState

@@ -224,9 +224,11 @@ impl Player {
             return Ok(false);
         };
         self.schedule.reserve()?;
+        let heap = self.recorded.heap();
         self.starts.push(QuantumStart {
-            phase: PhaseName::of(self.recorded.heap().phase()),
+            phase: PhaseName::of(heap.phase()),
             opens_cycle: self.begun,
+            free_pages: heap.free_pages(),
         })?;
         self.begun = false;
         self.schedule.place();

@@ -36,4 +36,6 @@ pub struct QuantumStart {
     pub phase: PhaseName,
     /// Whether it is the first one that took ticks since a cycle began.
     pub opens_cycle: bool,
+    /// How many pages were free.
+    pub free_pages: usize,
 }

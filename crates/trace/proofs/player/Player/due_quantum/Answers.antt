@@ -1,4 +1,5 @@
-use Rattle.std.proofs.Common.{[], ◌∷◌, ◌++◌, ap, ◌∙◌, subst, refl, Ok, true}
+use Rattle.std.proofs.Common.{[], ◌∷◌, ◌++◌, ap, ap₂, ◌∙◌, subst, refl, Ok, true}
+use Rattle.heap_model.specs.Pages.{free_pages}
 use Rattle.heap_model.specs.State.{HeapState}
 use Rattle.quanta.specs.Timetable.{Timetable, with_reserved}
 use Rattle.trace.specs.Observing.{observed, SeesDue}
@@ -28,8 +29,9 @@ returns-clause-done g c =
     let p = player_of c.self.inside in
     let f = c.in-Some.ensures.found in
     let e = due_placed c.self.inside.schedule c.reserve.new.self c.place.new.self c.in-Some._due c.reserve.ensures.kept f.0 c.place.ensures.placed in
-    let name = c.of.ensures ∙ ap name_of (c.phase.ensures.phase ∙ ap (λ (h : HeapState). h.phase) c.heap.ensures.heap) in
-    let more = c.in_ok-push.ensures.items ∙ ap (λ n. p.starts ++ (record { phase = n; opens_cycle = p.begun }) ∷ []) name in
+    let name = c.of.ensures ∙ ap name_of (c.phase.ensures.phase ∙ ap (λ (h : HeapState). h.phase) c.heap-heap.ensures.heap) in
+    let free = c.free_pages.ensures.free ∙ ap (λ (h : HeapState). free_pages h.store.pages) c.heap-heap.ensures.heap in
+    let more = c.in_ok-push.ensures.items ∙ ap₂ (λ n pages. p.starts ++ (record { phase = n; opens_cycle = p.begun; free_pages = pages }) ∷ []) name free in
     subst (λ (x : PlayerState). DueDone c.args.until x c.quantum.new.self (Ok true)) c.self.view_is
     (due_done p c.quantum.new.self c.args.until c.in-Some._due (with_reserved c.place.new.self 0) c.push.new.self.items f.0 f.1 e more c.quantum.ensures.spent)
 

@@ -127,8 +127,9 @@ typedef struct metronome_pacing {
  * To find a program's own numbers, record a run (metronome_record.h) with settings whose collector_ticks * rate is the
  * budget. `metronome pages --pace` prints Q, and for each size L, B and the blocks that were made between two cycles.
  * It also prints whether the pages suffice. If it prints that they do, they suffice for every run at this pace: that
- * is proved of the heap. It is not proved that a program keeps to the pace. A program does if it calls this before
- * each new object, and if no more of its objects are live than in the recorded run.
+ * is proved of the heap. It is not proved that a program keeps to the pace. A program keeps to it if it calls this
+ * before each new object, makes objects of the recorded sizes in the recorded shares, and of each size has no more
+ * objects live, and makes no more between two cycles, than in the recorded run.
  *
  * Returns OK, or one of these:
  *   * BAD_BUDGET: pacing->words is 0, or a quantum is due and its budget isn't 256 to 1000000.

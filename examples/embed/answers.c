@@ -1,13 +1,13 @@
 /*
- * What each function answers where nothing refuses it, with numbers that were worked out by hand, what it is told of a handle
- * that holds no heap, and texts. Two mutators, of which the first is live, with four slots each, and a static.
+ * The answer of each function if nothing refuses it, with numbers that were worked out by hand; its answer on a handle that
+ * holds no heap; and the texts. There are two mutators with four slots each, of which the first is live, and a static.
  */
 #include "metronome.h"
 #include "checks.h"
 #include <stdio.h>
 #include <string.h>
 
-/* A call on the heap h has this answer. */
+/* Checks that a call on the heap h has this answer. */
 #define ANSWERS(expected_kind, expected_number, name, ...) \
     do { \
         metronome_answer answer = metronome_##name(&h, __VA_ARGS__); \
@@ -113,14 +113,14 @@ static void sizes_are_tested(void) {
     metronome_destroy(&h);
 }
 
-/* A quantum of 256 units spends this. */
+/* Checks that a quantum of 256 units spends this many units, and ends in this phase. */
 static void spends(metronome *heap, uint32_t units, uint32_t phase) {
     metronome_spent spent = { 7, 7 };
     IS(METRONOME_OK, metronome_quantum(heap, 256, &spent));
     check(spent.units == units && spent.phase == phase, __LINE__);
 }
 
-/* The last cycle that ended is told so. */
+/* Checks the figures of the last cycle that ended. */
 static void tells(metronome *heap, metronome_cycle wanted, int line) {
     metronome_cycle told;
     memset(&told, 7, sizeof told);
@@ -151,7 +151,8 @@ static void a_cycle_frees_what_is_dropped(void) {
     metronome_destroy(&h);
 }
 
-/* A cycle in quanta of 256 units, as these tell of it; until it ends the one before it is told. */
+/* Does a cycle in quanta of 256 units, and returns its figures as they were counted here. Until it ends, the figures are those
+   of the cycle before. */
 static metronome_cycle cycle_behind(metronome_cycle before, metronome *heap) {
     metronome_cycle seen = { before.number + 1, 0, 0, 0, 0, 0 };
     metronome_spent spent = { 0, METRONOME_ROOTS };
@@ -168,7 +169,8 @@ static metronome_cycle cycle_behind(metronome_cycle before, metronome *heap) {
     return seen;
 }
 
-/* Each cycle is told once it has ended, whatever comes before the next one ends: a quantum, or other objects. */
+/* The figures of a cycle are those of the last one that ended, whatever comes before the next one ends: a quantum, or new
+   objects. */
 static void cycles_are_told(void) {
     metronome_settings settings = small();
     settings.pages = 4;
@@ -237,7 +239,7 @@ static void objects_are_counted(void) {
     metronome_destroy(&h);
 }
 
-/* Each setting out of its range, with the place that tells it, in the order of the settings. */
+/* Each setting out of its range is refused with its own status, in the order of the settings. */
 static void settings_are_refused_in_turn(void) {
     static const int64_t faulty[] = { 1048577, 65, 257, 257, 0, 1048578, 1048577, 1000001, 1000001, 1000001, 3 };
     metronome h = METRONOME_CLOSED;
@@ -249,8 +251,8 @@ static void settings_are_refused_in_turn(void) {
     }
 }
 
-/* More pages than a configuration file may ask for: arrays of 4000000 words, of 1985 pages and more each, fill most of
- * them, and are still there after a cycle with moving. */
+/* A heap may have more pages than a configuration file may ask for. Arrays of 4000000 words, of 1985 pages and more each, fill
+ * most of them, and are still there after a cycle with moving. */
 static void large_heaps_are_made_and_used(void) {
     static const int64_t pages[] = { 4097, 8192 };
     for (size_t row = 0; row < sizeof pages / sizeof *pages; row++) {

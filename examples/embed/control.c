@@ -1,11 +1,11 @@
 /*
- * control [PERIODS [PERIOD [FILE]]]: a control loop of a stated period in microseconds, 1000 if not said, over a heap that
- * keeps a plan. In each period it makes objects, each in the place of an older one. The collector works before a new object,
+ * control [PERIODS [PERIOD [FILE]]]: a control loop over a heap that keeps a plan, with a period in microseconds (1000 by
+ * default). In each period it makes objects, each in the place of an older one. The collector works before a new object,
  * as much as the plan requires.
  *
  * It prints how long it took to wake up and to work, and by how much it missed a period. FILE gets a line for each period,
- * with both times in nanoseconds: `bench/embed/loop` makes a picture of these. No time is promised. The units of a quantum
- * are, and that no object is refused for lack of space. The process locks its memory and asks for SCHED_FIFO where it may.
+ * with both times in nanoseconds: `bench/embed/loop` draws them. No time is promised. The units of a quantum are promised,
+ * and so is that no object is refused for lack of space. The process locks its memory and takes SCHED_FIFO if it may.
  *
  * Built with -DLIBGC=1 the same loop runs on libgc; with -DLIBGC=2 on libgc in its incremental mode.
  */
@@ -72,7 +72,7 @@ static const char *const MEMORY = "this heap";
 /* slots: the array of all cells, and one of them */
 enum { CELLS, CELL, SLOTS };
 
-/* LIVE_WORDS is what the plan is for. A cell of the loop takes at most 8 words, 9 / 8 of its contents and its header. The array
+/* The plan is for LIVE_WORDS. A cell of the loop takes at most 8 words, 9 / 8 of its contents and its header. The array
  * takes fewer than 23000. */
 enum { PAGES = 512, LIVE_WORDS = 8 * LIVE + 25000 };
 
@@ -130,7 +130,7 @@ static void sleep_until(int64_t time) {
     while (clock_nanosleep(CLOCK_MONOTONIC, TIMER_ABSTIME, &t, NULL) != 0) {}
 }
 
-/* Locks memory and takes a priority, where the process may. */
+/* Locks memory and takes a priority, if the process may. */
 static void be_realtime(void) {
     struct sched_param priority = { .sched_priority = 50 };
     int locked = mlockall(MCL_CURRENT | MCL_FUTURE) == 0;
@@ -138,7 +138,7 @@ static void be_realtime(void) {
     printf("memory locked: %s; SCHED_FIFO: %s\n", locked ? "yes" : "no", first ? "yes" : "no");
 }
 
-/* The loop. By how much it missed periods is told, by the end of the work. */
+/* Runs the loop. A period is missed by the time from its end to the end of the work. */
 static void run(uint32_t periods, int64_t period) {
     int64_t due = now() + period, longest_miss = 0;
     uint32_t missed = 0;
@@ -162,14 +162,14 @@ static void run(uint32_t periods, int64_t period) {
     printf("periods missed: %u, by %.1f us at most\n", missed, (double)longest_miss / 1e3);
 }
 
-/* ---- What is told ---- */
+/* ---- Output ---- */
 
 static int is_less(const void *a, const void *b) {
     int64_t x = *(const int64_t *)a, y = *(const int64_t *)b;
     return (x > y) - (x < y);
 }
 
-/* Tells the distribution of each time, and leaves the times in order. */
+/* Prints the distribution of each time, and leaves the times sorted. */
 static void print_times(uint32_t periods) {
     printf("| %s | median us | 99 of 100 us | 999 of 1000 us | longest us |\n|---|---|---|---|---|\n", MEMORY);
     for (int what = 0; what < TIMES; what++) {

@@ -1,5 +1,5 @@
 /*
- * What the header has over the calls: frames of slots, whole cycles, and a pace at which no object is refused.
+ * The header's functions over the calls: frames of slots, whole cycles, and a pace at which no object is refused.
  */
 #include "metronome.h"
 #include "checks.h"
@@ -21,7 +21,8 @@ static int make(uint32_t slot, uint64_t word) {
         && metronome_put(&heap, 0, slot, 0, word).kind == METRONOME_DONE;
 }
 
-/* Frames nest; a full row refuses and stays; a frame that is closed leaves null in its slots, and the others as they are. */
+/* Frames nest. A row that is full refuses a frame, and stays as it is. Closing a frame sets its slots to null, and leaves all
+   others. */
 static void check_frames(void) {
     metronome_row row = METRONOME_ROW(0, 2, OF_FRAMES);
     uint32_t first = 0, second = 0, third = 0, none = 7;
@@ -46,7 +47,8 @@ static void check_frames(void) {
     CHECK(metronome_get(&heap, 0, 0, 0).number == 10 && metronome_get(&heap, 0, 6, 0).number == 16);
 }
 
-/* A frame of a mutator that isn't live, of a row that the heap hasn't, and of a closed handle: the slots stay taken. */
+/* A frame is refused for a mutator that isn't live, for a row that the heap doesn't have, and for a closed handle: the slots
+   stay taken. */
 static void check_refused_frames(void) {
     metronome closed = METRONOME_CLOSED;
     metronome_row rows[] = { METRONOME_ROW(1, 0, 2), METRONOME_ROW(2, 0, 2), METRONOME_ROW(0, SLOTS, SLOTS + 1) };
@@ -61,7 +63,7 @@ static void check_refused_frames(void) {
     IS(METRONOME_OK, metronome_close_frame(&closed, &rows[0], 1));
 }
 
-/* A full heap has room again after a whole cycle, also where one is on. */
+/* A full heap has room again after a whole cycle, even if a cycle is already running. */
 static void check_whole_cycle(void) {
     metronome closed = METRONOME_CLOSED;
     for (int on = 0; on < 2; on++) {
@@ -79,7 +81,8 @@ static void check_whole_cycle(void) {
     IS(METRONOME_OK, metronome_whole_cycle(&heap, BUDGET));
 }
 
-/* A whole cycle frees the pages that moving emptied, also if a cycle is running: three objects of 24 live, one on each page. */
+/* A whole cycle frees the pages that moving emptied, even if a cycle is already running: three objects of 24 are live, one on
+   each page. */
 static void check_whole_cycle_that_moves(void) {
     metronome moving = METRONOME_CLOSED;
     metronome_settings settings = METRONOME_SETTINGS(4, 1, 64);
@@ -97,7 +100,7 @@ static void check_whole_cycle_that_moves(void) {
     metronome_destroy(&moving);
 }
 
-/* The numbers that the header gives, with less than half of the pages live: a million cells, and none is refused. */
+/* With the numbers that the header gives, and less than half of the pages live, none of a million cells is refused. */
 static void check_refusals(void) {
     metronome_pacing pacing = METRONOME_PACING(PAGES, (BUDGET - 255) / 20, BUDGET);
     uint64_t refused = 0;
@@ -110,7 +113,7 @@ static void check_refusals(void) {
     IS(METRONOME_OK, metronome_whole_cycle(&heap, BUDGET));
 }
 
-/* A pace begins a cycle just where too few pages are free, and owes a quantum for each so many words. */
+/* A pace begins a cycle exactly if too few pages are free, and owes a quantum each time its number of words was made. */
 static void check_pace(void) {
     metronome closed = METRONOME_CLOSED;
     metronome_pacing never = METRONOME_PACING(0, 10, 256), always = METRONOME_PACING(PAGES + 1, 10, 256);

@@ -1,8 +1,8 @@
 /*
- * Drawn programs on heaps that keep a plan: none of their objects is refused, on exactly the fewest pages on which there is a plan
- * for what they keep live, nor on twice as many. Each fills what it may keep live with objects of about one size, drops most of
- * them, so that pages are left sparse, and goes on with another size; among them are arrays of several parts, and chains. A third
- * of them begin cycles and spend quanta of their own besides.
+ * Random programs on heaps that keep a plan. None of their objects is refused, neither on the fewest pages on which there is a
+ * plan for their live words, nor on twice as many. Each program fills its live words with objects of about one size, drops
+ * most of them, so that pages are left sparse, and goes on with another size. Some objects are arrays of several parts, and
+ * some form chains. A third of the programs also begin cycles and spend quanta of their own.
  */
 #include "metronome.h"
 #include <stdio.h>
@@ -20,7 +20,7 @@ static void check(int holds, const char *what, uint64_t seed) {
     }
 }
 
-/* A program: what it drew last, its heap and its plan; and the words that each slot but 0 keeps live, and all of them. */
+/* A program: its last random number, its heap and its plan; the words that each slot except 0 keeps live, and their sum. */
 struct program {
     uint64_t drawn;
     metronome heap;
@@ -29,7 +29,7 @@ struct program {
     uint64_t live;
 };
 
-/* The next drawn number below a bound (xorshift, as Marsaglia has it). */
+/* Returns the next random number below a bound (xorshift, as Marsaglia gives it). */
 static uint64_t draw(struct program *p, uint64_t below) {
     p->drawn ^= p->drawn << 13;
     p->drawn ^= p->drawn >> 7;
@@ -37,15 +37,15 @@ static uint64_t draw(struct program *p, uint64_t below) {
     return p->drawn % below;
 }
 
-/* The words of a block for a part of so many cells: the least size of a class that is large enough. */
+/* Returns the words of a block for a part of `cells` cells: the least size of a class that is large enough. */
 static uint64_t block(uint64_t cells) {
     uint64_t size = 4;
     while (size < cells + HEADER) size += size / 8 > 1 ? size / 8 : 1;
     return size < 256 ? size : 256;
 }
 
-/* The words of all blocks of an object of so many cells, at most 252 * 252: of its pieces, and of a spine that refers to these
- * where they are more than one. */
+/* Returns the words of all blocks of an object of `cells` cells, at most 252 * 252: those of its pieces, and if these are more
+ * than one, of a spine that refers to them. */
 static uint64_t blocks(uint64_t cells) {
     if (cells <= PIECE) return block(cells);
     const uint64_t pieces = (cells + PIECE - 1) / PIECE;
@@ -58,7 +58,7 @@ static void drop(struct program *p, uint32_t slot) {
     p->kept[slot] = 0;
 }
 
-/* Drops what three of four slots hold, until there is room for so many words more. */
+/* Drops the objects of three of four slots, until there is room for this many more words. */
 static void make_room(struct program *p, uint64_t words) {
     while (p->live + words > p->flow.live_words) {
         for (uint32_t slot = 1; slot < SLOTS; slot++) {
@@ -67,7 +67,8 @@ static void make_room(struct program *p, uint64_t words) {
     }
 }
 
-/* An object of so many cells into a slot: it refers to what was there, or that is dropped. Answers whether it was made. */
+/* Makes an object of this many cells in a slot. It refers to the slot's object before, or that object is dropped. Returns
+   whether it was made. */
 static bool is_made(struct program *p, uint32_t cells, uint32_t slot, bool chained) {
     metronome_answer answer;
     if (!chained) drop(p, slot);
@@ -86,22 +87,23 @@ static bool is_made(struct program *p, uint32_t cells, uint32_t slot, bool chain
     return answer.kind == METRONOME_MADE;
 }
 
-/* A number of cells whose blocks the plan and what may be live have room for: one of ten is above a piece, where that is so. */
+/* Returns a number of cells for whose blocks the plan and the live words have room. One of ten is above a piece, if there is
+   room for it. */
 static uint32_t draw_cells(struct program *p) {
     uint64_t cells = draw(p, 10) > 0 ? 1 + draw(p, PIECE) : 1 + draw(p, 20 * PIECE);
     while (blocks(cells) > p->flow.cycle_words || blocks(cells) > p->flow.live_words) cells = (cells + 1) / 2;
     return (uint32_t)cells;
 }
 
-/* A program works besides what its plan wants. */
+/* Does work that the plan doesn't ask for. */
 static void work_besides(struct program *p) {
     metronome_spent spent;
     if (draw(p, 50) == 0) metronome_begin(&p->heap);
     if (draw(p, 20) == 0) metronome_quantum(&p->heap, 256 + (uint32_t)draw(p, 5000), &spent);
 }
 
-/* Whether each object of a program is made, and its figures say that the collector worked for it; of a program that works besides
- * they may say that it never had to. */
+/* Checks that each object of a program is made, and that the figures say that the collector worked for it. If a program works
+ * on its own, they may say that the collector never had to. */
 static bool runs(struct program *p, bool besides) {
     metronome_work work = { 0, 0, 0 };
     uint32_t cells = 1;
@@ -115,7 +117,7 @@ static bool runs(struct program *p, bool besides) {
         && work.quanta >= work.most_quanta;
 }
 
-/* A program of a seed, on some times as many pages as it needs. */
+/* Plays a program of a seed, on `times` times as many pages as it needs. */
 static void run(uint64_t seed, int64_t times) {
     struct program p = { seed * 0x9E3779B97F4A7C15u + 1, METRONOME_CLOSED, { 0, 0, 0, 0, 0 }, { 0 }, 0 };
     metronome_settings settings = METRONOME_SETTINGS_MOVING(1, 1, SLOTS);

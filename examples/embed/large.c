@@ -1,7 +1,7 @@
 /*
- * Large heaps: the same drawn calls on 4096, 65536 and 1048576 pages get the same answers, in cycles that move and in such that
- * don't; a heap takes memory for the pages that it used alone, and for a record of each page, also where forty million objects are
- * made; 256 MB of live objects are as they were made after cycles; a page more than the most is refused.
+ * Large heaps. The same random calls on 4096, 65536 and 1048576 pages get the same answers, in cycles with and without moving.
+ * A heap takes memory only for the pages that it used, and for a record of each page, even after forty million objects. 256 MB
+ * of live objects are as they were made after cycles. One page more than the most is refused.
  */
 #define _GNU_SOURCE
 #include "metronome.h"
@@ -12,7 +12,7 @@
 
 enum { SLOTS = 64, CALLS = 200000, BUDGET = 2000, MOST = 1048576, MOVED = 64, KILOBYTES = 64000, LIVE = 131072, LARGEST = 252 };
 
-/* Of forty million objects each thousandth is kept; a cycle begins at each two millionth, and a quantum is spent at each 64th. */
+/* Each thousandth of forty million objects is kept; a cycle begins at each two millionth, and a quantum is spent at each 64th. */
 enum { MADE = 40000000, KEPT = 1000, BETWEEN = 2000000, STEP = 64 };
 
 static const int64_t PAGES[] = { 4096, 65536, MOST };
@@ -26,13 +26,13 @@ static metronome opened(int64_t pages, int64_t moved) {
     return heap;
 }
 
-/* A number below `most`, drawn from a state (the generator of Knuth's MMIX). */
+/* Returns a number below `most`, drawn from a state (the generator of Knuth's MMIX). */
 static uint32_t drawn(uint64_t *state, uint32_t most) {
     *state = *state * 6364136223846793005u + 1442695040888963407u;
     return (uint32_t)(*state >> 33) % most;
 }
 
-/* A call that a state draws: its answer, in one number. */
+/* Makes a call that a state draws. Returns its answer, in one number. */
 static uint64_t call(metronome *heap, uint64_t *state) {
     uint32_t kind = drawn(state, 12), slot = drawn(state, SLOTS), other = drawn(state, SLOTS), cell = drawn(state, 40);
     metronome_answer answer;
@@ -50,7 +50,8 @@ static uint64_t call(metronome *heap, uint64_t *state) {
     return answer.number * 16 + answer.kind;
 }
 
-/* Drawn calls with cycles beside them: all their answers, in one number, and what is left when a cycle has ended after them. */
+/* Makes random calls, and cycles beside them. Returns all their answers in one number, with the objects left when a cycle has
+   ended after them. */
 static uint64_t answers_of(int64_t pages, int64_t moved, metronome_counts *counts) {
     metronome heap = opened(pages, moved);
     uint64_t state = 20261127, sum = 0;
@@ -75,7 +76,7 @@ static void answers_are_the_same(int64_t moved) {
     }
 }
 
-/* A thousand objects on the largest heap, before any other heap was made. */
+/* Makes a thousand objects on the largest heap, before any other heap was made. */
 static void memory_is_that_of_used_pages(void) {
     struct rusage usage;
     metronome heap = opened(MOST, 0);
@@ -84,7 +85,7 @@ static void memory_is_that_of_used_pages(void) {
     metronome_destroy(&heap);
 }
 
-/* What was kept of the many objects, by an array in slot 0: how many aren't as they were made. */
+/* Returns how many of the kept objects, which an array in slot 0 holds, aren't as they were made. */
 static uint32_t wrong_of_kept(metronome *heap) {
     uint32_t wrong = 0;
     for (uint32_t i = 0; i < MADE / KEPT; i++) {
@@ -94,8 +95,8 @@ static uint32_t wrong_of_kept(metronome *heap) {
     return wrong;
 }
 
-/* Forty million objects on 65536 pages, before any heap used more pages: none is refused, those that are kept stay as they are, and
- * the process took no more memory than the most pages that were in use at once. */
+/* Makes forty million objects on 65536 pages, before any heap used more pages. None is refused, the kept ones stay as they
+ * are, and the process took memory only for the most pages that were in use at once. */
 static void many_are_made(void) {
     metronome heap = opened(PAGES[1], 0);
     uint64_t free_pages = 0, least = PAGES[1];
@@ -126,7 +127,7 @@ static void many_are_made(void) {
     metronome_destroy(&heap);
 }
 
-/* Objects of 2 KB, to each of which an array leads, through two cycles. */
+/* Takes objects of 2 KB, to each of which an array leads, through two cycles. */
 static void much_is_live(void) {
     metronome heap = opened(PAGES[1], 0);
     metronome_counts counts;

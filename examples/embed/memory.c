@@ -1,7 +1,7 @@
 /*
- * What the library asks of malloc: all at metronome_create, nothing later; of a heap that threads share, all where a seat is made.
- * Each request refused in turn: the handle stays closed, and nothing is lost. Linked with --wrap=malloc, --wrap=realloc and
- * --wrap=free.
+ * The library's requests to malloc. It makes all of them in metronome_create, and none later; for a heap that threads share,
+ * it makes all of them when a seat is made. Each request is refused in turn: the handle stays closed, and no memory is lost.
+ * Linked with --wrap=malloc, --wrap=realloc and --wrap=free.
  */
 #include "metronome_shared.h"
 #include <stdio.h>
@@ -49,7 +49,7 @@ static void check(int holds, const char *what) {
     }
 }
 
-/* Each status has the text that its number in the header means. */
+/* Each status has the text of its number in the header. */
 static void check_texts(void) {
     static const struct {
         uint32_t status;
@@ -96,7 +96,7 @@ static void check_texts(void) {
     }
 }
 
-/* Makes objects and drops them through some cycles, and moves blocks: nothing is asked of malloc. */
+/* Making and dropping objects through some cycles, with moving, asks malloc for nothing. */
 static void check_use(metronome *heap) {
     long before = requests;
     metronome_spent spent;
@@ -113,7 +113,7 @@ static void check_use(metronome *heap) {
     check(phases >> METRONOME_MOVING == 1, "blocks were moved");
 }
 
-/* A large heap, with all the roots that there may be, is made and given back. */
+/* A large heap with the most roots is made, and given back. */
 static void check_large(void) {
     metronome heap = METRONOME_CLOSED;
     metronome_settings settings = METRONOME_SETTINGS(8192, 64, 256);
@@ -124,7 +124,7 @@ static void check_large(void) {
     check(held == stood, "all of a large heap is given back");
 }
 
-/* A turn of a seat, with quanta, asks for nothing. */
+/* A turn of a seat, with quanta, asks malloc for nothing. */
 static void check_turn(metronome_seat *seat, uint32_t mutator) {
     long before = requests;
     metronome_spent spent;
@@ -138,7 +138,7 @@ static void check_turn(metronome_seat *seat, uint32_t mutator) {
     check(metronome_seat_leave(seat) == METRONOME_OK && requests == before, "nothing is asked of malloc in a turn");
 }
 
-/* Two seats at a heap, with the request of this number refused, if there are as many. Answers whether there are. */
+/* Makes two seats at a heap, with the request of this number refused, if there are as many. Returns whether there are. */
 static int is_met(long number, const metronome_settings *settings) {
     metronome_seat seat = METRONOME_NO_SEAT, other = METRONOME_NO_SEAT;
     long stood = held;

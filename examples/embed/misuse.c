@@ -1,14 +1,14 @@
 /*
- * Calls in the wrong order, and on what is no handle: each is told, and changes nothing. A handle of bytes that nothing set comes
- * first, then one that is closed, one that is open twice over, and one that is gone. Its pages and the limit of a cycle are looked
- * at too, as a program does that asks before it makes a heap.
+ * Calls in the wrong order, and on handles that are none: each is refused with its status, and changes nothing. The handle is
+ * first one that was never set, then a closed one, one that is opened twice, and one that is gone. The pages and the limit of
+ * a cycle are also checked, as a program does before it makes a heap.
  */
 #include "metronome.h"
 #include "checks.h"
 #include <stdio.h>
 #include <string.h>
 
-/* What a call tells through its pointers, all bytes 7. */
+/* The results that a call writes through its pointers; at first all bytes are 7. */
 struct told {
     metronome_shape shape;
     metronome_spent spent;
@@ -21,12 +21,12 @@ struct told {
     uint32_t phase;
 };
 
-/* Whether an answer is refused with a status. */
+/* Returns whether an answer is refused with a status. */
 static bool is_refused(metronome_answer answer, uint32_t status) {
     return answer.kind == METRONOME_REFUSED && answer.number == status;
 }
 
-/* How many of the 18 commands are refused with a status. */
+/* Returns how many of the 18 commands are refused with a status. */
 static int refused_commands(metronome *h, uint32_t status, struct told *told) {
     const metronome_answer answers[] = {
         metronome_new_plain(h, 0, 0, 1, 1),        metronome_new_refs(h, 0, 0, 1),        metronome_new_words(h, 0, 0, 1),
@@ -41,7 +41,7 @@ static int refused_commands(metronome *h, uint32_t status, struct told *told) {
     return refused;
 }
 
-/* How many of the other calls tell a status: they are 14. */
+/* Returns how many of the other 14 calls return a status. */
 static int refused_calls(metronome *h, uint32_t status, struct told *told) {
     metronome_pacing pacing = METRONOME_PACING(1, 1, 256);
     metronome_row row = METRONOME_ROW(0, 1, 2);
@@ -56,7 +56,7 @@ static int refused_calls(metronome *h, uint32_t status, struct told *told) {
            && metronome_close_frame(h, &row, 0) == status);
 }
 
-/* Every call on a handle that holds no heap tells a status, and nothing else; the handle stays as it was. */
+/* Each call on a handle that holds no heap returns a status, and nothing else; the handle stays as it was. */
 static void nothing_is_done(metronome *h, uint32_t status) {
     metronome before;
     struct told told, stood;
@@ -70,7 +70,7 @@ static void nothing_is_done(metronome *h, uint32_t status) {
     check(memcmp(&before, h, sizeof before) == 0, __LINE__);
 }
 
-/* What was never set isn't taken for a handle, whatever single byte fills it. */
+/* A handle that was never set isn't taken for an open one, whatever single byte fills it. */
 static void what_was_never_set_is_told(const metronome_settings *settings) {
     for (int byte = 1; byte < 256; byte++) {
         metronome h;
@@ -80,7 +80,7 @@ static void what_was_never_set_is_told(const metronome_settings *settings) {
     }
 }
 
-/* A program of another version is told so, whatever it gives as a handle, and nothing is made. */
+/* A program of another version gets that status, whatever its handle is, and nothing is made. */
 static void another_version_is_told(const metronome_settings *settings) {
     metronome h = METRONOME_CLOSED, never_set;
     memset(&never_set, 0xA5, sizeof never_set);
@@ -109,7 +109,7 @@ static void a_handle_has_one_heap(const metronome_settings *settings) {
     metronome_destroy(&moved);
 }
 
-/* Calls of a mutator and of the collector, before and after those that they need. */
+/* Calls of a mutator and of the collector are made before and after the calls that they need. */
 static void calls_come_out_of_order(const metronome_settings *settings) {
     metronome h = METRONOME_CLOSED;
     metronome_spent spent = { 7, 7 };
@@ -127,7 +127,7 @@ static void calls_come_out_of_order(const metronome_settings *settings) {
     IS(METRONOME_NO_HEAP, metronome_quantum(&h, 256, &spent));
 }
 
-/* A text of no length may go nowhere. */
+/* A text of no length may be NULL. */
 static void texts_may_go_nowhere(void) {
     check(metronome_text(METRONOME_NO_SPACE, NULL, 0) == 8, __LINE__);
     char text[9] = "7777777";
@@ -141,7 +141,7 @@ static bool is_page(metronome *h, size_t number, uint32_t size, uint32_t held) {
         && page.receiving == 0;
 }
 
-/* A header takes 4 words of a block, and a cell one. A page that there isn't is told as a free one is. */
+/* A header takes 4 words of a block, and a cell one. A page that doesn't exist is reported as a free one. */
 static void pages_are_told(const metronome_settings *settings) {
     metronome h = METRONOME_CLOSED;
     IS(METRONOME_OK, metronome_create(&h, settings));
@@ -154,8 +154,8 @@ static void pages_are_told(const metronome_settings *settings) {
     metronome_destroy(&h);
 }
 
-/* 1 static and 8 slots, 3 * 2048 words of each of 2 pages, 38 looks at each, and 4: 12377 units. Of a quantum of 1000 units no
- * more than 255 are left, so that 745 go into each but the last. */
+/* 1 static and 8 slots, 3 * 2048 words of each of 2 pages, 38 looks at each, and 4 make 12377 units. A quantum of 1000 units
+ * leaves at most 255, so each spends at least 745, except the last. */
 static void cycles_keep_to_their_limit(metronome_settings settings) {
     metronome h = METRONOME_CLOSED;
     metronome_limit limit = { 7, 7 };
@@ -177,7 +177,7 @@ static void cycles_keep_to_their_limit(metronome_settings settings) {
     check(limit.units == 7 && limit.quanta == 7, __LINE__);
 }
 
-/* A plan is told where one fits, and on too few pages how many it takes. */
+/* If a plan fits, it is returned; if the pages are too few, the number that it takes is. */
 static void plans_are_told(void) {
     metronome_settings settings = METRONOME_SETTINGS_MOVING(200, 1, 8);
     metronome_flow flow = { 7, 7, 7, 7, 7 };
@@ -202,7 +202,8 @@ static void plans_are_told(void) {
     check(flow.least_pages == 0 && flow.budget == 256, __LINE__);
 }
 
-/* Only an unused heap of the plan's settings keeps it: a new one, whose pages may be touched, and whose mutators may join. */
+/* Only an unused heap of the plan's settings keeps it. The heap must be new, but its pages may be touched, and mutators may
+   have joined. */
 static void plans_are_kept_by_new_heaps(void) {
     metronome_settings settings = METRONOME_SETTINGS_MOVING(200, 2, 8);
     metronome h = METRONOME_CLOSED;

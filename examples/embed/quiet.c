@@ -241,7 +241,7 @@ static void read_lines(const struct scene *it, FILE *file, char *call, int size)
     }
 }
 
-/* Plays a scene in a child, and checks that the child came to its end, or was killed if it must be. */
+/* Plays a scene in a child. Checks that the child ended by itself, or that it was killed if it must be. */
 static void watch(const struct scene *it) {
     int ends[2], status = 0;
     char call[256] = "\n";

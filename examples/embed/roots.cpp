@@ -1,5 +1,5 @@
-// The classes of metronome.hpp, each status that is theirs alone, and what is given back when they go out of scope. Built without
-// exceptions too, and then what throws is left out.
+// The classes of metronome.hpp: each status that only they return, and the things given back when an object goes out of scope.
+// Also built without exceptions: then the tests of throwing functions are left out.
 #include "metronome.hpp"
 #include "checks.h"
 #include <cstdio>
@@ -16,7 +16,7 @@ static std::uint64_t roots_used(Heap &heap) {
     return counts.roots_used;
 }
 
-// A closed heap refuses; one that is open opens once; one that was moved away is closed.
+// A closed heap refuses calls; an open one can't be opened again; one that was moved away is closed.
 static void check_heaps() {
     Heap heap;
     std::optional<Mutator> mutator;
@@ -46,13 +46,13 @@ static void check_heaps() {
     IS(METRONOME_NO_PLAN, heap.try_kept(work));
     IS(METRONOME_OPEN, heap.try_open(SETTINGS));
     Heap moved = std::move(heap);
-    IS(METRONOME_NO_HEAP, heap.try_free_pages(pages)); // NOLINT: what was moved away is closed
+    IS(METRONOME_NO_HEAP, heap.try_free_pages(pages)); // NOLINT: a heap that was moved away is closed
     IS(METRONOME_OK, moved.try_touch(4));
     IS(METRONOME_OK, moved.try_free_pages(pages));
     CHECK(pages == 4);
 }
 
-// A number has one mutator at a time, which leaves when it goes out of scope, and stays where it is when its heap is moved.
+// A number has one mutator at a time. It leaves when it goes out of scope, and stays in its place when its heap is moved.
 static void check_mutators() {
     Heap heap;
     IS(METRONOME_OK, heap.try_open(SETTINGS));
@@ -74,7 +74,7 @@ static void check_mutators() {
     second.reset();
 }
 
-// Slots are roots until they go out of scope, in any order; when all are, there is no further one.
+// Slots are roots until they go out of scope, in any order. If all are roots, there is no further one.
 static void check_slots(Heap &heap, Mutator &mutator) {
     std::optional<Root> roots[4];
     for (int i = 0; i < 3; i++) {
@@ -90,12 +90,12 @@ static void check_slots(Heap &heap, Mutator &mutator) {
     CHECK(is_null && roots_used(heap) == 2);
     Root moved = std::move(*roots[0]);
     std::uint64_t word = 7;
-    IS(METRONOME_BAD_SLOT, roots[0]->try_get(0, word)); // NOLINT: what was moved away has no slot
+    IS(METRONOME_BAD_SLOT, roots[0]->try_get(0, word)); // NOLINT: a root that was moved away has no slot
     IS(METRONOME_OK, moved.try_get(0, word));
     CHECK(word == 0 && roots_used(heap) == 2);
 }
 
-// What each call finds, and that a refused one leaves it.
+// The results of each call. A refused call leaves the variable for its result as it was.
 static void check_calls(Mutator &mutator) {
     std::optional<Root> a, b, c;
     IS(METRONOME_OK, mutator.try_null(a));
@@ -136,7 +136,7 @@ static void check_calls(Mutator &mutator) {
     CHECK(is);
 }
 
-// Calls that do a list of commands: what they tell where all are done, and where one is refused.
+// Calls that do a list of commands: their results if all are done, and if one is refused.
 static void check_lists(Mutator &mutator) {
     std::optional<Root> a, b, c;
     IS(METRONOME_OK, mutator.try_null(a));
@@ -171,7 +171,7 @@ static void check_lists(Mutator &mutator) {
     CHECK(out[0] == 7);
 }
 
-// A root of one mutator beside one of another.
+// A call with roots of two mutators.
 static void check_strangers(Heap &heap, Mutator &mutator) {
     std::optional<Mutator> other;
     std::optional<Root> own, strange;
@@ -255,7 +255,8 @@ static void check_throwing() {
     CHECK(kept.kept().cycles > 0 && kept.kept().quanta >= kept.kept().most_quanta);
 }
 
-// A whole cycle frees the pages that moving emptied, also if a cycle is running: three objects of 24 live, one on each page.
+// A whole cycle frees the pages that moving emptied, even if a cycle is already running: three objects of 24 are live, one on
+// each page.
 static void check_whole_cycle_that_moves() {
     metronome_settings settings = METRONOME_SETTINGS(4, 1, 64);
     settings.defrag_below = 5;

@@ -1,6 +1,6 @@
 /*
- * One heap that five threads share, each by a seat of its own: four mutators, and a collector. A mutator does all calls of a round
- * in one turn. In the end the log has as many entries as calls were done, the collector's with them.
+ * One heap that five threads share, each by a seat of its own: four mutators, and a collector. A mutator makes all calls of a
+ * round in one turn. In the end the log has an entry for each call, those of the collector included.
  */
 #include "metronome_shared.h"
 #include <pthread.h>
@@ -11,7 +11,7 @@ enum { MUTATORS = 4, SLOTS = 8, ROUNDS = 20000 };
 static metronome_gate gate = METRONOME_GATE;
 static metronome_seat own = METRONOME_NO_SEAT, collector = METRONOME_NO_SEAT;
 static int is_over; /* this and the next are read and written in turns alone */
-static uint64_t cycles, asked; /* how many cycles began, and what the collector was asked to do */
+static uint64_t cycles, asked; /* the number of cycles that began, and that of calls for the collector */
 
 struct mutator {
     metronome_seat seat;
@@ -30,7 +30,7 @@ static void expect(struct mutator *self, metronome_answer answer, uint32_t kind,
     need(self, answer.kind == kind && answer.number == number);
 }
 
-/* Makes a cell, writes into it, ties it to the one before, and reads both by way of the reference; in the turn. */
+/* Makes a cell, writes into it, ties it to the one before, and reads both through the reference, all in the turn. */
 static void round_of(struct mutator *self, uint64_t round) {
     metronome_seat *seat = &self->seat;
     uint32_t m = self->number, slot = (uint32_t)(round % 2), before = 1 - slot;
@@ -77,8 +77,8 @@ static void *collect(void *argument) {
     return NULL;
 }
 
-/* A heap, and a seat for each thread: of the mutators each gets one, the last one first. Those of the collector and of the main
- * thread have none in the end. */
+/* Makes a heap, and a seat for each thread. Each worker gets a mutator, the last one first. The collector and the main thread
+ * have none in the end. */
 static uint32_t open_seats(struct mutator *mutators) {
     metronome_settings settings = METRONOME_SETTINGS(512, MUTATORS, SLOTS);
     settings.live = 0;
@@ -91,7 +91,7 @@ static uint32_t open_seats(struct mutator *mutators) {
     return status;
 }
 
-/* Closes all seats but the main thread's, and looks whether the log has as many entries as they did calls. */
+/* Closes all seats except the main thread's, and checks that the log has as many entries as these seats made calls. */
 static int is_whole(struct mutator *mutators) {
     uint64_t calls = asked, place = 0;
     metronome_seat_destroy(&collector);

@@ -1,6 +1,7 @@
 /*
- * Each status that the header names of each function, on handles that are open or closed; misuse.c has those on others. Slot 0 holds an object with a cell of each kind, slot 1 an array of one
- * word, slot 2 an array of one reference, and slot 3 null; mutator 1 isn't live, and there is no mutator 2.
+ * Each status that the header names for each function, on handles that are open or closed; misuse.c has the other handles.
+ * Slot 0 holds an object with a cell of each kind, slot 1 an array of one word, slot 2 an array of one reference, and slot 3
+ * null. Mutator 1 isn't live, and mutator 2 doesn't exist.
  */
 #include "metronome.h"
 #include "checks.h"
@@ -13,7 +14,7 @@ static metronome heap = METRONOME_CLOSED;
         check(answer.kind == METRONOME_REFUSED && answer.number == (status), __LINE__); \
     } while (0)
 
-/* A command of a mutator that there isn't, and of one that isn't live. */
+/* Commands of a mutator that doesn't exist, and of one that isn't live. */
 #define LIVENESS(name, ...) \
     do { \
         REFUSED(METRONOME_BAD_SLOT, metronome_##name(&heap, 2, __VA_ARGS__)); \
@@ -41,7 +42,7 @@ static void check_spent(void) {
     REFUSED(METRONOME_IDENTITIES_SPENT, metronome_new_words(&heap, 0, 3, 1));
 }
 
-/* A command on cell i of slot obj, as an expression of these two; `wrong` holds an array without cells of that kind. */
+/* A command on cell i of slot obj, as an expression of i and obj; `wrong` holds an array without cells of that kind. */
 #define CELLS(wrong, call) \
     do { \
         uint32_t m = 0, obj = 0, i = 0; \
@@ -94,7 +95,8 @@ static void check_slots(void) {
     check(shape.kind == 7 && shape.refs == 7 && shape.words == 7, __LINE__);
 }
 
-/* What BAD_SLOT means: no such mutator, whatever the slot, or no such slot of one that is live. Nothing is done. */
+/* BAD_SLOT has two meanings: the mutator doesn't exist, whatever the slot is; or a live mutator has no such slot. Nothing is
+   done. */
 static void check_places(void) {
     IS(METRONOME_NO_MUTATOR, metronome_check_slot(&heap, 2, 0));
     IS(METRONOME_NO_MUTATOR, metronome_check_slot(&heap, UINT32_MAX, UINT32_MAX));
@@ -128,7 +130,7 @@ static void fill(metronome_settings settings) {
     check(metronome_new_refs(&heap, 0, 2, 1).kind == METRONOME_MADE, __LINE__);
 }
 
-/* Each setting out of its range, in turn, and the budget of the schedule. */
+/* Each setting out of its range is refused, in turn, and so is the budget of the schedule. */
 static void check_settings(metronome_settings settings) {
     for (uint32_t place = 0; place <= 10; place++) {
         metronome_settings faulty = settings;
@@ -141,7 +143,7 @@ static void check_settings(metronome_settings settings) {
 }
 
 int main(void) {
-    /* One page for the cell of two kinds, and one for the two arrays of one cell: there is none for other sizes. */
+    /* One page is for the cell of two kinds, and one for the two arrays of one cell. None is left for other sizes. */
     metronome_settings settings = METRONOME_SETTINGS(2, 2, 4);
     settings.statics = 1;
     settings.live = 1;

@@ -79,7 +79,8 @@ static void do_drawn(struct worker *self, struct caller *caller) {
     need(self, is_as_modelled(&caller->model, &it, answer, &shape), __LINE__);
 }
 
-/* What must not be done outside of a turn, and what may. Nothing changes but the place, which only grows. */
+/* Makes calls outside of a turn: those that must not be made, and those that may. They change only the place, which only
+   grows. */
 static void do_outside(struct worker *self, struct caller *caller) {
     metronome_shape shape = UNTOLD;
     metronome_spent spent;
@@ -96,7 +97,8 @@ static void do_outside(struct worker *self, struct caller *caller) {
 #endif
 }
 
-/* What must not be done in a turn: a command of a mutator of another seat, if it is live or not, and what wants to be outside. */
+/* Makes calls in the turn that must not be made: commands of a mutator of another seat, live or not, and calls that belong
+   outside. */
 static void do_wrong(struct worker *self, struct caller *caller) {
     metronome_seat made = METRONOME_NO_SEAT;
     metronome_shape shape = UNTOLD;
@@ -124,7 +126,7 @@ static void take_turn(struct worker *self, struct caller *caller) {
     IS(METRONOME_OK, leave(caller->seat));
 }
 
-/* Half of the rounds the two mutators have one seat, then the second has one of its own. */
+/* For half of the rounds the two mutators have one seat, then the second has one of its own. */
 static void *work(void *argument) {
     struct worker *self = argument;
     for (uint32_t round = 0; round < self->rounds; round++) {
@@ -151,7 +153,7 @@ static void *collect(void *argument) {
     return NULL;
 }
 
-/* A seat for two mutators, the last two that `own` has left. */
+/* Makes a seat for the last two mutators that `own` still has. */
 static int open_worker(struct worker *self, uint32_t number, uint32_t rounds) {
     static const metronome_seat none = METRONOME_NO_SEAT;
     self->rounds = rounds;
@@ -165,7 +167,7 @@ static int open_worker(struct worker *self, uint32_t number, uint32_t rounds) {
     return metronome_seat_another(&own, &self->seats[0], 2 * number) == METRONOME_OK;
 }
 
-/* Closes a worker's seats, and counts what it did. */
+/* Closes a worker's seats, and counts its calls. */
 static void end(struct worker *self, uint64_t *commands, uint64_t *wrong) {
     for (int k = 0; k < 2; k++) {
         metronome_seat_destroy(&self->seats[k]);

@@ -1,16 +1,17 @@
 /*
- * fair: which thread gets the turn at a fair gate, and how many turns a thread that waits is passed by.
+ * fair: which thread gets the turn at a fair gate, and how many turns pass a waiting thread.
  *
- * First plays whose turns come in one order. The program's own `syscall` makes each wake as slow as it can be: a thread that was woken
- * goes on only once the thread that woke it waits itself, or has ended. So a thread that comes again at once finds the turn free
- * whenever the gate lets it in. At a gate that isn't fair it has all its turns in a row.
+ * First come plays, whose turns come in one order. The program's own `syscall` makes each wake as slow as possible: a thread
+ * that was woken goes on only when the thread that woke it waits itself, or has ended. So a thread that comes again at once
+ * finds the turn free whenever the gate lets it in. At a gate that isn't fair it has all its turns in a row.
  *
- * Then four threads that only take turns of ten calls: in each 100 turns in a row each of them has 20 to 30. Turns are counted, and not
- * time, and each turn lasts until the other three are in line: else a machine under load keeps a thread away from the gate for as long
- * as it likes, and the others have its turns, whatever the gate does. At a gate that isn't fair one thread has all 100.
+ * Then four threads only take turns of ten calls. In each 100 turns in a row each of them has 20 to 30. Turns are counted, and
+ * not time. Each turn lasts until the other three threads are in line: otherwise a machine under load may keep a thread away
+ * from the gate for any time, and the others have its turns, whatever the gate does. At a gate that isn't fair one thread has
+ * all 100.
  *
- * Last four threads, and 40, that come and go as they like. Of each thread that sleeps, and so is in line, the turns before its own are
- * counted.
+ * Last come four threads, and then 40, that come and go as they like. For each thread that sleeps, and so is in line, the
+ * turns before its own are counted.
  */
 #define _GNU_SOURCE
 #include "metronome_shared.h"
@@ -23,8 +24,8 @@
 enum { MOST = 40, CREW = 4, CALLS = 10, WINDOW = 100, TURNS = 10000, LONG_TURNS = 1000, MAIN = MOST, MILLISECOND = 1000000 };
 enum { PLAYERS = 3, LATE = 3, LIMIT = 600 /* seconds */ };
 
-/* The late thread waits before it asks for the turn, until it may ask; or it may also stay inside, until thread 0 has slept twice. A
- * thread that hesitates waits behind its last ask before it sleeps. */
+/* The late thread waits before it asks for the turn, until it may ask; or it may also stay inside, until thread 0 has slept
+ * twice. A thread that hesitates waits after its last request, before it sleeps. */
 enum door { NO_DOOR, CLOSED, IS_THERE, MAY_ASK, MAY_STAY, IS_INSIDE, HESITATES };
 
 static const uint64_t NEVER = UINT64_MAX;
@@ -34,26 +35,26 @@ struct actor {
     pthread_t thread;
     metronome_seat seat;
     uint32_t mutator;
-    int turns;           /* in a play: how many it takes, one after the other */
+    int turns;           /* in a play: the number of turns that it takes, one after the other */
     uint64_t sleeps;     /* how often it slept at the gate; an atomic, as are the next three */
     int is_in_line;
     int has_ended;
     int door;            /* a state of the door at which it comes to the turn */
     int asks;            /* how often it asked as a thread that hesitates */
-    uint64_t since;      /* how many turns there were when it was in line, or NEVER */
-    uint64_t passed;     /* the most turns from there to its own */
+    uint64_t since;      /* the number of turns when it came into line, or NEVER */
+    uint64_t passed;     /* the most turns from then to its own */
     int failed;
 };
 
 static metronome_gate gate;
 static struct actor actors[MOST + 1];
-static uint8_t turns_of[TURNS]; /* whose each turn was; written in turns alone */
-static uint64_t taken;          /* how many turns there were; written in turns alone, and read as an atomic */
-static uint64_t most;           /* how many there are to be */
-static uint32_t threads;        /* how many threads take turns */
+static uint8_t turns_of[TURNS]; /* the thread of each turn; written in turns alone */
+static uint64_t taken;          /* the number of turns so far; written in turns alone, and read as an atomic */
+static uint64_t most;           /* the number of turns at the end */
+static uint32_t threads;        /* the number of threads that take turns */
 static int wakes_are_slow, turns_are_long;
 static uint64_t wakes;          /* how often a thread was woken; an atomic, as is the next */
-static uint64_t last_wake;      /* who woke one last: its number, above 32 bits of how often it had slept by then */
+static uint64_t last_wake;      /* the thread that woke one last: its number, above 32 bits of how often it had slept by then */
 static _Thread_local struct actor *me;
 
 #define READ(at) __atomic_load_n(&(at), __ATOMIC_SEQ_CST)
@@ -64,7 +65,7 @@ static void sleep_for(long nanoseconds) {
     nanosleep(&time, NULL);
 }
 
-/* ---- What the linker puts in the place of two functions ---- */
+/* ---- Functions that the linker replaces ---- */
 
 long __real_syscall(long number, ...);
 long __wrap_syscall(long number, uint32_t *at, long what, long value, void *none, void *nothing, long marks);
@@ -99,7 +100,8 @@ static void stop_at_the_door(void) {
     while (READ(me->door) == IS_THERE) sleep_for(MILLISECOND / 10);
 }
 
-/* A thread that waits with nobody before it asks as it comes, as often as it may before it sleeps, and once more. */
+/* Asks for the turn. A thread that waits with no thread before it asks as it comes, as often as it may before it sleeps, and
+   once more. */
 uint32_t __wrap_metronome_seat_enter(metronome_seat *seat) {
     if (READ(me->door) == CLOSED) stop_at_the_door();
     uint32_t status = __real_metronome_seat_enter(seat);
@@ -113,7 +115,7 @@ uint32_t __wrap_metronome_seat_enter(metronome_seat *seat) {
 
 /* ---- Threads ---- */
 
-/* Makes the gate one of a kind, and a heap with an object and a seat for each of so many threads, and one for the main thread. */
+/* Makes the gate one of a kind; a heap with an object and a seat for each of `many` threads; and a seat for the main thread. */
 static void open_heap(metronome_gate kind, uint32_t many) {
     static const struct actor none = { .seat = METRONOME_NO_SEAT, .since = UINT64_MAX };
     metronome_settings settings = METRONOME_SETTINGS(4, MOST, 1);
@@ -148,7 +150,7 @@ static void need(int holds) {
     if (!holds) me->failed = 1;
 }
 
-/* Takes the turn, and notes it, where there is room. */
+/* Takes the turn, and notes it, if there is room. */
 static void enter(void) {
     need(metronome_gate_enter(&gate, &me->seat) == METRONOME_OK);
     if (me->since != NEVER && taken - me->since > me->passed) me->passed = taken - me->since;
@@ -163,9 +165,10 @@ static void leave(void) {
 
 /* ---- Plays ---- */
 
-/* What the main thread does at a gate: '(' enters and ')' leaves. A digit starts this thread, and waits until it sleeps at the gate. 'L'
- * starts the late one, which comes to the door and waits there; 'l' lets it ask for the turn, and waits until it sleeps; 's' lets it
- * ask and stay inside. 'H' starts thread 0 as one that hesitates, and 'h' lets it go on. Each thread takes its number of turns, one after the other. `order` is whose the turns are then. */
+/* The steps of the main thread at a gate. '(' enters and ')' leaves. A digit starts this thread, and waits until it sleeps at
+ * the gate. 'L' starts the late one, which comes to the door and waits there; 'l' lets it ask for the turn, and waits until it
+ * sleeps; 's' lets it ask and stay inside. 'H' starts thread 0 as one that hesitates, and 'h' lets it go on. Each thread takes
+ * its number of turns, one after the other. `order` has the thread of each turn. */
 struct play {
     metronome_gate gate;
     const char *steps;
@@ -180,18 +183,19 @@ static const struct play plays[] = {
     { METRONOME_GATE_FAIR(2), "(0)()()()()()", { 2 }, "mmm00mmm" },
     { METRONOME_GATE_FAIR(5), "(0)()()()()()", { 2 }, "mmmmmm00" },
     { METRONOME_GATE_FAIR(UINT32_MAX - 1), "(0)()()()()()", { 2 }, "mmmmmm00" },
-    /* several wait: they have their turns in the order in which they came */
+    /* several threads wait: they have their turns in the order in which they came */
     { METRONOME_GATE_FAIR(0), "(012)", { 1, 1, 1 }, "m012" },
     { METRONOME_GATE_FAIR(0), "(012)()", { 2, 2, 1 }, "m012m01" },
     { METRONOME_GATE_FAIR(2), "(01)()()()()", { 1, 1 }, "mmm01mm" },
     { METRONOME_GATE_FAIR(1), "(01)()()", { 2, 1 }, "mm01m0" },
-    /* one comes while others are passed by, and one when no more may pass */
+    /* a thread comes while others are passed by, and one comes when no more may pass */
     { METRONOME_GATE_FAIR(2), "(0)(1)()()()", { 1, 1 }, "mmm01mm" },
     { METRONOME_GATE_FAIR(1), "(0)(1)()()", { 3, 1 }, "mm001mm0" },
-    /* one gets a turn that it may have no more, and gives it back; also if the first in line asked meanwhile, and sleeps again */
+    /* a thread gets a turn that it may no longer have, and gives it back; also if the first in line asked meanwhile, and
+       sleeps again */
     { METRONOME_GATE_FAIR(1), "(0L)()l()", { 1, 0, 0, 1 }, "mm0Lm" },
     { METRONOME_GATE_FAIR(1), "(0L)()s()", { 1, 0, 0, 1 }, "mm0mL" },
-    /* one is woken before it sleeps */
+    /* a thread is woken before it sleeps */
     { METRONOME_GATE_FAIR(0), "(H)h", { 1 }, "m0" },
 };
 
@@ -236,7 +240,7 @@ static void step(char what) {
     }
 }
 
-/* Threads have their turns in order, and who is awake isn't woken. */
+/* Threads have their turns in order, and no thread that is awake is woken. */
 static void look_at(const struct play *it) {
     char order[32] = "";
     uint64_t sleeps = 0;
@@ -280,7 +284,7 @@ static void *work(void *argument) {
     return NULL;
 }
 
-/* So many threads take so many turns at a gate. Tells the most turns between where a thread slept and its own turn. */
+/* Lets `many` threads take `turns` turns at a gate. Returns the most turns from a thread's sleep to its own turn. */
 static uint64_t crowd(metronome_gate kind, uint32_t many, uint64_t turns) {
     uint64_t most_passed = 0;
     open_heap(kind, many);
@@ -295,7 +299,7 @@ static uint64_t crowd(metronome_gate kind, uint32_t many, uint64_t turns) {
     return most_passed;
 }
 
-/* The least and the most turns that one of four threads has of 100 in a row. */
+/* Finds the least and the most turns that one of four threads has of 100 in a row. */
 static void share(int *least, int *greatest) {
     int turns[CREW] = { 0 };
     *least = WINDOW;
@@ -310,7 +314,7 @@ static void share(int *least, int *greatest) {
     }
 }
 
-/* Four threads that are all in line when a turn ends. */
+/* Checks four threads that are all in line when a turn ends. */
 static void look_at_four(metronome_gate kind, int slow, const char *name) {
     int least, greatest;
     wakes_are_slow = slow;
@@ -322,14 +326,15 @@ static void look_at_four(metronome_gate kind, int slow, const char *name) {
     check(kind.fair != 0 ? 20 <= least && greatest <= 30 : least == 0 && greatest == WINDOW, __LINE__);
 }
 
-/* No thread is passed by more often than the gate says: the other threads have a turn each, and later ones as many more as it has. */
+/* No thread is passed by more often than the gate says: each other thread has one turn, and later threads as many more as the
+   gate allows. */
 static void look_at_many(metronome_gate kind, uint32_t many) {
     check(crowd(kind, many, TURNS) <= many - 1 + kind.fair - 1, __LINE__);
 }
 
 int main(void) {
     static const metronome_gate fast = METRONOME_GATE, in_order = METRONOME_GATE_FAIR(0), fair = METRONOME_GATE_FAIR(3);
-    alarm(LIMIT); /* which ends the program if a wake is lost */
+    alarm(LIMIT); /* ends the program if a wake is lost */
     for (size_t n = 0; n < sizeof plays / sizeof *plays; n++) look_at(&plays[n]);
     look_at_four(fast, 1, "at a gate that isn't fair");
     look_at_four(in_order, 0, "at a fair gate of 0");

@@ -1,7 +1,7 @@
 /*
- * Threads that wait at a gate, and at two fair ones: one that has the turn for long, one that ends in its turn, and one whose seat
- * is closed in its turn. The program's own `syscall` counts what the gate asks of the system: nothing where nobody waits, and one
- * wake for each thread that sleeps.
+ * Threads that wait at a gate, and at two fair ones: one that has the turn for long, one that ends in its turn, and one whose
+ * seat is closed in its turn. The program's own `syscall` counts the gate's requests to the system: none if no thread waits,
+ * and one wake for each thread that sleeps.
  */
 #define _GNU_SOURCE
 #include "metronome_shared.h"
@@ -14,14 +14,14 @@ enum { WAITERS = 4, TURNS = 30000, MILLISECOND = 1000000 };
 
 static metronome_gate gate; /* one after the other */
 static metronome_seat own = METRONOME_NO_SEAT, seats[WAITERS];
-static uint64_t waits, wakes; /* how often a thread slept, and how often one was to be woken; counted as atomics */
+static uint64_t waits, wakes; /* how often a thread slept, and how often the gate woke one; counted as atomics */
 static uint64_t entered;      /* written in turns alone */
 
 static uint64_t count_of(uint64_t *count) {
     return __atomic_load_n(count, __ATOMIC_SEQ_CST);
 }
 
-/* What the linker puts in the place of syscall. */
+/* The function that the linker puts in the place of syscall. */
 long __real_syscall(long number, ...);
 long __wrap_syscall(long number, uint32_t *at, long what, long value, void *none, void *nothing, long last);
 
@@ -36,7 +36,7 @@ static void sleep_for(long nanoseconds) {
     nanosleep(&time, NULL);
 }
 
-/* Waits until so many threads wait asleep. */
+/* Waits until this many threads sleep at the gate. */
 static void await(uint64_t many) {
     while (count_of(&waits) < many) sleep_for(MILLISECOND);
     sleep_for(20 * MILLISECOND);
@@ -57,7 +57,7 @@ static void close_seats(void) {
     metronome_seat_destroy(&own);
 }
 
-/* A turn of a thread; how the calls end is what it answers. */
+/* Takes a turn in a thread. Returns whether the calls ended well. */
 static void *turn(void *argument) {
     metronome_seat *seat = argument;
     uint32_t status = metronome_gate_enter(&gate, seat);
@@ -92,7 +92,7 @@ static void turns_with_nobody_beside_ask_nothing(void) {
     check(waits == 0 && wakes == 0, __LINE__);
 }
 
-/* While one has the turn for long, the others sleep: they take next to no processor time. Each of them is woken once. */
+/* While one thread has the turn for long, the others sleep: they take next to no processor time. Each of them is woken once. */
 static void who_waits_sleeps(void) {
     pthread_t threads[WAITERS];
     metronome_seat closed = METRONOME_NO_SEAT;
@@ -112,7 +112,7 @@ static void who_waits_sleeps(void) {
     check(entered == WAITERS && count_of(&wakes) - before <= WAITERS, __LINE__);
 }
 
-/* How a turn that its thread left open is ended by another thread. */
+/* Another thread ends a turn that its thread left open. */
 static uint32_t by_leaving(metronome_seat *seat) {
     return metronome_gate_leave(&gate, seat);
 }
@@ -123,7 +123,7 @@ static uint32_t by_closing(metronome_seat *seat) {
     return METRONOME_OK;
 }
 
-/* Of a thread that ended in its turn the turn is taken for all others, until its seat gives it back. */
+/* If a thread ends in its turn, its seat keeps the turn from all others, until the seat is closed or gives it back. */
 static void who_ends_in_its_turn_keeps_it(uint32_t (*give_back)(metronome_seat *)) {
     pthread_t ended, waiting;
     uint64_t before = count_of(&waits);
@@ -143,7 +143,7 @@ static void who_ends_in_its_turn_keeps_it(uint32_t (*give_back)(metronome_seat *
     check(entered == 1, __LINE__);
 }
 
-/* A wake is never lost: two threads that do nothing but take turns come to their end. */
+/* A wake is never lost: two threads that only take turns both end. */
 static void *many_turns(void *argument) {
     uintptr_t status = METRONOME_OK;
     for (int n = 0; n < TURNS && status == METRONOME_OK; n++) status = (uintptr_t)turn(argument);

@@ -1,8 +1,8 @@
 /*
- * log [ROUNDS]: the log of a heap that threads share. First rings of several capacities: after each drawn call each place is asked
- * for. Then four threads of a mutator each do drawn commands, begin cycles and spend quanta, and note in the turn each call with its
- * answer behind those of all others, while another thread reads the log; in the end the ring has all entries, just those that were
- * noted, and what was read meanwhile were the same ones.
+ * log [ROUNDS]: the log of a heap that threads share. First come rings of several capacities: after each random call each
+ * place is asked for. Then four threads with a mutator each do random commands, begin cycles and spend quanta. In the turn
+ * each notes every call with its answer, after the calls of all others, while another thread reads the log. In the end the
+ * ring has exactly the noted entries, and the reader has read the same ones.
  */
 #include "model.h"
 #include "../checks.h"
@@ -13,19 +13,19 @@
 
 enum { THREADS = 4, AT_MOST = 16, SHORT = 12 };
 
-/* A command with these numbers. */
+/* Returns a command with these numbers. */
 static metronome_command numbered(uint32_t kind, uint32_t first, uint32_t second, uint32_t third, uint32_t fourth) {
     metronome_command it = { kind, first, second, third, fourth, 0, 0 };
     return it;
 }
 
-/* The same of a word cell, with these words. */
+/* Returns a command on a word cell, with these words. */
 static metronome_command worded(uint32_t kind, uint32_t obj, uint32_t i, uint64_t first_word, uint64_t second_word) {
     metronome_command it = { kind, obj, i, 0, 0, first_word, second_word };
     return it;
 }
 
-/* A drawn command, as the log has it. */
+/* Returns a random command, as the log has it. */
 static metronome_command logged(const struct command *command) {
     const struct command it = *command;
     uint32_t a = it.slots[0], b = it.slots[1], c = it.slots[2];
@@ -62,7 +62,7 @@ static int same_entry(const metronome_entry *a, const metronome_entry *b) {
         && a->shape.refs == b->shape.refs && a->shape.words == b->shape.words;
 }
 
-/* Does a drawn command in the turn, and says what the log is to have of it. */
+/* Does a random command in the turn. Returns the entry that the log must have for it. */
 static metronome_entry note_drawn(metronome_seat *seat, struct model *model, uint64_t *seed) {
     metronome_entry entry;
     metronome_shape shape = { 0, 0, 0 };
@@ -75,11 +75,11 @@ static metronome_entry note_drawn(metronome_seat *seat, struct model *model, uin
     entry.shape = shape;
     metronome_shape told = UNTOLD;
     if (entry.answer.kind == METRONOME_DESCRIBED) told = shape;
-    is_as_modelled(model, &it, entry.answer, &told); /* the model goes on */
+    is_as_modelled(model, &it, entry.answer, &told); /* the model does the command too */
     return entry;
 }
 
-/* What the collector was asked to do, as the log has it. */
+/* Returns the entry of a call of the collector, as the log has it. */
 static metronome_entry asked(metronome_command command, uint32_t status) {
     metronome_entry entry;
     memset(&entry, 0, sizeof entry);
@@ -90,13 +90,13 @@ static metronome_entry asked(metronome_command command, uint32_t status) {
     return entry;
 }
 
-/* The phase of a heap, as the calls in turns tell it, and how many of them told something else than they should. */
+/* The phase of a heap, by the calls in turns, and how many calls reported another than they should. */
 struct collector {
     uint32_t phase;
     uint64_t wrong;
 };
 
-/* Begins a cycle in the turn: it is refused just where one is running. */
+/* Begins a cycle in the turn. It must be refused exactly if a cycle is running. */
 static metronome_entry note_begin(metronome_seat *seat, struct collector *collector) {
     uint32_t status = metronome_seat_begin(seat);
     collector->wrong += status != (uint32_t)(collector->phase == METRONOME_IDLE ? METRONOME_OK : METRONOME_BUSY);
@@ -104,7 +104,8 @@ static metronome_entry note_begin(metronome_seat *seat, struct collector *collec
     return asked(numbered(METRONOME_BEGIN, 0, 0, 0, 0), status);
 }
 
-/* Spends a drawn budget in the turn: it is refused just where no quantum may have that, and without a cycle no unit is spent. */
+/* Spends a random budget in the turn. It must be refused exactly if no quantum may have that budget; without a cycle it spends
+   no unit. */
 static metronome_entry note_quantum(metronome_seat *seat, struct collector *collector, uint64_t *seed) {
     uint32_t budget = 250 + (uint32_t)(drawn(seed) % 64);
     metronome_spent spent = { 0, 0 };
@@ -116,7 +117,7 @@ static metronome_entry note_quantum(metronome_seat *seat, struct collector *coll
     return asked(numbered(METRONOME_QUANTUM, budget, spent.units, spent.phase, 0), status);
 }
 
-/* One call in the turn, mostly a command; it says what the log is to have of it. */
+/* Makes one call in the turn, mostly a command. Returns the entry that the log must have for it. */
 static metronome_entry note_call(metronome_seat *seat, struct model *model, struct collector *collector, uint64_t *seed) {
     switch (drawn(seed) % 8) {
     case 0: return note_begin(seat, collector);
@@ -125,7 +126,7 @@ static metronome_entry note_call(metronome_seat *seat, struct model *model, stru
     }
 }
 
-/* Each place up to the one behind the next, and the same places once more, as they wrap. */
+/* Asks for each place up to the one after the next, and for the same places once more, since they wrap. */
 static void check_places(metronome_seat *seat, const metronome_entry *noted, uint64_t count, uint64_t ring) {
     for (uint64_t place = 0; place <= count + 1; place++)
         for (int again = 0; again < 2; again++) {
@@ -164,7 +165,7 @@ static void check_ring(uint64_t ring) {
     close_model(&model);
 }
 
-/* One thread, and its mutator. */
+/* A thread with its mutator. */
 struct worker {
     metronome_seat seat;
     struct model model;
@@ -194,7 +195,7 @@ static void *work(void *argument) {
     return NULL;
 }
 
-/* Reads on, turn by turn, from the first place that it hasn't read. */
+/* Reads on, turn by turn, from the first place that wasn't read. */
 static void *read_log(void *argument) {
     for (int over = 0; !over;) {
         if (metronome_gate_enter(&gate, &reader) != METRONOME_OK) break;
@@ -209,7 +210,7 @@ static void *read_log(void *argument) {
     return argument;
 }
 
-/* A seat for each worker and for the reader, and room for what is noted and read. */
+/* Makes a seat for each worker and for the reader, and room for the entries noted and read. */
 static void open_workers(struct worker *workers, uint32_t rounds) {
     const size_t most = (size_t)rounds * AT_MOST;
     metronome_settings settings = METRONOME_SETTINGS(256, THREADS, SLOTS);
@@ -227,7 +228,7 @@ static void open_workers(struct worker *workers, uint32_t rounds) {
     }
 }
 
-/* In the end each place has just what was noted there, and was read meanwhile. */
+/* In the end each place has exactly the entry that was noted there, and the reader has read the same. */
 static void check_log(void) {
     uint64_t place = 0, wrong = 0, asked_for = 0;
     IS(METRONOME_OK, metronome_seat_place(&own, &place));

@@ -1,6 +1,6 @@
 /*
- * Calls on seats in the wrong order, outside of a turn or in one, for another's mutator, and on what is no handle: each is told,
- * in the order that the header says, and changes nothing.
+ * Calls on seats in the wrong order, outside of a turn or in one, for another's mutator, and on handles that are none. Each
+ * returns its status, by the order of reasons in the header, and changes nothing.
  */
 #include "metronome_shared.h"
 #include "../checks.h"
@@ -10,7 +10,7 @@
 static const metronome_seat none = METRONOME_NO_SEAT;
 static const metronome_settings settings = METRONOME_SETTINGS(4, 4, 4);
 
-/* What a call tells through its pointers, all bytes 7. */
+/* The results that a call writes through its pointers; at first all bytes are 7. */
 struct told {
     metronome_shape shape;
     metronome_spent spent;
@@ -24,7 +24,7 @@ static bool is_refused(metronome_answer answer, uint32_t status) {
     return answer.kind == METRONOME_REFUSED && answer.number == status;
 }
 
-/* How many of the 18 commands of a mutator are refused with a status. */
+/* Returns how many of the 18 commands of a mutator are refused with a status. */
 static int refused_commands(metronome_seat *s, uint32_t m, uint32_t status, struct told *told) {
     const metronome_answer answers[] = {
         metronome_seat_new_plain(s, m, 0, 1, 1),        metronome_seat_new_refs(s, m, 0, 1),
@@ -42,7 +42,7 @@ static int refused_commands(metronome_seat *s, uint32_t m, uint32_t status, stru
     return refused;
 }
 
-/* How many of the other calls in a turn tell a status: they are 8. A budget out of its range isn't looked at before. */
+/* Returns how many of the other 8 calls in a turn return a status. It comes before that of a budget out of its range. */
 static int refused_calls(metronome_seat *s, uint32_t status, struct told *told) {
     metronome_pacing pacing = METRONOME_PACING(1, 0, 1);
     metronome_row row = METRONOME_ROW(0, 1, 2);
@@ -54,7 +54,7 @@ static int refused_calls(metronome_seat *s, uint32_t status, struct told *told) 
            && metronome_seat_close_frame(s, &row, 0) == status && pacing.owed == 0 && row.next == 1);
 }
 
-/* Every call of a turn tells a status, and nothing else, also of mutators that aren't the seat's, or that there aren't. */
+/* Each call of a turn returns a status, and nothing else; also for mutators of other seats, and those that don't exist. */
 static void no_turn(metronome_seat *s, uint32_t status) {
     struct told told, stood;
     memset(&told, 7, sizeof told);
@@ -65,7 +65,7 @@ static void no_turn(metronome_seat *s, uint32_t status) {
     IS(status, metronome_seat_leave(s));
 }
 
-/* Every call on a handle that holds no seat tells a status; the handle stays as it was, and so do others. */
+/* Each call on a handle that holds no seat returns a status. The handle stays as it was, and so do others. */
 static void nothing_is_done(metronome_seat *s, uint32_t status) {
     metronome_seat before, made = none;
     uint64_t place = 7;
@@ -78,7 +78,7 @@ static void nothing_is_done(metronome_seat *s, uint32_t status) {
     check(place == 7 && memcmp(&made, &none, sizeof none) == 0 && memcmp(&before, s, sizeof before) == 0, __LINE__);
 }
 
-/* What was never set isn't taken for a handle, whatever single byte fills it. */
+/* A handle that was never set isn't taken for an open one, whatever single byte fills it. */
 static void what_was_never_set_is_told(void) {
     metronome_seat open = METRONOME_NO_SEAT;
     IS(METRONOME_OK, metronome_seat_create(&open, &settings));
@@ -92,7 +92,7 @@ static void what_was_never_set_is_told(void) {
     metronome_seat_destroy(&open);
 }
 
-/* A handle of a heap is none of a seat, nor the other way round. */
+/* A handle of a heap isn't one of a seat, nor the other way round. */
 static void handles_are_told_apart(void) {
     metronome heap = METRONOME_CLOSED, as_heap;
     metronome_seat seat = METRONOME_NO_SEAT, as_seat;
@@ -108,8 +108,8 @@ static void handles_are_told_apart(void) {
     metronome_seat_destroy(&seat);
 }
 
-/* A seat is made, made again, moved, destroyed, destroyed again, and made anew; faults of settings are told as by
- * metronome_create. */
+/* A seat is made, made again, moved, destroyed, destroyed again, and made anew. Faults of settings have the same statuses as
+ * in metronome_create. */
 static void a_handle_has_one_seat(void) {
     metronome_seat s = METRONOME_NO_SEAT, moved;
     metronome_settings faulty = settings;
@@ -134,7 +134,7 @@ static void a_handle_has_one_seat(void) {
     metronome_seat_destroy(&moved);
 }
 
-/* One of two seats has the turn at a time, and each what it left there. */
+/* Only one of two seats has the turn at a time. Each finds the words that it left. */
 static void turns_are_taken(void) {
     metronome_seat first = METRONOME_NO_SEAT, second = METRONOME_NO_SEAT;
     uint64_t place = 7;
@@ -163,7 +163,7 @@ static void turns_are_taken(void) {
     metronome_seat_destroy(&first);
 }
 
-/* A seat in its turn calls for its own mutators, those that it has left, and for no other. */
+/* A seat in its turn calls for the mutators that it still has, and for no other. */
 static bool calls_for(metronome_seat *s, uint32_t first, uint32_t end) {
     struct told told;
     bool holds = metronome_seat_enter(s) == METRONOME_OK;
@@ -174,7 +174,7 @@ static bool calls_for(metronome_seat *s, uint32_t first, uint32_t end) {
     return metronome_seat_leave(s) == METRONOME_OK && holds;
 }
 
-/* Mutators go from seat to seat; who asks for others' is refused, and neither seat changes. */
+/* Mutators go from seat to seat. A seat that asks for another's mutators is refused, and neither seat changes. */
 static void mutators_are_given(void) {
     metronome_seat first = METRONOME_NO_SEAT, second = METRONOME_NO_SEAT, third = METRONOME_NO_SEAT;
     IS(METRONOME_OK, metronome_seat_create(&first, &settings));
@@ -196,7 +196,7 @@ static void mutators_are_given(void) {
     metronome_seat_destroy(&third);
 }
 
-/* Of several reasons against one more seat the first in their order is told. */
+/* If several reasons against one more seat apply, the first one in their order is returned. */
 static void reasons_are_told_in_order(void) {
     metronome_seat first = METRONOME_NO_SEAT, second = METRONOME_NO_SEAT, third = METRONOME_NO_SEAT, never_set;
     memset(&never_set, 0xA5, sizeof never_set);
@@ -215,7 +215,7 @@ static void reasons_are_told_in_order(void) {
     metronome_seat_destroy(&second);
 }
 
-/* A seat that is destroyed in its turn gives it back, and nobody calls for its mutators any more. */
+/* A seat that is destroyed in its turn gives it back, and no seat calls for its mutators any more. */
 static void a_destroyed_seat_gives_its_turn_back(void) {
     metronome_seat first = METRONOME_NO_SEAT, second = METRONOME_NO_SEAT;
     uint64_t place = 7;
@@ -231,7 +231,7 @@ static void a_destroyed_seat_gives_its_turn_back(void) {
     metronome_seat_destroy(&first);
 }
 
-/* In the turn the collector and the figures are those of the heap. */
+/* In the turn the calls on the collector and the figures are those of the heap. */
 static void figures_are_told(void) {
     metronome_seat s = METRONOME_NO_SEAT;
     struct told told;

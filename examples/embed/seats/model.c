@@ -64,7 +64,7 @@ metronome_answer call(metronome_seat *seat, uint32_t m, const struct command *co
     }
 }
 
-/* How many slots each command names, and which of these is to hold an object. */
+/* The number of slots that each command names, and which of them must hold an object (-1 for none). */
 static const uint32_t slots_named[COMMANDS] = { 1, 1, 1, 2, 2, 3, 1, 1, 1, 2, 1, 1, 1, 2, 2, 1, 0, 0 };
 static const int object_slot[COMMANDS] = { -1, -1, -1, 1, 0, 0, 0, 0, 0, -1, -1, -1, -1, -1, -1, 0, -1, -1 };
 
@@ -80,7 +80,7 @@ static struct object *object_of(const struct model *model, uint32_t slot) {
     return &model->objects[model->slots[slot]];
 }
 
-/* Why a cell of a slot's object can't be reached, or 0. */
+/* Returns why a cell of a slot's object can't be reached, or 0. */
 static uint32_t cell_fault(const struct model *model, const struct command *it) {
     uint32_t slot = it->slots[object_slot[it->kind]];
     const metronome_shape *shape = &object_of(model, slot)->shape;
@@ -91,7 +91,7 @@ static uint32_t cell_fault(const struct model *model, const struct command *it) 
     return it->i >= (of_words ? shape->words : shape->refs) ? METRONOME_BAD_INDEX : METRONOME_OK;
 }
 
-/* Why a command is refused, or 0. */
+/* Returns why a command is refused, or 0. */
 static uint32_t fault(const struct model *model, const struct command *it) {
     if (it->kind == JOIN) return model->is_live ? METRONOME_ALREADY_LIVE : METRONOME_OK;
     if (!model->is_live) return METRONOME_NOT_LIVE;
@@ -109,7 +109,7 @@ static metronome_answer told(uint32_t kind, uint64_t number) {
     return answer;
 }
 
-/* A new object of the identity that was told. */
+/* Makes an object with the identity that was returned. */
 static metronome_answer make(struct model *model, const struct command *it, uint64_t identity) {
     struct object *made = &model->objects[++model->made];
     made->identity = identity;
@@ -120,7 +120,7 @@ static metronome_answer make(struct model *model, const struct command *it, uint
     return told(METRONOME_MADE, identity);
 }
 
-/* Writes a reference where it is the expected one. */
+/* Writes a reference if the present one is as expected. */
 static metronome_answer compare(const struct model *model, uint32_t *at, uint32_t expected, uint32_t replacement) {
     if (*at != expected) return told(METRONOME_KEPT, model->objects[*at].identity);
     *at = replacement;
@@ -139,13 +139,13 @@ static metronome_answer load(struct model *model, uint32_t dst, uint32_t object)
     return told(METRONOME_REF, model->objects[object].identity);
 }
 
-/* A retired mutator has null in each of its slots; its static keeps what it holds. */
+/* Makes the mutator live or retires it: each of its slots becomes null, and its static keeps its reference. */
 static void become(struct model *model, bool is_live) {
     model->is_live = is_live;
     memset(model->slots, 0, sizeof model->slots);
 }
 
-/* What a command that isn't refused is answered. */
+/* Returns the answer of a command that isn't refused. */
 static metronome_answer answered(struct model *model, const struct command *it, uint64_t identity) {
     uint32_t *slots = model->slots, a = it->slots[0] % SLOTS, b = it->slots[1] % SLOTS, c = it->slots[2] % SLOTS;
     struct object *first = object_of(model, a), *second = object_of(model, b);

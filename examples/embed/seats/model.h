@@ -1,6 +1,6 @@
 /*
- * Drawn commands of one mutator, and what each is to be answered: a model of the mutator's own objects, which no other one
- * reaches.
+ * Random commands of one mutator, and the answer that each must have: a model of the mutator's own objects, which no other
+ * mutator reaches.
  */
 #ifndef MODEL_H
 #define MODEL_H
@@ -14,8 +14,8 @@ enum command_kind {
     STORE_STATIC, COMPARE_STATIC, SAME, DESCRIBE, JOIN, RETIRE, COMMANDS
 };
 
-/* A command: its slots in the order in which the call names them, its cell or static, and its words. Of a new object `i` and `j`
- * are how many reference and word cells it has. */
+/* A command: its slots in the order in which the call names them, its cell or static, and its words. For a new object `i` and
+ * `j` are the numbers of its reference and word cells. */
 struct command {
     enum command_kind kind;
     uint32_t slots[3];
@@ -26,7 +26,7 @@ struct command {
 struct object {
     uint64_t identity;
     metronome_shape shape;
-    uint32_t refs[CELLS]; /* which objects; 0 is null */
+    uint32_t refs[CELLS]; /* numbers of objects; 0 is null */
     uint64_t words[CELLS];
 };
 
@@ -40,24 +40,24 @@ struct model {
     uint32_t kept;
 };
 
-/* A model of a live mutator that makes so many objects at most; false where there is no memory for it. */
+/* Makes a model of a live mutator that makes at most `most` objects. Returns false if there is no memory for it. */
 bool open_model(struct model *model, uint32_t mutator, uint32_t most);
 void close_model(struct model *model);
 
-/* The next number of a row that begins with a seed other than 0. */
+/* Returns the next number of a row that begins with a seed other than 0. */
 uint64_t drawn(uint64_t *seed);
 
-/* A command, mostly one that is done. */
+/* Returns a random command, mostly one that isn't refused. */
 struct command draw_command(const struct model *model, uint64_t *seed);
 
-/* Calls it. What metronome_seat_describe tells goes to `shape`. */
+/* Does a command. The result of metronome_seat_describe goes to `shape`. */
 metronome_answer call(metronome_seat *seat, uint32_t mutator, const struct command *command, metronome_shape *shape);
 
-/* What a shape is before a call. */
+/* The value of a shape before a call. */
 #define UNTOLD { 7, 7, 7 }
 
-/* Whether the answer is what the model's mutator is to be told, and the shape what metronome_seat_describe tells, else untold. The
- * model goes on by the command. */
+/* Returns whether the answer is the model's. The shape must be that of metronome_seat_describe, or UNTOLD for other commands.
+ * The model does the command too. */
 bool is_as_modelled(struct model *model, const struct command *command, metronome_answer answer, const metronome_shape *shape);
 
 #endif

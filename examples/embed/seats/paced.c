@@ -1,6 +1,6 @@
 /*
- * What the header has over the calls in a turn: frames of slots, a whole cycle, and a pace. Four threads make cells in frames at one
- * pace, on so few pages that without the collector they would be refused one soon: none is.
+ * The header's functions over the calls in a turn: frames of slots, a whole cycle, and a pace. Four threads make cells in
+ * frames at one pace. The pages are so few that without the collector a cell would soon be refused; none is.
  */
 #include "metronome_shared.h"
 #include <pthread.h>
@@ -22,7 +22,7 @@ static void need(uint32_t m, int holds, int line) {
 #define NEED(holds) need(m, holds, __LINE__)
 #define IS(status, call) need(m, (call) == (uint32_t)(status), __LINE__)
 
-/* A list of two cells in a frame, read by way of its first cell. */
+/* Makes a list of two cells in a frame, and reads it through its first cell. */
 static void make_list(metronome_seat *seat, metronome_row *row, uint64_t word) {
     uint32_t m = row->mutator, first = 0, second = 0;
     metronome_frame frame = metronome_open_frame(row);
@@ -51,7 +51,7 @@ static void *work(void *argument) {
     return NULL;
 }
 
-/* A heap that is full of what nothing leads to has all its pages again after a whole cycle. */
+/* A heap that is full of unreachable objects has all its pages again after a whole cycle. */
 static void check_whole_cycle(void) {
     uint32_t m = THREADS;
     uint64_t made = 0, pages = 0;
@@ -68,7 +68,8 @@ static void check_whole_cycle(void) {
     IS(METRONOME_OK, metronome_seat_leave(&own));
 }
 
-/* A whole cycle frees the pages that moving emptied, also if a cycle is running: three objects of 24 live, one on each page. */
+/* A whole cycle frees the pages that moving emptied, even if a cycle is already running: three objects of 24 are live, one on
+   each page. */
 static void check_whole_cycle_that_moves(void) {
     uint32_t m = THREADS;
     metronome_seat moving = METRONOME_NO_SEAT;

@@ -4,9 +4,9 @@
  * high priority waits for the rest of one turn, and for no thread of a priority between.
  *
  * On one processor the low thread is in its turn when the high one asks for its own; then the medium one begins to work, and doesn't
- * touch the heap. If the low thread is lifted, the high one has its turn before the medium one is done. The same at a plain mutex shows
- * that the medium thread is done first there. This needs SCHED_FIFO. If the system doesn't permit it, the program says so, and looks
- * at the mutex and the calls alone. So what is passed counts these alone, and what is found of priorities can only fail.
+ * touch the heap. If the low thread is lifted, the high one has its turn before the medium one is done. At a plain mutex the medium
+ * thread is done first, which is also checked. This needs SCHED_FIFO. If the system doesn't permit it, the program says so, and looks
+ * at the mutex and the calls alone. So only these checks count as passed, and the check of priorities can only fail.
  */
 #define _GNU_SOURCE
 #include "metronome_shared.h"

@@ -1,8 +1,8 @@
 /*
- * shards [ADDITIONS [THREADS]]: a table of counts, sharded over as many heaps as there are threads, beside the same table in one
- * heap. Each thread has a seat at each heap: a key's heap is its remainder, and what a thread adds at one heap it adds in one
- * turn. No reference goes from heap to heap: what crosses are words. It tells how long an addition takes in both ways, by the
- * clock, and looks whether each count is what all threads added to it.
+ * shards [ADDITIONS [THREADS]]: a table of counts, sharded over as many heaps as there are threads, beside the same table in
+ * one heap. Each thread has a seat at each heap. A key's heap is its remainder, and a thread makes all its additions at one
+ * heap in one turn. No reference goes from heap to heap: only words can pass between them. It prints how long an addition
+ * takes in both ways, by the clock, and checks that each count is the sum of all threads' additions.
  */
 #define _POSIX_C_SOURCE 200809L
 #include "metronome_shared.h"
@@ -14,8 +14,8 @@
 
 enum { MOST = 8, KEYS = 4096, BUCKETS = 1024, ADDITIONS_A_TURN = 16, BUDGET = 1000 };
 
-/* The slots of each mutator: the buckets, an entry, and its count. An entry refers to the next one and to its count, and has the
- * key. */
+/* The slots of each mutator: the buckets, an entry, and its count. An entry has the key, and refers to the next entry and to
+ * its count. */
 enum { TABLE, ENTRY, COUNT, SLOTS };
 
 struct shard {
@@ -52,7 +52,7 @@ static uint32_t drawn_key(struct worker *self) {
     return (uint32_t)(self->seed >> 20) % KEYS;
 }
 
-/* Whether the entry of a key is there: then it is in its slot. Else null is. */
+/* Finds the entry of a key, and puts it into its slot. If there is none, the slot gets null. Returns whether it was found. */
 static bool find(metronome_seat *seat, uint32_t m, uint32_t key) {
     uint64_t entry = number_of(metronome_seat_load(seat, m, ENTRY, TABLE, key / heaps % BUCKETS));
     while (entry != 0 && number_of(metronome_seat_get(seat, m, ENTRY, 0)) != key)
@@ -69,7 +69,7 @@ static void insert(metronome_seat *seat, uint32_t m, uint32_t key) {
     number_of(metronome_seat_store(seat, m, TABLE, key / heaps % BUCKETS, ENTRY));
 }
 
-/* What was added to a key. */
+/* Returns the count of a key. */
 static uint64_t count_of(metronome_seat *seat, uint32_t m, uint32_t key) {
     if (!find(seat, m, key)) return 0;
     number_of(metronome_seat_load(seat, m, COUNT, ENTRY, 1));
@@ -85,7 +85,7 @@ static void add(metronome_seat *seat, uint32_t m, uint32_t key) {
     number_of(metronome_seat_store(seat, m, ENTRY, 1, COUNT));
 }
 
-/* In one turn at a heap adds to those of some keys that lie there, and spends a quantum. */
+/* Takes a turn at a heap, adds one to each of these keys that belongs there, and spends a quantum. */
 static void add_at(struct worker *self, uint32_t shard, const uint32_t *keys, uint32_t many) {
     metronome_seat *seat = &self->seats[shard];
     metronome_spent spent;
@@ -110,7 +110,7 @@ static void *work(void *argument) {
     return NULL;
 }
 
-/* A heap with an empty table, which each mutator has in a slot, and a seat at it for each thread. */
+/* Makes a heap with an empty table, which each mutator has in a slot, and a seat at it for each thread. */
 static void open_shard(uint32_t number) {
     static const struct shard closed = { METRONOME_GATE, METRONOME_NO_SEAT };
     metronome_settings settings = METRONOME_SETTINGS(256 / heaps, threads, SLOTS);
@@ -128,7 +128,7 @@ static void open_shard(uint32_t number) {
     }
 }
 
-/* How many counts aren't what all threads added. The first thread's seats look. */
+/* Returns how many counts aren't the sum of all threads' additions. The first thread's seats read them. */
 static uint32_t wrong_counts(void) {
     uint32_t wrong = 0;
     for (uint32_t key = 0; key < KEYS; key++) {
@@ -155,7 +155,7 @@ static double seconds(void) {
     return (double)t.tv_sec + (double)t.tv_nsec / 1e9;
 }
 
-/* All additions at a table of so many heaps; how many counts are wrong then. */
+/* Makes all additions at a table of `many` heaps. Returns how many counts are wrong at the end. */
 static uint32_t run(uint32_t many, uint64_t additions) {
     pthread_t running[MOST];
     heaps = many;

@@ -1,5 +1,5 @@
-// The classes of metronome_shared.hpp, and what is given back when they go out of scope. Built without exceptions too, and then what
-// throws is left out.
+// The classes of metronome_shared.hpp, and the things given back when an object goes out of scope. Also built without exceptions:
+// then the tests of throwing functions are left out.
 #include "metronome_shared.hpp"
 #include "../checks.h"
 #include <cstdio>
@@ -12,7 +12,7 @@ static constexpr std::uint32_t THREADS = 4, ROUNDS = 20000;
 
 static const metronome_settings SETTINGS = METRONOME_SETTINGS(16, THREADS, 3);
 
-// A closed seat refuses; one that is open opens once; one that was moved away is closed.
+// A closed seat refuses calls; an open one can't be opened again; one that was moved away is closed.
 static void check_seats() {
     Seat seat, other;
     std::uint64_t place = 7;
@@ -24,7 +24,7 @@ static void check_seats() {
     IS(METRONOME_NOT_YOURS, seat.try_another(THREADS + 1, other));
     IS(METRONOME_OK, seat.try_another(1, other));
     Seat moved = std::move(other);
-    IS(METRONOME_NO_HEAP, other.try_place(place)); // NOLINT: what was moved away is closed
+    IS(METRONOME_NO_HEAP, other.try_place(place)); // NOLINT: a seat that was moved away is closed
     CHECK(place == 7);
     IS(METRONOME_OK, moved.try_place(place));
     CHECK(place == 0);
@@ -36,7 +36,7 @@ static void check_seats() {
     CHECK(place == 0);
 }
 
-// A turn ends with its scope, and is one seat's at a time.
+// A turn ends with its scope. Only one seat has it at a time.
 static void check_turns() {
     Gate gate;
     Seat first, second;
@@ -95,7 +95,7 @@ static void check_log() {
     CHECK(entry.kind == METRONOME_NOT_YET);
 }
 
-// What a mutator's thread does: it adds to a word of an object, two calls in a turn.
+// The work of a mutator's thread: it adds to a word of an object, with two calls in a turn.
 static void count_up(Gate &gate, Seat seat, std::uint32_t mutator, Seat &back) {
     for (std::uint32_t n = 0; n < ROUNDS; n++) {
         std::optional<Turn> turn;
@@ -107,7 +107,7 @@ static void count_up(Gate &gate, Seat seat, std::uint32_t mutator, Seat &back) {
     back = std::move(seat);
 }
 
-// An object that all mutators share, in a static: no round of a thread is lost, since no other call comes between its two.
+// All mutators share an object, in a static. No round of a thread is lost, since no other call comes between its two.
 static void check_threads(Gate &gate) {
     metronome_settings settings = SETTINGS;
     settings.statics = 1;
@@ -138,7 +138,7 @@ static void check_threads(Gate &gate) {
 
 #ifdef __cpp_exceptions
 
-// What is refused throws, and a turn ends there too.
+// A refused call throws, and a turn ends there too.
 static void check_throwing() {
     Gate gate;
     Seat seat(SETTINGS);

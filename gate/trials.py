@@ -85,10 +85,11 @@ def rounds(pairs):
 
 
 def planned(crate, edits, begins=False):
-    """Returns the trials of a crate's edits. Of one function's bodies all but the first are turned in copies of it, or in
-    other trials. An edit that turns more than one function is tried over the functions that it says refuse it, or else
-    over the whole crate. If none takes the whole crate, and no proofs exist that they begin with, the first trial of
-    bodies leads, with as many as there are."""
+    """Returns the trials of a crate's edits. If there are several bodies of one function, the first is turned in the
+    function itself, and the others in copies of it or in other trials. An edit that turns more than one function is
+    tried over the functions that it says refuse it, or else over the whole crate. If no edit takes the whole crate, and
+    no proofs exist with which the trials could begin, the first trial of bodies comes before all others, with as many
+    bodies as there are."""
     pairs = copies.apart(edits)
     named = [Trial(crate, [it], [it.refused_by]) for it, paths in pairs if not paths and it.refused_by]
     alone = [Trial(crate, [it], [()]) for it, paths in pairs if not paths and not it.refused_by]

@@ -33,11 +33,11 @@ ERROR = re.compile(r"^(?:\./)?proofs/(\S+?)/\w+\.antt:\d+:\d+: error: (?:`([^`]+
 PROOF_ERROR = re.compile(r"^(?:\./)?proofs/\S+\.antt:\d+:\d+: error: (?:`([^`]+)`: )?(.*)$", re.M)
 # A proof names what the edit took away, or rests on a proof that does.
 WENT = re.compile(r"has no field|is not in scope|has no `|was not admitted")
-# A proof that came to no end, within the prover's own limits: it says nothing of what it is to prove.
+# A proof that didn't end within the prover's limits: this says nothing about the statement.
 STOPPED = re.compile(r"stopped at the \w+ limit|ran out of|outgrew the memory limit|came to no verdict")
 # For the output of a whole check: the text by which each ground of a refusal is known, as the prover prints it above the code.
 TOLD_OF_CODE = re.compile(r"note: src/\S+: .*?\b(?:(ensures)|(invariant)|(requires))\b")
-# The last line of a run that came to its end.
+# The last line of a run that ended.
 ENDED = re.compile(r"^only=\d+ proved=\d+$", re.M)
 
 
@@ -93,7 +93,7 @@ def refuted(text):
 
 
 def ended(text):
-    """Whether a run over some functions came to its end."""
+    """Whether a run over some functions ended."""
     return bool(ENDED.search(text))
 
 

@@ -130,8 +130,8 @@ FILES = {
     "crates/told/proofs/named/Answers.antt": ANSWERS,
     "crates/told/proofs/total/Invariants.antt": INVARIANTS,
 }
-# An edit's name, its old and new text, its verdict, and the ground of a refusal. Of the edits of one function all but the first
-# turn copies of it.
+# An edit's name, its old and new text, its verdict, and the ground of a refusal. If several edits turn one function, the first turns
+# the function itself, and the others turn copies of it.
 CASES = [
     ("a_sum_turned_round", "x as u32 + 1", "1 + x as u32", NOT_REFUSED, ""),
     ("adds_two", "x as u32 + 1", "x as u32 + 2", REFUSED, CLAUSE),

@@ -1,9 +1,9 @@
 /*
- * shared WAY THREADS CALLS_A_TURN CALLS: so many calls by threads at one heap, get and put in turn, each at an object of its thread's
- * own. WAY says what a thread goes through for each turn: `gate`, seats that wait at a gate; `fair:TURNS`, seats that wait at a fair
- * one; `seats`, seats that wait at a mutex; `lends`, at one that lends its holder the priority of who waits; or `mutex`, one handle
- * with a mutex round it. It prints the nanoseconds of a call: the time from where the first thread begins to where the last one
- * ends, over all calls.
+ * shared WAY THREADS CALLS_A_TURN CALLS: threads make CALLS calls at one heap, get and put in turn, each at an object of its own. WAY
+ * says how a thread gets each turn: `gate`, by a seat that waits at a gate; `fair:TURNS`, by one that waits at a fair gate; `seats`,
+ * by one that waits at a mutex; `lends`, at a mutex that lends its holder the priority of waiting threads; or `mutex`, by one handle
+ * with a mutex around it. It prints the nanoseconds of a call: the time from the first thread's beginning to the last one's end,
+ * divided by the number of calls.
  */
 #define _POSIX_C_SOURCE 200809L
 #include "measure.h"

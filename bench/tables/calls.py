@@ -18,9 +18,9 @@ CALLS = [
     ("new", "`new`, 3 cells", 4500, 9000, 190),
 ]
 
-# Lines of one command, by turn, with the lines that make ready what they need: 130 objects of 4 references and 4 words, the
-# references all to object 128; 40 arrays of references, each cell with an object of its own; an object in each slot of 64
-# mutators. Of each also how many are counted (twice as many are made ready), and the goal.
+# Lines of one command, by turn, and before them the lines that prepare their objects: 130 objects of 4 references and 4 words, with
+# all references to object 128; 40 arrays of references, each cell with an object of its own; an object in each slot of 64
+# mutators. Each has the number of counted lines (twice as many are prepared), and the goal.
 LONGEST = 252
 OBJECTS = [f"0 new {slot} plain 4 4" for slot in range(130)] + [f"0 store {n // 4} {n % 4} 128" for n in range(512)]
 ARRAYS = []

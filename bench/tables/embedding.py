@@ -7,7 +7,7 @@ from measured import TOP, instructions
 
 
 def printed(*words, **more):
-    """What a program prints, in words."""
+    """Returns the words that a program prints."""
     return subprocess.run([str(it) for it in words], stdout=subprocess.PIPE, text=True, check=True, **more).stdout.split()
 
 
@@ -66,7 +66,7 @@ WAYS = {
 
 
 def row_of_turns(bench, program, number, batch):
-    """The nanoseconds of a call by so many threads with so many calls a turn, and which way is the fastest."""
+    """Returns the nanoseconds of a call, for a number of threads and of calls a turn, and which way is the fastest."""
     calls = 20000 if bench.short else 2000000
     runs = [{way: float(*printed(program, way, number, batch, calls)) for way in WAYS} for _ in range(7)]
     least = {way: min(run[way] for run in runs) for way in WAYS}
@@ -86,7 +86,7 @@ def shared(bench):
 
 
 def real(bench):
-    """What real programs ask of malloc, on heaps that keep a plan (bench/real/run)."""
+    """Returns the rows of real programs' requests to malloc, made of heaps that keep a plan (bench/real/run)."""
     run = [f"{TOP}/bench/real/run", bench.library, *(["--short"] if bench.short else [])]
     ran = subprocess.run(run, stdout=subprocess.PIPE, text=True, check=True)
     heads, _, *rows = [it.strip("| ").split(" | ") for it in ran.stdout.splitlines() if it.startswith("|")]

@@ -51,7 +51,7 @@ module _ (h : HeapState) (m obj first : ℕ) (e : Refusal) (refused : (g : Graph
   put_refused word = refused_each h m (commands.Put obj first word) e (λ g a. cut_short (admitted_to g.limits g.live m false) (slot_at g.limits m obj) (λ r. word_at g.objects (get_or g.roots r 0) first)
       (λ r. words_from (object_of g.objects (get_or g.roots r 0)).shape first) (λ r v. (let x : Reply × Change = (replies.Done, changes.Word (get_or g.roots r 0) first word) in x)) e (refused g a))
 
--- so is a run of such commands
+-- a run of commands that begin with the same tests is refused for the same reason
 module _ (h : HeapState) (m obj first : ℕ) (result : Result ℕ Refusal) (y e : Refusal) (is : result ≡ Err y) (same : y ≡ e) (refused : (g : Graph) → Agrees h g → Err e ≡ word_run g m obj first) where
   result_is : result ≡ Err e
   result_is = is ∙ ap Err same

@@ -31,7 +31,6 @@ pub record Follows (old new : Course) : Type 0 where
   pub grows : (rest : List Entry) × (new.history ≡ old.history ++ rest)
   pub lost : (id : ℕ) → id ≤ length (present_of old).objects → Reaches (present_of new) id → Reaches (present_of old) id
 
--- Whatever events are done, in whatever order: the promises hold of the heap after them, and its history follows the
--- one before them.
+-- The promises hold of the heap after any events in any order, and its history follows the one before them.
 abbrev pub AlwaysHolds : Course → Type 0
 AlwaysHolds r = (es : List Event) (new : Course) → Runs r es new → Holds new × Follows r new

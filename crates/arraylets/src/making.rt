@@ -88,7 +88,7 @@ fn note(spines: &mut Spines, part: u32, block: usize)
     }
 }
 
-/// Makes the parts of an object, in rising part number. Answers the address of part 0.
+/// Makes the parts of an object, in rising part number. Returns the address of part 0.
 #[inline(never)]
 fn make_parts(nodes: &mut Nodes, shape: Shape, parts: &Parts, colour: bool, identity: u64) -> usize
     requires fits { fits shape ≡ true }
@@ -108,8 +108,8 @@ fn make_parts(nodes: &mut Nodes, shape: Shape, parts: &Parts, colour: bool, iden
     spines[0]
 }
 
-/// Makes an object, for whose parts there is room: all cells are null or 0. Each part but part 0 is
-/// written into its spine as soon as it is made. Answers the address of its part 0.
+/// Makes an object with null references and words of 0; there must be room for its parts. Each part except part 0 is
+/// written into its spine as soon as it is made. Returns the address of part 0.
 #[inline(always)]
 pub fn new_object(nodes: &mut Nodes, shape: Shape, colour: bool, identity: u64) -> usize
     requires fits { fits shape ≡ true }

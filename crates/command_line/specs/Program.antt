@@ -65,7 +65,8 @@ figures name = many (figure name)
 abbrev pub by_default : Text → Rule → Rule
 by_default value rule = record rule { defaults = value ∷ [] }
 
--- a subcommand with its configuration, whether its progress is reported and its fault explained, and what it has besides
+-- a subcommand with its configuration, whether its progress is reported and its fault explained, and its other
+-- arguments
 abbrev pub on_config : Text → List Rule → Shape
 on_config name more = record (new_shape name) {
   rules = place (codes "CONFIG") ∷ flag (codes "progress") ∷ flag (codes "explain") ∷ more;

@@ -1,5 +1,5 @@
--- Which job a subcommand and the values of its arguments ask for. Which these are in the words of a command line, is what
--- clap says of the program's rows.
+-- The job for which a subcommand and the values of its arguments ask. clap finds these in the words of a command
+-- line, by the program's rows.
 use Rattle.std.specs.Prelude.{◌≡◌, ◌⊎◌, if◌then◌else◌, ℕ, Bool, true, false, List, [], Option, Some, None, Ok, Err, option_map, unwrap_or, codes}
 use Rattle.std.specs.Borrow.{Bor}
 use Rattle.std.specs.List.{AllZip}

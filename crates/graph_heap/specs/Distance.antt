@@ -1,4 +1,4 @@
--- How far objects are from the roots, and what holds them.
+-- How far objects are from the roots, and their holders.
 use Rattle.std.specs.Prelude.{◌≡◌, ℕ, ◌+◌, ◌<◌, ◌≤◌, List, length, slice_index, slice_index_or}
 use Rattle.graph_heap.specs.Graph.{Graph, object_of}
 use Rattle.graph_heap.specs.Reach.{Path, Reaches}

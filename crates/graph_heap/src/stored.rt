@@ -84,14 +84,14 @@ fn cell_of(takes: bool, cells: &[u64], i: u32) -> Result<u64, Refusal>
     }
 }
 
-/// Returns what a reference cell of an object holds.
+/// Returns the identity in a reference cell of an object, or 0 for null.
 pub fn ref_of(object: &StoredObject, i: u32) -> Result<u64, Refusal>
     ensures { result ≡ ref_cell (object_in object.now) i }
 {
     cell_of(takes_refs(object.shape), object.refs.as_slice(), i)
 }
 
-/// Returns what a word cell of an object holds.
+/// Returns the word in a word cell of an object.
 pub fn word_of(object: &StoredObject, i: u32) -> Result<u64, Refusal>
     ensures { result ≡ word_cell (object_in object.now) i }
 {

@@ -9,6 +9,6 @@ use Rattle.headers.specs.contracts.arena.Arena.{the_row}
 abbrev pub with_words : Memory → List ℕ → Memory
 with_words a words = record { words = refill (length a.words) a.words words; pages = a.pages }
 
--- once the borrow of the words ends, the memory has what was left there
+-- once the borrow of the words ends, the memory has the words that were left there
 abbrev pub LendsWords : MutBor Memory → MutBor (List ℕ) → Fml
 LendsWords a r = Lends the_row (Array u64 0) a r (with_words a.now)

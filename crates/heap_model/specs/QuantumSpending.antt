@@ -27,8 +27,7 @@ pub data NextCosts (h : HeapState) : ℕ → Type 0 where
   Of_move : (p : Page) → MovesNext h p → NextCosts h (size_of p.class)
   Of_other : h.phase ≢ phases.Idle → ((p : Page) → MovesNext h p → ⊥) → NextCosts h 1
 
--- A turn of a budget: actions that fit in it, up to idle or to a heap whose next action costs more than
--- what is left.
+-- A turn of a budget: actions that fit in it, up to idle or to a heap whose next action costs more than the rest.
 pub record QuantumSpends (h : HeapState) (budget : ℕ) (after : HeapState) (spent : ℕ) : Type 0 where
   pub chain : Chain h spent after
   pub within : spent ≤ budget

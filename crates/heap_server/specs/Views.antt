@@ -4,7 +4,7 @@ use Rattle.graph_heap.specs.declared.command.Entry.{Entry}
 use Rattle.heap_model.specs.Event.{Course}
 use Rattle.heap_server.specs.declared.locked.Locked.TheInside.{Inside}
 
--- a seat's mutator, how many calls it has made, and what it has seen of the running history
+-- a seat's mutator, how many calls it has made, and the part of the running history that it has seen
 pub record SeatView : Type 0 where
   pub mutator : ℕ
   pub calls : ℕ
@@ -28,7 +28,7 @@ pub record LockedView : Type 0 where
   pub quanta : ℕ
   pub spent : ℕ
 
--- the fields of what lies under the lock, as contracts see them
+-- the fields under the lock, as contracts see them
 abbrev pub locked_of : {N : Type 0} → Inside N → LockedView
 locked_of l = record {
   course = l.recorded.course;

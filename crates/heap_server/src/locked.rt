@@ -153,10 +153,10 @@ impl<N: Naming> Locked<N> {
         Ok(())
     }
 
-    /// Does a command of the seat's mutator, whole, and enters it with its reply. Room for the entry comes first. Then the heap
-    /// answers what it would reply, and one exchange takes the place word from the length of the history to one more. If the
-    /// word has another number, the log was torn from the history, and nothing has changed. Nor has it if memory for the entry
-    /// is refused.
+    /// Does a command of the seat's mutator, whole, and enters it with its reply. It makes room for the entry first.
+    /// Then the heap gives the reply, without doing the command, and one exchange takes the place word from the
+    /// length of the history to one more. If the word has another number, the log was torn from the history, and
+    /// nothing has changed; nor has it if memory for the entry is refused.
     pub fn transact(
         &mut self,
         place: &HistoryLength<N>,
@@ -246,7 +246,7 @@ impl<N: Naming> Locked<N> {
     }
 }
 
-/// Returns the entry that a command gets if it is done now, with the reply that the heap answers.
+/// Returns the entry that a command gets if it is done now, with the reply of the heap.
 fn next_entry(recorded: &Recorded, mutator: u32, command: Command) -> Entry
     ensures { result ≡ next_entry recorded.now.course mutator command }
 {

@@ -159,7 +159,7 @@ impl<N: Naming> Front<N> {
         }
     }
 
-    /// Afterwards it has seen what both have.
+    /// Learns the part that another front has seen: afterwards it has seen both parts.
     pub fn learn(&mut self, other: &Front<N>)
         ensures this { IsPrefix self.old self.new }
         ensures that { IsPrefix other.now self.new }

@@ -113,7 +113,7 @@ fn reserve_for<N: Naming>(rt: &impl Wait, server: &Server<N>, scripts: &[Vec<Com
     let _refused = server.reserve_history(calls, rt);
 }
 
-/// Takes the server apart once all threads have ended. The numbers are what the pacer shows.
+/// Takes the server apart once all threads have ended. The numbers are those of the pacer.
 fn settled<N: Naming>(
     server: Server<N>,
     seats: Vec<Seat<N>>,

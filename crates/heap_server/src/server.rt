@@ -164,8 +164,8 @@ impl<N: Naming> Server<N> {
     }
 }
 
-/// Returns a seat for each mutator, in rising order, with its part of the ledger of calls. It has seen what the front
-/// has.
+/// Returns a seat for each mutator, in rising order, with its part of the ledger of calls. It has seen the same part
+/// of the history as the front.
 fn seated<N: Naming>(
     alloc: Global,
     config: &Config,
@@ -208,7 +208,7 @@ fn gathered<N: Naming>(mut seats: Vec<Seat<N>>, front: &mut Front<N>) -> Share<C
     calls
 }
 
-/// Returns the part of a seat. The front then knows what it has seen.
+/// Returns the part of a seat. The front then has seen the seat's part of the history too.
 fn given<N: Naming>(seat: Seat<N>, front: &mut Front<N>) -> Share<Calls<N>>
     ensures parts { result.parts ≡ 1 }
     ensures amount { result.amount ≡ seat.calls }

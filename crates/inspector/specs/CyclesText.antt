@@ -27,7 +27,7 @@ abbrev pub separator : Layout → List ℕ
 separator Columns = codes " "
 separator Commas = codes ","
 
--- the figures of a cycle but its line, in their order
+-- the figures of a cycle without its line, in their order
 abbrev pub figures : Cycle → List (Option ℕ)
 figures c =
     Some c.quanta ∷ Some c.units ∷ Some c.longest

@@ -81,7 +81,7 @@ abbrev pub pages_line : Scope → ℕ → ℕ → List ℕ
 pages_line scope needed pages =
     codes "pages " ++ (decimal needed ++ (codes " of " ++ (decimal pages ++ verdict scope (nat_le needed pages))))
 
--- all that is reported of what a run needed
+-- the whole report of a run's needs
 abbrev pub needed_report : Config → Needed → List ℕ
 needed_report c n =
     class_lines (blocks_line n) CLASSES

@@ -25,7 +25,7 @@ fn put_figures(out: &mut [u8], at: usize, filling: Filling) -> usize
     put_named(out, end, b" behind ", filling.behind)
 }
 
-/// Puts the line of a class at the front of an array, and answers the place after it.
+/// Puts the line of a class at the front of an array, and returns the place after it.
 fn put_class(out: &mut [u8; 256], class: Class, filling: Filling) -> usize
     ensures text { take result out.new ≡ class_line class filling }
     ensures place { result ≤ 160 }
@@ -50,7 +50,7 @@ fn write_class<K: Sink>(class: Class, filling: Filling, sink: &mut K) -> Result<
     end_line(sink, &mut out, end)
 }
 
-/// Writes a line for each class that has a page, in rising size, and answers how full all pages in use are.
+/// Writes a line for each class that has a page, in rising size, and returns how full all pages in use are.
 fn write_classes<K: Sink>(heap: &Heap, sink: &mut K) -> Result<Filling, WriteFailed>
     ensures sum { IfOk result (λ all. all ≡ filling_in heap.now.store) }
     ensures within { IfOk result (λ all. IsWithin all 8796093022208) }

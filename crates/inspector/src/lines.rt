@@ -89,7 +89,7 @@ fn write_roots<K: Sink>(heap: &Heap, sink: &mut K) -> Result<(), WriteFailed>
     write_two(sink, b"roots ", all, b" used ", used)
 }
 
-/// Puts what is reported of a page in use at the front of an array, and answers the place after it.
+/// Puts the line of a page in use at the front of an array, and returns the place after it.
 fn put_page(out: &mut [u8; 256], number: usize, page: PageView) -> usize
     ensures text { take result out.new ≡ page_line number page }
     ensures place { result ≤ 120 }
@@ -107,7 +107,7 @@ fn put_page(out: &mut [u8; 256], number: usize, page: PageView) -> usize
     }
 }
 
-/// Writes what is reported of a page; nothing for a free one.
+/// Writes the line of a page; nothing for a free one.
 pub(crate) fn write_page<K: Sink>(
     heap: &Heap,
     number: usize,
@@ -127,8 +127,7 @@ pub(crate) fn write_page<K: Sink>(
     end_line(sink, &mut out, end)
 }
 
-/// Puts how many objects, parts and old copies there are at the front of an array, and answers the place
-/// after it.
+/// Puts the numbers of objects, parts and old copies at the front of an array, and returns the place after them.
 fn put_copies(out: &mut [u8; 256], copies: Copies) -> usize
     ensures text { take result out.new ≡ copies_line copies }
     ensures place { result ≤ 90 }

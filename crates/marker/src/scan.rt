@@ -242,7 +242,7 @@ fn scan_cells(heap: &mut HeapFields, part: u64, cell: usize, count: usize)
 }
 
 /// Scans the next reference cell of a part. If it is null, the cells after it are scanned too, up to the first that
-/// isn't, this many in all at most. Answers how many it scanned.
+/// isn't, at most this many in all. Returns how many it scanned.
 #[inline(always)]
 fn scan_run(heap: &mut HeapFields, part: u64, cell: usize, most: usize) -> usize
     requires heap { IsScanning heap.old part cell }

@@ -30,7 +30,7 @@ abbrev pub ends_as : Result (Unit {0}) PlayFault → Result Ending RunFault
 ends_as (Ok all) = Ok Done
 ends_as (Err fault) = Err (Text fault)
 
--- A new player played a trace, and wrote of each command what the style says. If the sink holds bytes back, they are of
+-- A new player played a trace, and wrote each command in this style. If the sink holds bytes back, they are of
 -- lines that were read at once.
 abbrev pub TracePlayed : Style → Config → Given → Taken → Result Ending RunFault → Type 0
 TracePlayed style config given taken result =

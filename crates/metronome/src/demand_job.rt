@@ -1,4 +1,4 @@
-//! Writes what a trace needs, and on how many pages it finds room.
+//! Writes the needs of a trace, and on how many pages it finds room.
 ghost use Rattle.std.specs.Prelude.{◌≡◌, ◌+◌};
 ghost use Rattle.trace.specs.Streams.{given_by, taken_by, Stays};
 ghost use Rattle.metronome.specs.Faults.{failed_reads, failed_writes};
@@ -15,7 +15,7 @@ use size_classes::Config;
 use std::alloc::Global;
 use trace::{Sink, Source};
 
-/// Plays the trace of a text on a new heap. Writes what it needs there, and on how many pages it finds room.
+/// Plays the trace of a text on a new heap. Writes its needs there, and on how many pages it finds room.
 fn tell_needed<K: Sink>(
     alloc: Global,
     config: &Config,
@@ -31,7 +31,7 @@ fn tell_needed<K: Sink>(
     tell_text(needed_report(alloc, config, &measured.needed, &found), sink)
 }
 
-/// Reads a trace into memory, since it is measured more than once. Writes what it needs on a heap of the configuration,
+/// Reads a trace into memory, since it is measured more than once. Writes its needs on a heap of the configuration,
 /// and on how many pages it finds room. Notes the trace.
 pub fn demand_job<S: Source, K: Sink>(
     alloc: Global,

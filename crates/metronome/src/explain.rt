@@ -66,7 +66,7 @@ fn tell_line<E: Write>(errors: &mut E, words: Words, text: TextLine) -> io::Resu
     writeln!(errors, "metronome: line {number} of {origin} is {line}")
 }
 
-/// Writes a refused line, and what is wrong with it.
+/// Writes a refused line and its fault.
 fn explain_line<E: Write>(
     errors: &mut E,
     words: Words,

@@ -22,7 +22,7 @@ use trace::{
     write_entry,
 };
 
-/// Plays a trace on a new player, and writes of each command what the style says.
+/// Plays a trace on a new player, and writes each command in a style.
 pub fn play_job<S: Source, K: Sink>(
     alloc: Global,
     config: &Config,

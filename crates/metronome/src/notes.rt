@@ -26,7 +26,7 @@ pub struct Notes<'a> {
     pub document: Option<Vec<u8>>,
     /// The configuration.
     pub config: Option<Config>,
-    /// The end of what was read of the other file.
+    /// The last bytes that were read of the other file.
     pub text: Option<Tail>,
     /// The system's error for a file that can't be opened, or for a read that failed.
     pub error: Option<io::Error>,

@@ -12,7 +12,7 @@ abbrev pub ActsOnce : HeapFields → ℕ → HeapFields → Type 0
 ActsOnce old cost new =
     (linked : Store) × Relinks old.nodes linked × Action (record (state_of old) { store = linked }) cost (state_of new)
 
--- Actions are done, one after the other, and what they cost together is within the room.
+-- Actions are done, one after the other, and their cost together is within the room.
 abbrev pub Acts : HeapFields → ℕ → HeapFields → Type 0
 Acts old room new = (cost : ℕ) × Chain (state_of old) cost (state_of new) × (0 < cost) × (cost ≤ room)
 

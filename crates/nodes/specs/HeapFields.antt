@@ -25,8 +25,7 @@ state_of a = record {
   grey = grey_in a.nodes a.grey;
 }
 
--- The heap represents some graph heaps in which no object is too large, and what a cycle may spend is a
--- small number.
+-- The heap represents some graph heaps in which no object is too large, and the limit of a cycle is a small number.
 pub record IsHeap (h : HeapState) : Type 0 where
   pub present : Graph
   pub snapshot : Graph

@@ -11,8 +11,8 @@ use roots::Roots;
 use size_classes::Config;
 use std::alloc::Global;
 
-/// The fields of a heap. Each step of the collector and each write of a mutator is lent them all:
-/// `state_of` says which heap they are, and `AreHeapFields` what holds of them between two steps.
+/// The fields of a heap. Each step of the collector and each write of a mutator borrows them all. `state_of` is the
+/// heap for which they stand, and `AreHeapFields` their invariant between two steps.
 #[derive(Drop)]
 pub struct HeapFields {
     pub config: Config,

@@ -1,6 +1,6 @@
-//! The blocks of a heap: pages and words together. A part of an object stands in one block, and is
-//! read and written block by block. With them the fields of a heap, lent whole to all that acts on it,
-//! and what they represent.
+//! The blocks of a heap: pages and words together. A part of an object stands in one block, and is read and written
+//! block by block. With them come the fields of a heap, which each step borrows whole, and the heap for which they
+//! stand.
 #![tactic(auto)]
 
 pub mod grey;

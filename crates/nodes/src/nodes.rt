@@ -81,8 +81,8 @@ impl Nodes {
         Ok(Nodes { table, arena })
     }
 
-    /// Touches the first pages, this many or all: those that weren't touched before get their words, which are 0. The
-    /// same blocks are allocated, and say what they said.
+    /// Touches the first `pages` pages, or all if there are fewer: clears the words of those that weren't touched
+    /// before. The same blocks are allocated, with the same records.
     pub fn touch(&mut self, pages: usize)
         ensures touched { self.new ≡ touched self.old pages }
         ensures kept { KeepsBlocks self.old self.new }
@@ -135,8 +135,8 @@ impl Nodes {
             .sweep_and_close(&mut self.arena, from, count, colour);
     }
 
-    /// Closes a page, as the sweeper does when it has looked at all its blocks: its marks go, and if no
-    /// block is allocated it becomes free. The same blocks are allocated, and say what they said.
+    /// Closes a page, as the sweeper does when it has looked at all its blocks: its marks go, and if no block is
+    /// allocated it becomes free. The same blocks are allocated, with the same records.
     pub fn close_page(&mut self, page: usize)
         requires { page < length self.old.pages }
         ensures kept { KeepsBlocks self.old self.new }
@@ -251,8 +251,8 @@ impl Nodes {
         self.table.next_allocated(&self.arena, page, from)
     }
 
-    /// Marks a page in use as evacuating: it gets no block from then on. The same blocks are allocated, and say
-    /// what they said.
+    /// Marks a page in use as evacuating: it gets no block from then on. The same blocks are allocated, with the same
+    /// records.
     pub fn leave(&mut self, page: usize)
         requires page { page < length self.old.pages }
         requires is_target { IsSomeAnd (page_at self.old.pages page) (λ p. p.is_target ≡ false) }

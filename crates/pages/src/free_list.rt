@@ -15,7 +15,7 @@ use headers::Arena;
 use headers::block::{self, forward_of, set_forward, set_link};
 use size_classes::Class;
 
-/// Takes the first free block off a page's list, and answers which: it is allocated, and forwards to itself.
+/// Takes the first free block off a page's list, and returns it: it is allocated, and forwards to itself.
 #[inline(always)]
 pub fn pop(arena: &mut Arena, page: usize, row: &mut PageRow) -> usize
     requires page { page < 1048576 }
@@ -70,7 +70,7 @@ pub fn push(words: &mut [u64], page: usize, row: &mut PageRow, index: usize)
     row.allocated -= 1;
 }
 
-/// Links all blocks of a page of a class, each to the next and the last to none. Answers the link to the first.
+/// Links all blocks of a page of a class, each to the next and the last to none. Returns the link to the first.
 #[inline(always)]
 fn link_in(words: &mut [u64], page: usize, class: Class) -> u64
     requires page { page < 1048576 }
@@ -194,7 +194,7 @@ fn look(words: &mut [u64], page: usize, row: &mut PageRow, index: usize, colour:
     push(words, page, row, index);
 }
 
-/// Looks at `count` blocks of a page in a row, from one of them on. Answers the page's record as it is then.
+/// Looks at `count` blocks of a page in a row, from one of them on. Returns the page's record afterwards.
 #[inline(always)]
 fn sweep_in(
     words: &mut [u64],

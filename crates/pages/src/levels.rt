@@ -31,7 +31,7 @@ fn lowest(word: u64) -> usize
     word.trailing_zeros() as usize
 }
 
-/// Sets a bit of one level or clears it. Answers whether the bit of its word in the level above has to become the same.
+/// Sets a bit of one level or clears it. Returns whether the bit of its word in the level above must become the same.
 #[inline(always)]
 fn put(words: &mut [u64], k: usize, on: bool) -> bool
     requires { k < WORD_BITS * length words.old }

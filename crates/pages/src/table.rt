@@ -176,8 +176,8 @@ impl PageTable {
         self.put(page, class, Some(row));
     }
 
-    /// Takes the first free block of a page that isn't evacuating, and answers which. A bit is written only if
-    /// the page has no other free block.
+    /// Takes the first free block of a page that isn't evacuating, and returns it. A bit is written only if the page
+    /// has no other free block.
     #[inline(always)]
     fn take_on(&mut self, arena: &mut Arena, page: usize, class: Class) -> usize
         requires page { page < length self.old }

@@ -36,7 +36,7 @@ all_phases these those = record {
   moving = these.moving || those.moving;
 }
 
--- 1 for what is so, and else 0
+-- 1 if the condition holds, and 0 if it doesn't
 abbrev pub one_if : Bool → ℕ
 one_if so = if so then 1 else 0
 

@@ -31,7 +31,7 @@ quantum_row q = row_text q.commands (Some q.units ∷ Some q.budget ∷ Some (ph
 abbrev pub cycle_row : Cycle → List ℕ
 cycle_row c = row_text c.line (figures c)
 
--- a window: its ticks, and the shares of the mutators in thousandths, the least that they had and what is promised
+-- a window: its ticks, and the shares of the mutators in thousandths, the least that they had and the promised one
 abbrev pub share_row : Share → List ℕ
 share_row s = row_text s.window (Some s.measured ∷ Some s.promised ∷ [])
 

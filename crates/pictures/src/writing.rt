@@ -10,7 +10,7 @@ pub(crate) trait DocumentLine: Copy {
     /// The line, without its LF.
     ghost line: { Self → List ℕ };
 
-    /// Puts it at the front of an array, and answers the place after it.
+    /// Puts it at the front of an array, and returns the place after it.
     fn put(self, out: &mut [u8]) -> usize
         requires { 256 ≤ length out.old }
         ensures text { take result out.new ≡ line self }

@@ -1,4 +1,4 @@
-//! The meter of live words, as what observes a run.
+//! The meter of live words as an observer of a run.
 ghost use Rattle.plans.specs.LiveMeter.{HasMetered};
 
 use crate::live::LiveMeter;

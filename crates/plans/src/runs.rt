@@ -1,4 +1,4 @@
-//! The plans for what a run had live and made.
+//! The plans for the live and the made words of a run.
 ghost use Rattle.std.specs.Prelude.{IfOk, string_bytes};
 ghost use Rattle.plans.specs.Live.{AreClasses, IsRunPlans};
 

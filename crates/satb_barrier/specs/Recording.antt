@@ -14,7 +14,7 @@ with_room items = if length items == 64 then [] else items
 abbrev pub shades : HeapFields → ℕ → Bool
 shades a reference = records a.phase && not ((seen (state_of a)).marked ((seen (state_of a)).forward reference))
 
--- the buffers after what is overwritten was recorded: a main copy that is shaded is in the mutator's own
+-- the buffers after an overwritten reference was recorded: a main copy that is shaded is in the mutator's own
 abbrev pub buffers_after : HeapFields → ℕ → ℕ → List MutatorRecords
 buffers_after a mutator reference =
     if shades a reference then (with_buffer a.grey mutator

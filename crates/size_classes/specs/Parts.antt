@@ -34,7 +34,7 @@ pub record PartContents : Type 0 where
 abbrev pub heads_by : ℕ → ℕ → ℕ
 heads_by k s = if nat_le s 1 then k else s - 1
 
--- the first of what a part holds, of an object with s spines
+-- the first part or cell that a part holds, in an object with s spines
 abbrev pub first_by : ℕ → ℕ → ℕ
 first_by s part = if nat_lt part s then (if part == 0 then 1 else s + PART_CELLS * (part - 1))
     else PART_CELLS * (part - s)

@@ -1,4 +1,4 @@
-//! Size classes, the parts that an object is cut into, and what may be set of a heap: the checked configuration.
+//! Size classes, the parts into which an object is cut, and the settings of a heap: the checked configuration.
 #![tactic(auto)]
 
 pub mod class;

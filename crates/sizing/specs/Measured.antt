@@ -20,7 +20,7 @@ KeepTogether blocks l es = (live : Lives) × AllKeep (WithinBlocks blocks live) 
 abbrev pub KeepGathered : ℕ → Limits → List Event → Type 0
 KeepGathered pages l es = (live : Lives) × AllKeep (WithinPages pages) live (opening_season l) es
 
--- Events keep to a demand in pages, of what is live and of what is made.
+-- Events keep to a demand in pages, of live objects and of made ones.
 abbrev pub KeepPageDemand : PageDemand → Limits → List Event → Type 0
 KeepPageDemand b l es =
     (live : Lives) × ((n : ℕ) → pages_of (live n) ≤ b.live) × AllKeep (WithinPageDemand b) live (opening_season l) es
@@ -29,12 +29,12 @@ KeepPageDemand b l es =
 abbrev pub together_in : Needed → ℕ → ℕ
 together_in n class = slice_index n.together class
 
--- the pages of what is live, and of what is made
+-- the pages of live objects, and of made ones
 abbrev pub page_demand_in : Needed → PageDemand
 page_demand_in n = record { live = n.live; made = n.made }
 
 -- Events keep to a demand taken together, within pages, and to a demand in pages, exactly if these are at least as
--- large as what was needed.
+-- large as the measured needs.
 pub record AreLeast (l : Limits) (es : List Event) (n : Needed) : Type 0 where
   pub together : (blocks : ℕ → ℕ)
       → KeepTogether blocks l es ↔ ((class : ℕ) → class < CLASSES → together_in n class ≤ blocks class)

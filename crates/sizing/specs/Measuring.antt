@@ -15,16 +15,16 @@ use Rattle.sizing.specs.Measured.{IsMeasured}
 use Rattle.sizing.specs.Promises.{Promises}
 use Rattle.sizing.specs.Meter.{Measures}
 
--- This was measured of the events of a run, and what it promises holds of them.
+-- These measurements are those of the events of a run, and their promises hold of it.
 pub record RunMeasured (config : Config) (given : Given) (run : NewRun config given) (m : Measured) : Type 0 where
   pub is : IsMeasured run.old.course.heap.limits run.played.over.events m
   pub promises : Promises config run.played.over.events m
 
--- the lines of an input are played on a new player, and what they needed is answered; or it ends with a fault
+-- the lines of an input are played on a new player, and their needs are returned; or it ends with a fault
 abbrev pub TraceMeasured : Config → Given → Result Measured PlayFault → Type 0
 TraceMeasured = Surveyed RunMeasured
 
--- a run from a new heap, and the meter holds what its events add up to
+-- a run from a new heap, and the meter holds the sums over its events
 pub record HasMeasured (run : Run) (m : Meter) : Type 0 where
   pub opening : IsOpening run.first.heap
   pub pages : 0 < length run.first.heap.store.pages

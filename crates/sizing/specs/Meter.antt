@@ -85,7 +85,7 @@ pub record Needs (l : Limits) (es : List Event) (m : Meter) : Type 0 where
   pub idle : AreBlocks m.idle pace.idle
   pub budget : (k : ℕ) → HaveBudgets k es ↔ IfSome m.budget (λ budget. k ≤ budget)
 
--- two accounts of what is live agree when each cycle up to this one begins
+-- two accounts of live objects agree when each cycle up to this one begins
 abbrev pub AgreeTo : ℕ → Lives → Lives → Type 0
 AgreeTo cycles lives live = (n : ℕ) → n ≤ cycles → live n ≡ lives n
 

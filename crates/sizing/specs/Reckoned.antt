@@ -1,4 +1,4 @@
--- How many pages suffice for what was needed.
+-- How many pages suffice for measured needs.
 use Rattle.std.specs.Prelude.{ℕ, ◌+◌, ◌&&◌, if◌then◌else◌, min, max, nat_le, nat_lt, Bool}
 use Rattle.size_classes.specs.declared.class.TheConstants.{CLASSES}
 use Rattle.size_classes.specs.declared.config.Config.{Config}

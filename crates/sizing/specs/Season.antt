@@ -67,8 +67,8 @@ pub record AsksMost (s : Season) (asked : List ℕ) (old new : Most) : Type 0 wh
       → IsPages new.made (max most (pages_of (λ class. made class + more class)))
   pub live : new.live ≡ old.live
 
--- This many blocks are live when a cycle begins: the most pages of live objects are what they were, or those that
--- these take, if they are more.
+-- This many blocks are live when a cycle begins: the most pages of live objects are as before, or those of these
+-- blocks, if they are more.
 pub record LivesMost (live : List ℕ) (old new : Most) : Type 0 where
   pub same : new ≡ record old { live = new.live }
   pub most : (most : ℕ) (n : ℕ → ℕ) → IsPages old.live most → AreBlocks live n

@@ -1,4 +1,4 @@
-//! The meter, as what observes a run.
+//! The meter as an observer of a run.
 ghost use Rattle.sizing.specs.Measuring.{HasMeasured};
 
 use crate::meter::Meter;

@@ -103,7 +103,7 @@ fn the_limits_of_cycles(rt: HostRuntime) {
     }
 }
 
-/// Commands of mutators, and what is replied to each after those before it.
+/// Commands of mutators, and the reply to each after those before it.
 const ASKED: [(u32, Command, Reply); 8] = [
     (
         0,

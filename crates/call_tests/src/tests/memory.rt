@@ -1,4 +1,4 @@
-//! Heaps where memory may be refused: the answer says so, and nothing has changed then.
+//! Heaps for which memory is refused: the answer says so, and nothing has changed.
 use super::*;
 use graph_heap::{Entry, NoMemory, Reference, Reply};
 use machine::Recorded;

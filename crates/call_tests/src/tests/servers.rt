@@ -25,7 +25,7 @@ const FILL: Command = Command::CompareStatic {
 
 const READ: Command = Command::LoadStatic { dst: 1, k: 0 };
 
-/// Each of two seats makes an object, puts it into the static if that is empty, and loads what the static holds.
+/// Each of two seats makes an object, puts it into the static if that is empty, and loads the static.
 const RACE: [(usize, Command, Reply); 6] = [
     (0, NEW, Reply::Made(1)),
     (1, NEW, Reply::Made(2)),
@@ -182,7 +182,7 @@ fn collect<N: Naming, R: Wait + Abort>(
     assert!(rt; server.quantum(pacer, 256, rt) == Ok(idle));
 }
 
-/// Does what the row says.
+/// Does the call of a row.
 fn follow<N: Naming, R: Wait + Abort>(
     rt: &R,
     alloc: Global,

@@ -15,8 +15,8 @@ impl Reference {
         self.roots.limits()
     }
 
-    /// Returns what the roots hold, each an identity, or 0 for null: the slots of mutator 0, of mutator 1 and so on,
-    /// and then the statics.
+    /// Returns the identities in the roots, 0 for null: those in the slots of mutator 0, of mutator 1 and so on,
+    /// and then those in the statics.
     pub fn roots(&self) -> Result<Vec<u64>, NoMemory>
         ensures { IfOk result (λ roots. roots.items ≡ self.now.roots) }
     {

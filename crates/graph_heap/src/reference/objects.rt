@@ -58,14 +58,14 @@ impl Objects {
         }
     }
 
-    /// Returns what a reference cell holds.
+    /// Returns the identity in a reference cell, or 0 for null.
     pub fn ref_at(&self, id: u64, i: u32) -> Result<u64, Refusal>
         ensures { result ≡ ref_at self.now id i }
     {
         ref_of(self.get(id)?, i)
     }
 
-    /// Returns what a word cell holds.
+    /// Returns the word in a word cell.
     pub fn word_at(&self, id: u64, i: u32) -> Result<u64, Refusal>
         ensures { result ≡ word_at self.now id i }
     {

@@ -48,7 +48,7 @@ impl Roots {
         })
     }
 
-    /// Returns what bounds them.
+    /// Returns their limits.
     pub fn limits(&self) -> &Limits
         ensures limits { result.now ≡ self.now.limits }
         ensures row { length self.now.cells ≡ root_cells self.now.limits }
@@ -56,7 +56,7 @@ impl Roots {
         &self.limits
     }
 
-    /// Returns what a slot of a mutator holds.
+    /// Returns the identity in a slot of a mutator, or 0 for null.
     pub fn slot(&self, mutator: u32, slot: u32) -> Result<u64, Refusal>
         ensures { result ≡ held_at self.now (slot_at self.now.limits mutator slot) }
     {
@@ -64,7 +64,7 @@ impl Roots {
         Ok(self.slots[&(mutator, slot)])
     }
 
-    /// Returns what a static holds.
+    /// Returns the identity in a static, or 0 for null.
     pub fn static_root(&self, k: u32) -> Result<u64, Refusal>
         ensures { result ≡ held_at self.now (static_at self.now.limits k) }
     {
@@ -119,7 +119,7 @@ fn add_slots(
     Ok(())
 }
 
-/// Returns what slots hold, in their order.
+/// Returns the identities in slots, in the order of the slots.
 fn slot_values(alloc: Global, slots: &BTreeMap<(u32, u32), u64>) -> Result<Vec<u64>, NoMemory>
     ensures { IfOk result (λ held. held.items ≡ values slots.now) }
 {

@@ -1,4 +1,4 @@
-//! The log of cycles, as what observes a run.
+//! The log of cycles as an observer of a run.
 ghost use Rattle.inspector.specs.Log.{HasLogged};
 
 use crate::cycles::log::Log;

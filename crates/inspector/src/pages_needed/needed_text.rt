@@ -119,7 +119,7 @@ fn room_line(alloc: Global, found: &Option<Config>) -> Result<String, AllocError
     format!(in alloc; "for this trace {pages}: {keys}")
 }
 
-/// Returns all lines of what was needed.
+/// Returns all lines of a run's needs.
 fn needed_lines(alloc: Global, config: &Config, needed: &Needed) -> Result<String, AllocError>
     ensures { IfOk result (λ text. string_bytes text ≡ needed_report config.now needed.now) }
 {
@@ -133,7 +133,7 @@ fn needed_lines(alloc: Global, config: &Config, needed: &Needed) -> Result<Strin
     .concat(alloc)
 }
 
-/// Returns the lines of what was needed, or that the blocks are too many.
+/// Returns the lines of a run's needs, or that the blocks are too many.
 fn told_of(alloc: Global, config: &Config, needed: &Option<Needed>) -> Result<String, AllocError>
     ensures { IfOk result (λ text. string_bytes text ≡ needed_told config.now needed.now) }
 {

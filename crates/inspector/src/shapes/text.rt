@@ -33,7 +33,7 @@ fn all_line(alloc: Global, held: &Held) -> Result<String, AllocError>
     format!(in alloc; "all{figures}")
 }
 
-/// Returns the lines of what was counted.
+/// Returns the lines of the counts.
 fn lines_of(alloc: Global, counted: &Counted) -> Result<String, AllocError>
     ensures { IfOk result (λ text. string_bytes text
         ≡ flat_map shape_line counted.now.each.entries ++ all_line counted.now.all) }

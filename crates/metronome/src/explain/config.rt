@@ -1,4 +1,4 @@
-//! Writes what is wrong with a configuration.
+//! Explains the fault of a configuration.
 use crate::files::DOCUMENT_BYTES;
 use documents::open_document;
 use size_classes::{ConfigFault, Key, LEAST_BUDGET, MOST_BUDGET, Ranges};
@@ -29,7 +29,7 @@ impl fmt::Display for Told<'_> {
     }
 }
 
-/// Writes what is wrong with the bytes of a refused configuration.
+/// Explains the fault of a refused configuration, from its bytes.
 pub(crate) fn explain_config<E: Write>(
     alloc: Global,
     errors: &mut E,
@@ -85,7 +85,7 @@ fn tell_not_toml<E: Write>(
     writeln!(errors, "")
 }
 
-/// Writes what is wrong with the keys of a configuration.
+/// Explains the fault of a key of a configuration.
 fn tell_key<E: Write>(
     errors: &mut E,
     name: Quoted,

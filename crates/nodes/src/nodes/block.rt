@@ -171,7 +171,7 @@ impl Nodes {
         self.arena.link(block)
     }
 
-    /// Gives an allocated block another link. The same blocks are allocated, and say what they said.
+    /// Gives an allocated block another link. The same blocks are allocated, with the same records.
     pub fn set_link(&mut self, block: usize, link: u64)
         requires { is_allocated self.old block ≡ true }
         ensures linked { self.new ≡ record self.old { words = slice_set self.old.words (block + 3) link } }

@@ -112,7 +112,7 @@ pub const ROWS: &[Row] = &[
         errors: "",
         status: 0,
     },
-    // The report says what the cycle spent.
+    // The report has the units that the cycle spent.
     Row {
         words: &["metronome", "inspect", "config", "text"],
         config: B,

@@ -220,7 +220,7 @@ pub enum Reply {
     Refused(Refusal),
 }
 
-/// An entry of a history: a command, whose it was, and its reply.
+/// An entry of a history: a command, its mutator, and its reply.
 #[derive(Clone, Copy, Debug, PartialEq, Eq)]
 pub struct Entry {
     pub mutator: u32,
@@ -254,6 +254,6 @@ pub enum Change {
     New { cell: usize, id: u64, shape: Shape },
     /// A mutator becomes live.
     Join { mutator: u32 },
-    /// The slots of a mutator get null, and it is live no more.
+    /// All slots of a mutator get null, and it is no longer live.
     Leave { mutator: u32 },
 }

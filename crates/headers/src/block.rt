@@ -1,4 +1,4 @@
-//! A block in a row of words, for loops over many blocks, which are lent the row once.
+//! A block in a row of words, for loops over many blocks, which borrow the row once.
 ghost use Rattle.std.specs.Prelude.{◌≡◌, ◌+◌, ◌<◌, length, slice_index, slice_set};
 ghost use Rattle.heap_model.specs.Header.{header_in};
 ghost use Rattle.heap_model.specs.State.{same_colour};

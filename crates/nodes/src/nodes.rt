@@ -99,7 +99,8 @@ impl Nodes {
         self.table.room(parts)
     }
 
-    /// Gives an allocated block of a page back: it is free. Every other block is allocated or not, and says, as before.
+    /// Gives an allocated block of a page back: it is free. Every other block is allocated or not, with its record,
+    /// as before.
     pub fn give(&mut self, page: usize, index: usize)
         requires { IsSomeAnd (page_at self.old.pages page) (λ p. slice_get p.allocated index ≡ Some true) }
         ensures frees { IfSome (page_at self.old.pages page)

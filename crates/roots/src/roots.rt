@@ -11,8 +11,8 @@ use std::alloc::Global;
 use std::marker::Model;
 
 /// The root cells of a heap: mutator by mutator slot by slot, and then the statics. Each holds a
-/// reference, 0 for null. Beside them, which mutators are live. Contracts see the limits, the cells and
-/// who is live.
+/// reference, 0 for null. Beside them stands which mutators are live. Contracts see the limits, the cells and
+/// the live mutators.
 #[derive(Drop)]
 pub struct Roots {
     limits: Limits,
@@ -65,7 +65,7 @@ impl Roots {
         admit(&self.limits, self.live.as_slice(), mutator, joins)
     }
 
-    /// Says whether a mutator is live; the others stay.
+    /// Sets whether a mutator is live; the others stay.
     pub fn set_live(&mut self, mutator: u32, live: bool)
         requires { mutator < self.old.limits.mutators }
         ensures { self.new ≡ record self.old { live = slice_set self.old.live mutator live } }

@@ -26,7 +26,7 @@ module _ (n k s : ℕ) (a : Pieces n k) (b : Spines k s) where
   pub count_small : (p : ℕ) → k ≤ 63504 → count_by n k s p ≤ 252
   count_small p l = grind arith
 
-  -- a part but part 0 is referred to by an earlier spine
+  -- a part except part 0 is referred to by an earlier spine
   pub referrers_are : (p : ℕ) → 0 < p → p < s + k → (spine_by k s p < s) × (spine_by k s p < p) × (spine_cell_by k s p < count_by n k s (spine_by k s p)) × (first_by s (spine_by k s p) + spine_cell_by k s p ≡ p)
   referrers_are p l m = (grind arith, grind arith, grind arith, grind arith)
 

@@ -15,8 +15,8 @@ pub fn parts_are_small()
     ensures count { (n : ℕ) → n ≤ ARRAY_CELLS → parts_in n ≤ 15938 }
 {}
 
-/// Each part but part 0 is referred to by one cell of an earlier spine, and each cell of a spine refers to
-/// one part. From part 0 each part is at most two steps away.
+/// Each part except part 0 is referred to by one cell of an earlier spine, and each cell of a spine refers to one
+/// part. From part 0 each part is at most two steps away.
 pub fn spines_refer()
     ensures to { (n p : ℕ) → 0 < p → p < parts_in n → (spine_of n p < spines_of n) × (spine_of n p < p)
         × (spine_cell_of n p < (run_of n (spine_of n p)).count)

@@ -19,7 +19,7 @@ block_made h y n shape width words = record h {
   marked = λ x. if x == y then true else h.marked x;
 }
 
--- each part but part 0 is named by one cell, of an earlier part, and each cell names a later part or null
+-- each part except part 0 is named by one cell, of an earlier part, and each cell names a later part or null
 pub record AreLinked (ps : Parts) (spine spine_cell : ℕ → ℕ) : Type 0 where
   pub there : (k : ℕ) → 0 < k → k < ps.count → (spine k < k) × (spine_cell k < ps.width (spine k)) × (ps.link (spine k) (spine_cell k) ≡ k)
   pub back : (p i : ℕ) → p < ps.count → i < ps.width p → 0 < ps.link p i → (spine (ps.link p i) ≡ p) × (spine_cell (ps.link p i) ≡ i) × (p < ps.link p i)

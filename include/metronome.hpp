@@ -248,9 +248,9 @@ public:
         if (const std::uint32_t why = holds(into)) return why;
         return detail::status_of(metronome_new_plain(state->handle(), state->number, into.slot, refs, words));
     }
-    // Makes a new object with `held_count` references, those of the roots `held`, in its first reference cells, and
-    // `word_count` words in its first word cells: at most 252 together. Stores in `done` how many commands were done: the new
-    // object, each store and each word.
+    // Makes a new object. Its first reference cells get the references of the `held_count` roots `held`, and its first word cells
+    // get `word_count` words: at most 252 together. Stores in `done` how many commands were done: the new object, each store and
+    // each word.
     std::uint32_t try_new_with(std::uint32_t refs, std::uint32_t words, const Root *const *held, std::size_t held_count,
                                const std::uint64_t *contents, std::size_t word_count, Root &into, std::uint32_t &done) noexcept {
         std::array<std::uint32_t, 252> slots{};

@@ -138,8 +138,8 @@ public:
         return metronome_pace(handle(), &pacing, words);
     }
 
-    // Makes the heap keep a plan, and reads the work done for it. try_keep returns NO_PLAN if the heap was used already or the
-    // plan doesn't fit it; try_kept returns NO_PLAN if the heap keeps no plan.
+    // Makes the heap keep a plan, and reads the work done for it. Returns NO_PLAN if the heap was used already or the plan doesn't
+    // fit it, or from try_kept if the heap keeps no plan.
     std::uint32_t try_keep(const metronome_flow &flow) noexcept { return metronome_keep(handle(), &flow); }
     std::uint32_t try_kept(metronome_work &work) noexcept { return metronome_kept(handle(), &work); }
 

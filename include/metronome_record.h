@@ -1,19 +1,19 @@
 /*
  * metronome_record.h: metronome.h, with each call written down. A program includes it in place of metronome.h, in each of
- * its files, and names where the lines go:
+ * its files, and names the files of the lines:
  *
  *     #include "metronome_record.h"
  *     metronome_record(fopen("run.toml", "w"), fopen("run.trace", "w"), NULL);
  *
- * The heap that it makes next is recorded from metronome_create to metronome_destroy: its settings as a configuration, and
- * each call as a line of a trace of version 2 (docs/MANUAL.md). `metronome pages run.toml run.trace` then prints how many
- * pages it needs, and `inspect` and `draw` show what fills it. `play` does the calls again, unless the heap keeps a plan:
- * the collector's work for a plan isn't written. Calls that only return a figure or a text are no events of a heap, and
- * aren't written; nor is the time that passes, so `mmu` has no windows to report.
+ * The heap that it makes next is recorded from metronome_create to metronome_destroy. Its settings are written as a
+ * configuration, and each call as a line of a trace of version 2 (docs/MANUAL.md). `metronome pages run.toml run.trace` then
+ * prints how many pages it needs, and `inspect` and `draw` show what fills it. `play` does the calls again, unless the heap
+ * keeps a plan: the collector's work for a plan isn't written. Calls that only return a figure or a text aren't written.
+ * The time that passes isn't written either, so `mmu` has no windows to report.
  *
- * Some calls can't be written: calls of another heap, or of a closed handle; a quantum whose budget is refused; all lines
- * from the first one on that its file doesn't take. Each reason is reported on stderr once, the calls are counted, and the
- * program goes on. Up to such a line the trace is whole, since none of the other calls changes the recorded heap.
+ * Some calls can't be written: calls of another heap, or of a closed handle, and a quantum whose budget is refused. From the
+ * first line that its file doesn't take, no line is written. Each reason is reported on stderr once, the calls are counted,
+ * and the program goes on. Up to such a line the trace is whole, since no other call changes the recorded heap.
  *
  * This is plain C over the calls, and nothing of it is proved. It tells handles apart by their fields, which belong to the
  * library. The calls of a heap come one at a time, and so do their lines.
@@ -60,9 +60,9 @@ struct metronome_recording {
 /* One for all files of a program. */
 __attribute__((weak)) struct metronome_recording metronome_recording;
 
-/* Records the next heap that is made: its settings to the first file, its calls to the second, and each command with its reply,
- * as `metronome play --history` gives them, to the third, unless that is NULL. The files stay the program's, to be closed after
- * metronome_destroy, which flushes them. Nothing is recorded where the first or the second is NULL. */
+/* Records the next heap that is made: its settings to the first file, and its calls to the second. Unless the third is NULL, each
+ * command is written to it with its reply, as `metronome play --history` prints them. The program closes the files after
+ * metronome_destroy, which flushes them. Nothing is recorded if the first or the second is NULL. */
 static inline void metronome_record(FILE *settings, FILE *trace, FILE *history) {
     static const metronome none = METRONOME_CLOSED;
     struct metronome_recording *it = &metronome_recording;
@@ -111,7 +111,7 @@ static inline bool metronome_record_takes(const metronome *heap) {
     return false;
 }
 
-/* Ends the recording where a file didn't take what was written. */
+/* Ends the recording if a file didn't take a line. */
 static inline void metronome_record_look(bool taken) {
     if (taken) return;
     metronome_record_lose(METRONOME_RECORD_FILE);
@@ -127,7 +127,7 @@ static inline bool metronome_record_shape(FILE *file, const metronome_shape *sha
     }
 }
 
-/* Writes a reply, as an entry of a history ends. The shape is looked at where there is one to tell. */
+/* Writes a reply, as an entry of a history ends. The shape is looked at if the reply has one. */
 static inline bool metronome_record_reply(FILE *file, metronome_answer answer, const metronome_shape *shape) {
     static const char *const words[] = { "refused", "made", "ref",      "word", "done",
                                          "stored",  "kept", "keptword", "is",   "described" };

@@ -144,7 +144,7 @@ impl Answer {
         }
     }
 
-    /// None where a comparison held, or else the number that stands there.
+    /// None if a comparison held, or else the number that stands there.
     pub(crate) fn compared(&self) -> Result<Option<u64>> {
         let number = self.number()?;
         Ok(if self.kind() == Kind::Stored { None } else { Some(number) })

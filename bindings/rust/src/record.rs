@@ -16,7 +16,7 @@ use crate::calls::{Answer, Kind, Settings, ShapeTold};
 ///     let (settings, trace) = (Vec::new(), Vec::new()); // or files
 ///     let heap = Heap::recorded(&Settings::new(64, 1, 16), Recording::new(settings, trace))?;
 ///     heap.mutator(0)?.new_plain(1, 2)?;
-///     heap.end_recording()?; // Err where a line wasn't taken
+///     heap.end_recording()?; // Err if a line wasn't taken
 ///     Ok(())
 /// }
 /// ```

@@ -96,7 +96,7 @@ impl Refusal {
         }
     }
 
-    /// The status of metronome.h, where it has one.
+    /// The status of metronome.h, if it has one.
     pub fn status(self) -> Option<u32> {
         match self {
             Refusal::BadSetting(place) => Some(FIRST_SETTING + place),

@@ -7,6 +7,8 @@ pub mod Turns
 pub mod Splitting
 pub mod Rejoining
 pub mod Pasts
+pub mod Paid
+pub mod Plans
 pub mod Members
 pub mod Merging
 pub mod Refuted

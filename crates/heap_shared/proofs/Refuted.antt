@@ -1,4 +1,4 @@
--- No work in a turn can be hidden: what an event leaves contradicts the contracts of the calls around it.
+-- No work in a turn can be hidden: an event contradicts the contracts of the calls around it.
 use Rattle.std.proofs.Common.{◌≡◌, ℕ, suc, ◌+◌, ◌%◌, List, [], ◌∷◌, ◌++◌, true, length, refl, sym, ap, ◌∙◌, subst, arith, Some, None, Ok, append_assoc, length-append}
 use Rattle.std.specs.Prelude.{Option}
 use Rattle.std.specs.List.{All}
@@ -7,7 +7,7 @@ use mathlib.Core.Option as home
 use mathlib.Core.Option.{some-injective, some-ne-none}
 use Rattle.std.proofs.Common.{get_or}
 use Rattle.atomic_table.specs.Table.{opening}
-use Rattle.heap_model.specs.Event.{Course, Event}
+use Rattle.heap_model.specs.Event.{Event}
 use Rattle.heap_shared.specs.declared.shared_heap.SharedConfig.{SharedConfig}
 use Rattle.heap_shared.specs.Accounts.{account_of, events_of}
 use Rattle.heap_shared.specs.Ring.{Ringed}
@@ -18,8 +18,8 @@ use Rattle.heap_shared.specs.declared.rule.Account.{Account}
 use Rattle.heap_shared.specs.Accounts.{member_of, IsOthers, BearsOut, signed}
 use Rattle.heap_shared.specs.Members.{MemberView, own_account, Enters, Leaves, Places, DoesIn, DoesInTurn}
 
--- what an event in the turn leaves
-did_one : {A : Type 0} (event : A → Event) (old : MemberView) (a : A) (new : MemberView) → (t : Option Course) → DoesIn t event old (Some a) new → (new.did ≡ old.did ++ event a ∷ []) × (new.seen ≡ old.seen) × (new.number ≡ old.number)
+-- an event in the turn leaves this
+did_one : {A : Type 0} (event : A → Event) (old : MemberView) (a : A) (new : MemberView) → (t : Option Ringed) → DoesIn t event old (Some a) new → (new.did ≡ old.did ++ event a ∷ []) × (new.seen ≡ old.seen) × (new.number ≡ old.number)
 did_one event old a new None d = absurd (let z : Some a ≡ None = d.0 in cc)
 did_one {A} event old a new (Some r) d =
     let same : d.0 ≡ a = (let z : Some a ≡ Some d.0 = d.2 in cc) in
@@ -51,7 +51,8 @@ no_do_and_leave event old mid new a d left claims =
     let is : new.seen ≡ old.seen ++ signed old.number old.did = ap (λ (v : MemberView). v.seen) claims.3 in
     longer old.seen old.number old.did (event a) ((λ i. sym one.1 i ++ signed (sym one.2 i) (sym one.0 i)) ∙ (sym was ∙ is))
 
--- a turn of one's own before, with an event in it, is told by what is then seen: to enter it, do, leave and enter again isn't to enter
+-- A turn of one's own with an event in it shows in the log that is seen afterwards: to enter, do the event, leave and enter again isn't
+-- to enter.
 own_deed : (a : Account) (log seen between added : List Deed) (d : Deed) → a.number % a.step ≡ a.number → d.by ≡ a.number → a.seen ++ between ≡ seen → (seen ++ d ∷ []) ++ added ≡ log → BearsOut log a → ⊥
 own_deed a log seen between added d named by first then bears =
     let tail : List Deed = between ++ (d ∷ added) in
@@ -78,7 +79,7 @@ module _ {A : Type 0} (event : A → Event) (old m1 m2 m3 : MemberView) (a : A) 
       let seen : m2.seen ≡ entered.0 = one.1 ∙ ap (λ (v : MemberView). v.seen) entered.3 in
       ap (λ (v : MemberView). v.seen) left.3 ∙ (λ i. seen i ++ signed (number i) ((one.0 ∙ ap (λ (es : List Event). es ++ event a ∷ []) none) i))
 
-  -- whatever log goes on from there doesn't bear out what the member had seen
+  -- no log that goes on from there bears out the member's account of before
   no_log : (log : List Deed) → (added : List Deed) → m3.seen ++ added ≡ log → BearsOut log (own_account old) → ⊥
   no_log log added goes bears =
       own_deed (own_account old) log entered.0 entered.4.own.0 added deed named refl entered.4.own.1 (ap (λ (xs : List Deed). xs ++ added) (sym seen_then) ∙ goes) bears

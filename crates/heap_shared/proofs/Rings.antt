@@ -1,5 +1,5 @@
--- The last events of a log, where it grows by one, and the places at which they stand in it.
-use Rattle.std.proofs.Common.{◌≡◌, ◌≢◌, ℕ, ◌+◌, ◌-◌, ◌/◌, ◌%◌, ◌<◌, ◌≤◌, Bool, true, false, List, [], ◌∷◌, ◌++◌, length, drop, map, refl, sym, ap, ◌∙◌, subst, arith, Some, None, length-append, length-drop, drop-drop}
+-- The last events of a log that grows by one, and their places in it.
+use Rattle.std.proofs.Common.{◌≡◌, ◌≢◌, ℕ, ◌+◌, ◌-◌, ◌%◌, ◌<◌, ◌≤◌, Bool, true, false, List, [], ◌∷◌, ◌++◌, length, drop, map, refl, sym, ap, ◌∙◌, subst, arith, Some, None, length-append, length-drop, drop-drop}
 use Rattle.std.specs.Prelude.{Option, slice_get, nat_le, ok_or, if◌then◌else◌}
 use Rattle.std.proofs.lemmas.Bool.Decides.{nat_tests}
 use Rattle.std.proofs.lemmas.List.{drop-append-le, drop-map, length-map, map-append}
@@ -12,10 +12,8 @@ use Rattle.paced.specs.declared.logged.Logged.{Logged}
 use Rattle.heap_shared.specs.declared.fault.NoEntry.TheVariants.{Gone}
 use Rattle.paced.specs.Logged.{event_of}
 use Rattle.heap_shared.specs.Ring.{entry_ago, IsKeptAt, TellsEntry}
-use Rattle.heap_shared.specs.Turns.{word_of}
-use Rattle.heap_shared.proofs.Words.{half}
 
--- what is kept of a longer log is what is kept of what was kept, and the new event
+-- a longer log keeps the last of the events that were kept and the new event
 pub kept_more : (kept : ℕ) (log : List Event) (e : Event) → keep_last kept (keep_last kept log ++ e ∷ []) ≡ keep_last kept (log ++ e ∷ [])
 kept_more kept log e =
     let from = length log - kept in
@@ -24,7 +22,7 @@ kept_more kept log e =
     let places : from + (length (drop from more) - kept) ≡ length more - kept = omega (arith, length-drop from more, length-append log (e ∷ [])) in
     ap (keep_last kept) grown ∙ (drop-drop (length (drop from more) - kept) from more ∙ ap (λ (n : ℕ). drop n more) places)
 
--- the events of what is kept
+-- the events of the entries that are kept
 kept_events : (kept : ℕ) (items : List Logged) → map event_of (keep_last kept items) ≡ keep_last kept (map event_of items)
 kept_events kept items = sym (drop-map event_of (length items - kept) items) ∙ ap (λ (n : ℕ). drop (n - kept) (map event_of items)) (sym (length-map items event_of))
 
@@ -38,7 +36,11 @@ kept_on old new log e is was =
     ∙ (kept_more old.capacity log (event_of e)
     ∙ ap (λ (b : Buffer Logged). keep_last b.capacity (log ++ event_of e ∷ [])) (sym is)))))
 
--- the event of so long ago
+-- the length of a log with one more event, as it wraps
+pub more_by_one : (log more : List Event) (e : Event) (count after : ℕ) → count ≡ length log % 18446744073709551616 → after ≡ (count + 1) % 18446744073709551616 → more ≡ log ++ e ∷ [] → after ≡ length more % 18446744073709551616
+more_by_one log more e count after was is grown = let n = ap length grown in let l = length-append log (e ∷ []) in omega (arith, was, is, n, l)
+
+-- the event of that long ago is found
 ago_in : (items : List Logged) (ago n : ℕ) (b : Bool) → option_map event_of (if b then slice_get items (n - ago) else None) ≡ (if b then slice_get (map event_of items) (n - ago) else None)
 ago_in items ago n true = sym (slice_get-map event_of items (n - ago))
 ago_in items ago n false = refl
@@ -52,9 +54,9 @@ logged_ago items log kept ago told was is =
     ∙ ap (λ (es : List Event). if nat_le ago (length es) then slice_get es (length es - ago) else None) was))
 
 -- how long ago a place is, as places wrap
-module _ (log : List Event) (place word ago : ℕ) (at : word ≡ word_of (length log)) (since : (place + ago) % 9223372036854775808 ≡ (word / 2) % 9223372036854775808) (wraps : ago < 9223372036854775808) where
+module _ (log : List Event) (place count ago : ℕ) (at : count ≡ length log % 18446744073709551616) (since : (place + ago) % 9223372036854775808 ≡ count % 9223372036854775808) (wraps : ago < 9223372036854775808) where
   length_is : (place + ago) % 9223372036854775808 ≡ length log % 9223372036854775808
-  length_is = let l = half (length log) word at in omega (arith, since, l)
+  length_is = omega (arith, since, at)
 
   pub not_yet : ago ≡ 0 → place % 9223372036854775808 ≡ length log % 9223372036854775808
   not_yet none = let l = length_is in omega (arith, l, none)
@@ -62,7 +64,7 @@ module _ (log : List Event) (place word ago : ℕ) (at : word ≡ word_of (lengt
   passed : ago ≢ 0 → place % 9223372036854775808 ≢ length log % 9223372036854775808
   passed some same = let l = length_is in omega (arith, l, wraps, some, same)
 
-  -- a number of this place is so long ago
+  -- a number of this place is that long ago
   there : (q kept : ℕ) → kept < 9223372036854775808 → ago ≢ 0 → IsKeptAt kept log place q → q + ago ≡ length log
   there q kept small some is = let l = length_is in omega (arith, l, wraps, some, small, is.0, is.1, is.2)
 
@@ -73,7 +75,7 @@ module _ (log : List Event) (place word ago : ℕ) (at : word ≡ word_of (lengt
     ring_length : length (keep_last kept log) ≡ length log - (length log - kept)
     ring_length = length-drop (length log - kept) log
 
-    -- what there is of so long ago
+    -- the entry of that long ago
     abbrev Found : Option Event → Type 0
     Found None = (place % 9223372036854775808 ≢ length log % 9223372036854775808) × ((q : ℕ) → ¬ IsKeptAt kept log place q)
     Found (Some e) = (q : ℕ) × IsKeptAt kept log place q × (slice_get log q ≡ Some e)
@@ -94,6 +96,6 @@ module _ (log : List Event) (place word ago : ℕ) (at : word ≡ word_of (lengt
     told_so None f = f
     told_so (Some e) f = f
 
-    -- what is told of a place where there was an event
+    -- an entry is found at a place that had an event
     pub tells : (told : Option Logged) → option_map event_of told ≡ entry_ago kept log ago → TellsEntry kept log place (ok_or told Gone)
     tells told is = told_so told (subst Found (sym is) (found (nat_le ago (length (keep_last kept log))) refl))

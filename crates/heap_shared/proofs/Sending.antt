@@ -16,6 +16,7 @@ use Rattle.circular_buffer.specs.contracts.cells.Deed as deed
 use Rattle.circular_buffer.specs.contracts.heap.HeapCircularBuffer as buffer
 use Rattle.circular_buffer.proofs.Crosses.{Cells-send, Deed-send}
 use Rattle.ghosts.proofs.Sent.{ghost_sends}
+use Rattle.heap_shared.specs.contracts.log.HeapLog as log
 use Rattle.heap_shared.specs.contracts.member.Member.{the_row}
 use Rattle.heap_shared.specs.contracts.rule.Known as known
 use Rattle.heap_shared.specs.contracts.shared_heap.SharedHeap as heap
@@ -44,9 +45,12 @@ deed_send T = Deed-send T global.the_row ghosts crossing.frees
 buffer_send : (T : RattleType) → IsSend T → IsSend (buffer.the_row T global.the_row ghosts)
 buffer_send T s = search (sendable, crossing.crosses, Cells-send, deed_send) depth 40 fits 20000
 
--- a heap with its history
+-- a heap with its log
+log_sends : IsSend log.the_row
+log_sends = search (sendable, crossing.crosses, ghost_sends, buffer_send) depth 40 fits 20000
+
 heap_sends : IsSend heap.the_row
-heap_sends = search (sendable, crossing.crosses, ghost_sends, buffer_send) depth 40 fits 20000
+heap_sends = search (sendable, crossing.crosses, log_sends) depth 40 fits 20000
 
 seat_sends : IsSend (seat.the_row heap.the_row known.the_row)
 seat_sends = seat_send heap.the_row known.the_row heap_sends

@@ -12,19 +12,29 @@ history_of [] = []
 history_of (Command_done m c reply ∷ es) = (record { mutator = m; command = c; reply = reply }) ∷ history_of es
 history_of (e ∷ es) = history_of es
 
--- the events, and that place
+-- the events that led to a heap, and the place of its history at which the last cycle began
 pub record PastView : Type 0 where
   pub events : List Event
   pub place : ℕ
 
--- a heap with its past
+-- a heap with the history of its past
 abbrev pub course_of : HeapState → PastView → Course
 course_of h p = record { heap = h; history = history_of p.events; place = p.place }
 
--- an event was done
+-- one more event was done
 abbrev pub with_event : PastView → Event → PastView
 with_event p Cycle_begun = record { events = p.events ++ Cycle_begun ∷ []; place = length (history_of p.events) }
 with_event p e = record { events = p.events ++ e ∷ []; place = p.place }
+
+-- more events were done, one after the other
+abbrev pub with_events : PastView → List Event → PastView
+with_events p [] = p
+with_events p (e ∷ es) = with_events (with_event p e) es
+
+-- a log has all events, and the number of the last ones that it keeps
+pub record LogView : Type 0 where
+  pub past : PastView
+  pub kept : ℕ
 
 -- Events lead to a heap with its history, from one that was just made.
 pub record IsLed (es : List Event) (r : Course) : Type 0 where

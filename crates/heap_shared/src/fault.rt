@@ -1,40 +1,43 @@
-//! Why a member is refused.
+//! The reasons why a member is refused.
 use thiserror::Error;
 
-/// Why a member doesn't get the turn.
+/// A reason why a member doesn't get the turn.
 #[derive(Clone, Copy, Debug, PartialEq, Eq, Error)]
 pub enum NoTurn {
     /// Another member has it.
     #[error("the turn is taken")]
     Taken,
-    /// It has it already.
+    /// The member has it already.
     #[error("inside a turn")]
     Inside,
 }
 
-/// Why a command isn't done.
+/// A reason why a command isn't done.
 #[derive(Clone, Copy, Debug, PartialEq, Eq, Error)]
 pub enum NotDone {
-    /// The member hasn't the turn.
+    /// The member doesn't have the turn.
     #[error("outside a turn")]
     Outside,
     /// The mutator isn't one of the member's.
     #[error("not the member's mutator")]
     NotYours,
+    /// The new object has more words than the heap's plan has for a whole cycle.
+    #[error("object above the words of a cycle")]
+    AbovePlan,
 }
 
-/// Why there is no entry at a place.
+/// A reason why there is no entry at a place.
 #[derive(Clone, Copy, Debug, PartialEq, Eq, Error)]
 pub enum NoEntry {
-    /// It is the place behind the last entry.
+    /// The place is the one behind the last entry.
     #[error("not there yet")]
     NotYet,
-    /// The entry there isn't one of the last ones, that the ring has room for.
+    /// The entry there isn't one of the last, which the ring has room for.
     #[error("not kept")]
     Gone,
 }
 
-/// Why there is no other member.
+/// A reason why there is no other member.
 #[derive(Clone, Copy, Debug, PartialEq, Eq, Error)]
 pub enum NoMember {
     /// The member has the turn.

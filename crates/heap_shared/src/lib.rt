@@ -1,6 +1,6 @@
-//! A heap that threads share where none of them waits in here: a member takes its turn where no other has it, does as many
-//! commands of its own mutators as it likes, and gives the turn back. The log of the heap exists in proofs alone, but for its
-//! last entries, where a ring for them is asked for.
+//! A heap that threads share, and none of them waits in here. A member takes its turn if no other has it, does as many commands of
+//! its own mutators as it likes, and gives the turn back. The log of the heap exists in proofs alone, except its last entries, if a
+//! ring for them is asked for. The heap may keep a plan.
 #![tactic(auto)]
 
 mod crossing;
@@ -8,7 +8,9 @@ mod deed;
 mod fault;
 mod fitting;
 mod laws;
+mod log;
 mod member;
+mod pacing;
 mod past;
 mod ring;
 mod rule;
@@ -18,6 +20,7 @@ pub use crossing::members_cross;
 pub use deed::{Deed, Happened, Stood};
 pub use fault::{NoEntry, NoMember, NoTurn, NotDone};
 pub use laws::{histories_merge, logs_merge, no_event_is_hidden, nothing_is_done_between};
+pub use log::HeapLog;
 pub use member::Member;
 pub use past::Past;
 pub use ring::Ring;

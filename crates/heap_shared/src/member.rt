@@ -1,53 +1,45 @@
 //! Members of a shared heap.
-ghost use Rattle.std.specs.Prelude.{◌≡◌, ◌<◌, ◌+◌, ◌%◌, [], IfOk, IfSome, Ok, None};
+ghost use Rattle.std.specs.Prelude.{◌≡◌, ◌*◌, [], IfOk, IfSome, Ok, None};
 ghost use Rattle.std.specs.Fn.{FnOnceReturnsAt, FnOnceReturnsAtMut};
+ghost use Rattle.std.specs.Option.{option_map};
+ghost use Rattle.graph_heap.specs.declared.command.Command.TheVariants as commands;
 ghost use Rattle.heap_model.specs.Settings.{settings_by};
 ghost use Rattle.machine.specs.Recorded.{begin_done, quantum_done};
-ghost use Rattle.heap_shared.specs.Members.{Enters, Leaves, Places, Calls, DoesInTurn, Finds, FindsEntry, Adds, before_giving, Learns, IsPromised};
+ghost use Rattle.paced.specs.Pacing.{MakesNothing};
+ghost use Rattle.heap_shared.specs.Members.{Enters, Leaves, Places, Calls, DoesInTurn, FindsIn, Finds, FindsEntry, Adds, before_giving, Learns, IsPromised};
 ghost use Rattle.heap_shared.specs.Methods.{IsMethodOf};
+ghost use Rattle.heap_shared.specs.Ring.{figures_of};
 ghost use mathlib.Core.List.{IsPrefix};
 
 use crate::fault::{NoEntry, NoMember, NoTurn, NotDone};
 use crate::fitting::fitting_first;
+use crate::ring::entries_since;
 use crate::rule::{
     Cut, Enter, Halve, Known, Learn, Leave, Look, Rejoin, Spare, TURN_WORD, TurnRule, WORDS,
 };
 use crate::shared_heap::{SharedConfig, SharedHeap};
 use atomic_table::{Refused, Seat, Table};
-use graph_heap::{Command, NoMemory, Reply};
+use graph_heap::{Command, NoMemory, Reply, Shape};
 use machine::{BudgetOutOfRange, Busy, Heap, Spent};
-use paced::Logged;
+use paced::{AbovePlan, Cycle, Figures, Logged};
 use size_classes::Config;
 use std::alloc::Global;
 use std::marker::Model;
 use std::sync::Arc;
 
 /// A member of a heap that threads share. It calls for the mutators from one number on and below another, and no other
-/// member calls for these. Contracts see what it has seen of the history, and the heap with its history while it has the
-/// turn. It keeps what others write off the cache lines on which it lies. It is given up by `end` or `learn` alone, neither of
-/// which takes one that has the turn: so who has it can't be lost.
+/// member calls for these. Contracts see the part of the log that it has seen and, in its turn, the heap with its history. Its
+/// fields lie on cache lines of their own, which other threads don't write. Only `end`, `learn` and `rejoin` give a member up,
+/// and none of them takes one that has the turn: so the turn can't be lost.
 #[repr(C)]
 pub struct Member {
     before: Apart,
     table: Arc<Table<SharedHeap, Known, SharedConfig, TurnRule, Global>, Global>,
     seat: Seat<SharedHeap, Known>,
-    /// What the word is to be once this member gives the turn back.
-    word: u64,
     from: u32,
     to: u32,
     inside: bool,
     behind: Apart,
-}
-
-/// How many places there are until they begin anew.
-const PLACES: u64 = 9_223_372_036_854_775_808;
-
-/// How many entries there are from a place on, where the log has a length, as both wrap.
-fn entries_since(place: u64, length: u64) -> u64
-    ensures since { (place + result) % 9223372036854775808 ≡ length % 9223372036854775808 }
-    ensures wraps { result < 9223372036854775808 }
-{
-    length.wrapping_sub(place) % PLACES
 }
 
 /// Memory that is never written, as long as two cache lines.
@@ -66,14 +58,14 @@ impl Model for Member {
         × (16 < (arc_value m.table).shared.table_id.words)
         × (m.seat.me.0.config ≡ Some (arc_value m.table).shared.key)
         × (m.seat.me.0.from ≡ m.from) × (m.seat.me.0.to ≡ m.to)
-        × IsMember (arc_value m.table).shared.key m.inside m.word m.seat.me };
+        × IsMember (arc_value m.table).shared.key m.inside m.seat.me };
 }
 
 impl Member {
-    /// The first member of a new heap, which calls for all mutators. Of the log no entry is kept. Refused only for lack
-    /// of memory.
+    /// Makes a heap, and its first member, which calls for all mutators. The heap keeps no entry of its log, and no plan. Refused
+    /// only for lack of memory.
     pub fn new(alloc: Global, config: &Config) -> Result<Member, NoMemory>
-        ensures settings { IfOk result (λ m. (m.settings ≡ settings_by config.now) × (m.ring ≡ 0)) }
+        ensures settings { IfOk result (λ m. (m.settings ≡ settings_by config.now) × (m.ring ≡ 0) × (m.plan ≡ None)) }
         ensures mutators { IfOk result (λ m. (m.from ≡ 0) × (m.to ≡ config.now.mutators)) }
         ensures numbers { IfOk result (λ m. (m.number ≡ 0) × (m.step ≡ 1)) }
         ensures seen { IfOk result (λ m. (m.seen ≡ []) × (m.learnt ≡ [])) }
@@ -85,14 +77,17 @@ impl Member {
             &SharedConfig {
                 config: *config,
                 ring: 0,
+                plan: None,
             },
         )
     }
 
-    /// The same, of a heap that keeps the last entries of its log, as many as are asked for. All memory for them is
-    /// taken here.
+    /// Does the same as `new`, for a heap that keeps the last entries of its log and a plan, if they are asked for. It takes all
+    /// memory for these entries here.
     pub fn with_ring(alloc: Global, asked: &SharedConfig) -> Result<Member, NoMemory>
-        ensures settings { IfOk result (λ m. (m.settings ≡ settings_by asked.now.config) × (m.ring ≡ asked.now.ring)) }
+        ensures settings { IfOk result (λ m. (m.settings ≡ settings_by asked.now.config) × (m.ring ≡ asked.now.ring)
+            × (m.plan ≡ asked.now.plan)) }
+        ensures budget { IfOk result (λ m. m.budget ≡ asked.now.config.collector_ticks * asked.now.config.rate) }
         ensures mutators { IfOk result (λ m. (m.from ≡ 0) × (m.to ≡ asked.now.config.mutators)) }
         ensures numbers { IfOk result (λ m. (m.number ≡ 0) × (m.step ≡ 1)) }
         ensures seen { IfOk result (λ m. (m.seen ≡ []) × (m.learnt ≡ [])) }
@@ -109,7 +104,6 @@ impl Member {
                     before: [0; 16],
                     table,
                     seat,
-                    word: 0,
                     from: 0,
                     to: asked.config.mutators,
                     inside: false,
@@ -120,7 +114,7 @@ impl Member {
         }
     }
 
-    /// Another member of the same heap, which calls for this one's mutators from a number on, and has seen what it has.
+    /// Makes another member of the same heap. It calls for this one's mutators from a number on, and has seen the same log.
     pub fn another(&mut self, from: u32) -> Result<Member, NoMember>
         ensures { Adds self.old from result self.new }
     {
@@ -144,7 +138,6 @@ impl Member {
             before: [0; 16],
             table,
             seat,
-            word: 0,
             from,
             to,
             inside: false,
@@ -152,7 +145,7 @@ impl Member {
         })
     }
 
-    /// Takes back what it gave to another member, of which nothing was asked since.
+    /// Takes back the mutators that it gave to another member, which did nothing since.
     pub fn rejoin(&mut self, made: Member)
         requires { Adds (before_giving self.old made) made.from (Ok made) self.old }
         ensures { self.new ≡ before_giving self.old made }
@@ -161,7 +154,6 @@ impl Member {
             before: _,
             table: _,
             seat,
-            word: _,
             from: _,
             to,
             inside: _,
@@ -191,12 +183,11 @@ impl Member {
         if found != seen {
             return Err(NoTurn::Taken);
         }
-        self.word = seen;
         self.inside = true;
         Ok(())
     }
 
-    /// Gives the turn back, where it has it.
+    /// Gives the turn back, and returns whether the member had it.
     #[inline(always)]
     pub fn leave(&mut self) -> bool
         ensures leaves { Leaves self.old result self.new }
@@ -205,14 +196,15 @@ impl Member {
         if !self.inside {
             return false;
         }
+        let events = self.seat.slot_mut(&self.table.shared, 0).count();
         self.table
             .shared
-            .store::<Leave>(&mut self.seat, TURN_WORD, self.word);
+            .store::<Leave>(&mut self.seat, TURN_WORD, events.wrapping_mul(2));
         self.inside = false;
         true
     }
 
-    /// The place in the log behind its last event, as places wrap at 2^63, where the member hasn't the turn. It waits for nobody.
+    /// Returns the place in the log behind its last event, modulo 2^63, if the member doesn't have the turn. It waits for nobody.
     pub fn place(&mut self) -> Option<u64>
         ensures places { Places self.old result self.new }
         ensures grows { IsPrefix self.old.seen self.new.seen }
@@ -223,15 +215,41 @@ impl Member {
         Some(self.table.shared.load::<Look>(&mut self.seat, TURN_WORD) / 2)
     }
 
-    /// Does a command of one of its mutators, where it has the turn, and replies.
+    /// Does a command of one of its mutators in the turn, and returns the reply.
     pub fn call(&mut self, mutator: u32, command: Command) -> Result<Reply, NotDone>
         ensures { Calls self.old mutator command result self.new }
     {
+        if let Command::New { dst, shape } = command {
+            return self.make(mutator, dst, shape);
+        }
         self.call_by(mutator, command, |heap| heap.step(mutator, command))
     }
 
-    /// Does a command of one of its mutators by the heap's method for it, where it has the turn, and replies. It is in line
-    /// down to that method.
+    /// Makes an object for one of its mutators in the turn, and returns the reply. If the heap keeps a plan, the collector first
+    /// works as much as the plan requires for the object.
+    #[inline(always)]
+    pub fn make(&mut self, mutator: u32, dst: u32, shape: Shape) -> Result<Reply, NotDone>
+        ensures { Calls self.old mutator (commands.New dst shape) result self.new }
+    {
+        if !self.inside {
+            return Err(NotDone::Outside);
+        }
+        let yours = self.from <= mutator && mutator < self.to;
+        if !yours {
+            return Err(NotDone::NotYours);
+        }
+        match self
+            .seat
+            .slot_mut(&self.table.shared, 0)
+            .make(mutator, dst, shape)
+        {
+            Ok(reply) => Ok(reply),
+            Err(AbovePlan) => Err(NotDone::AbovePlan),
+        }
+    }
+
+    /// Does a command that makes no object, of one of its mutators, by the heap's method for it, in the turn. Returns the reply.
+    /// All of it down to that method is in line.
     #[inline(always)]
     pub fn call_by<F: FnOnce(&mut Heap) -> Reply + Drop>(
         &mut self,
@@ -241,6 +259,7 @@ impl Member {
     ) -> Result<Reply, NotDone>
         requires callable { F.IsAlwaysCallable method }
         requires does { IsMethodOf mutator command (FnOnceReturnsAtMut F.FnOnce method) }
+        requires nothing { MakesNothing command }
         ensures { Calls self.old mutator command result self.new }
     {
         if !self.inside {
@@ -249,7 +268,6 @@ impl Member {
         if mutator < self.from || self.to <= mutator {
             return Err(NotDone::NotYours);
         }
-        self.word = self.word.wrapping_add(2);
         Ok(
             self.seat
                 .slot_mut(&self.table.shared, 0)
@@ -257,29 +275,29 @@ impl Member {
         )
     }
 
-    /// Begins a cycle of the collector, unless one is running, where it has the turn.
+    /// Begins a cycle of the collector in the turn, unless one is running.
     pub fn begin(&mut self) -> Option<Result<(), Busy>>
-        ensures { DoesInTurn begin_done self.old result self.new }
+        ensures does { DoesInTurn begin_done self.old result self.new }
+        ensures figures { option_map figures_of self.new.turn ≡ option_map figures_of self.old.turn }
     {
         if !self.inside {
             return None;
         }
-        self.word = self.word.wrapping_add(2);
         Some(self.seat.slot_mut(&self.table.shared, 0).begin())
     }
 
-    /// Spends units of a budget on the cycle that is running, where it has the turn.
+    /// Spends units of a budget, in the turn, on the cycle that is running.
     pub fn quantum(&mut self, budget: u32) -> Option<Result<Spent, BudgetOutOfRange>>
-        ensures { DoesInTurn (quantum_done budget) self.old result self.new }
+        ensures does { DoesInTurn (quantum_done budget) self.old result self.new }
+        ensures figures { option_map figures_of self.new.turn ≡ option_map figures_of self.old.turn }
     {
         if !self.inside {
             return None;
         }
-        self.word = self.word.wrapping_add(2);
         Some(self.seat.slot_mut(&self.table.shared, 0).quantum(budget))
     }
 
-    /// What is found of the heap, where the member has the turn.
+    /// Returns what `look` finds in the heap, in the turn.
     pub fn inspect<T, F: FnOnce(&Heap) -> T + Drop>(&mut self, look: F) -> Option<T>
         requires { F.IsAlwaysCallable look }
         ensures { Finds (FnOnceReturnsAt F.FnOnce look) self.old result self.new }
@@ -290,26 +308,43 @@ impl Member {
         Some(self.seat.slot_mut(&self.table.shared, 0).inspect(look))
     }
 
-    /// The event at a place of the log, where the member has the turn. Places count from 0, and wrap at 2^63.
+    /// Returns the last cycle that ended, in the turn.
+    pub fn last_cycle(&mut self) -> Option<Cycle>
+        ensures { FindsIn (λ r cycle. cycle ≡ r.cycles.ended) self.old result self.new }
+    {
+        if !self.inside {
+            return None;
+        }
+        Some(self.seat.slot_mut(&self.table.shared, 0).last_cycle())
+    }
+
+    /// Returns the work that the collector did because the plan required it, in the turn; or that the heap keeps no plan.
+    pub fn figures(&mut self) -> Option<Option<Figures>>
+        ensures { FindsIn (λ r told. told ≡ figures_of r) self.old result self.new }
+    {
+        if !self.inside {
+            return None;
+        }
+        Some(self.seat.slot_mut(&self.table.shared, 0).figures())
+    }
+
+    /// Returns the event at a place of the log, in the turn. Places count from 0, and wrap at 2^63.
     pub fn entry(&mut self, place: u64) -> Option<Result<Logged, NoEntry>>
         ensures { FindsEntry place self.old result self.new }
     {
         if !self.inside {
             return None;
         }
-        let ago = entries_since(place, self.word / 2);
+        let heap = self.seat.slot_mut(&self.table.shared, 0);
+        let ago = entries_since(place, heap.count());
         if ago == 0 {
             return Some(Err(NoEntry::NotYet));
         }
-        let entry = self
-            .seat
-            .slot_mut(&self.table.shared, 0)
-            .entry_ago(ago as usize);
-        Some(entry.ok_or(NoEntry::Gone))
+        Some(heap.entry_ago(ago as usize).ok_or(NoEntry::Gone))
     }
 
-    /// Learns what another member can tell of the log, where both are of one heap; of another heap it learns nothing. Nobody
-    /// calls for the other one's mutators any more.
+    /// Takes over another member's account of the log, if both are members of one heap. From a member of another heap it learns
+    /// nothing. Nobody calls for the other member's mutators any more.
     pub fn learn(&mut self, other: Member)
         requires { other.turn ≡ None }
         ensures { Learns self.old other self.new }
@@ -318,7 +353,6 @@ impl Member {
             before: _,
             table: _,
             seat,
-            word: _,
             from: _,
             to: _,
             inside: _,
@@ -331,7 +365,7 @@ impl Member {
             .join_seat::<Learn>(&mut self.seat, fitting);
     }
 
-    /// Gives the member up. The heap's memory is given back with its last member.
+    /// Gives the member up. The last member of a heap gives the heap's memory back.
     pub fn end(self)
         requires { self.turn ≡ None }
     {
@@ -339,7 +373,6 @@ impl Member {
             before: _,
             table: _,
             seat: _,
-            word: _,
             from: _,
             to: _,
             inside: _,
@@ -347,7 +380,7 @@ impl Member {
         } = self;
     }
 
-    /// What is promised of the heap and its history, where the member has the turn. It does nothing.
+    /// States the promises of the heap with its history, in the turn. It does nothing.
     pub fn promise(&mut self)
         ensures same { self.new ≡ self.old }
         ensures promised { IfSome self.old.turn (IsPromised self.old) }

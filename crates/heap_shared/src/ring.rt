@@ -1,5 +1,5 @@
 //! The last entries of a log.
-ghost use Rattle.std.specs.Prelude.{◌≡◌, ◌-◌, ◌<◌, ◌∷◌, ◌++◌, [], length, slice_get, IfOk, None, if◌then◌else◌, nat_le};
+ghost use Rattle.std.specs.Prelude.{◌≡◌, ◌+◌, ◌-◌, ◌%◌, ◌<◌, ◌∷◌, ◌++◌, [], length, slice_get, IfOk, None, if◌then◌else◌, nat_le};
 ghost use Rattle.circular_buffer.specs.Buffer.{buffer, keep_last};
 ghost use Rattle.paced.specs.declared.logged.Logged.TheVariants as logged;
 
@@ -7,6 +7,17 @@ use circular_buffer::HeapCircularBuffer;
 use graph_heap::{Command, NoMemory, Reply};
 use paced::Logged;
 use std::alloc::Global;
+
+/// How many places there are, until they begin anew.
+const PLACES: u64 = 9_223_372_036_854_775_808;
+
+/// Returns how many entries a log of this length has from a place on, if both wrap.
+pub(crate) fn entries_since(place: u64, length: u64) -> u64
+    ensures since { (place + result) % 9223372036854775808 ≡ length % 9223372036854775808 }
+    ensures wraps { result < 9223372036854775808 }
+{
+    length.wrapping_sub(place) % PLACES
+}
 
 /// The last entries of a log, at most as many as its capacity. All its memory is taken when it is made.
 pub struct Ring {
@@ -20,7 +31,7 @@ impl Drop for Ring {
 }
 
 impl Ring {
-    /// One without entries, of this capacity. Refused only for lack of memory.
+    /// Makes a ring of this capacity without entries. Refused only for lack of memory.
     pub(crate) fn new(alloc: Global, capacity: usize) -> Result<Ring, NoMemory>
         ensures { IfOk result (λ r. r.entries ≡ buffer [] capacity) }
     {
@@ -28,7 +39,7 @@ impl Ring {
         Ok(Ring { entries })
     }
 
-    /// An event was done. Where the ring is full, its oldest entry goes.
+    /// Enters an event that was done. If the ring is full, its oldest entry goes.
     #[inline(always)]
     pub(crate) fn enter(&mut self, event: Logged)
         ensures { self.new.entries ≡ buffer (keep_last self.old.entries.capacity (self.old.entries.items ++ event ∷ []))
@@ -39,7 +50,7 @@ impl Ring {
         }
     }
 
-    /// The same of a command: it is made an event only where the ring has room for entries.
+    /// Does the same for a command. It is made an event only if the ring has room for entries.
     #[inline(always)]
     pub(crate) fn enter_command(&mut self, mutator: u32, command: Command, reply: Reply)
         ensures { self.new.entries ≡ buffer
@@ -56,7 +67,7 @@ impl Ring {
         }
     }
 
-    /// The same, where the ring has room for entries.
+    /// Does the same for a ring that has room for entries.
     #[inline(never)]
     fn push(&mut self, event: Logged)
         ensures { self.new.entries ≡ buffer (keep_last self.old.entries.capacity (self.old.entries.items ++ event ∷ []))
@@ -65,7 +76,7 @@ impl Ring {
         self.entries.push_back(event);
     }
 
-    /// The entry that was entered so many entries ago, 1 for the last, where the ring has it.
+    /// Returns the entry that was entered `ago` entries ago, 1 for the last, if the ring has it.
     pub(crate) fn entry_ago(&self, ago: usize) -> Option<Logged>
         ensures entry { result ≡ (if nat_le ago (length self.now.entries.items)
             then slice_get self.now.entries.items (length self.now.entries.items - ago)

@@ -35,7 +35,7 @@ seat_so call does told Says Tells so tells (Ok s) new asks = (asks.0, asks.1, so
 pub finds_so : {A : Type 0} (look Finding : HeapState → A → Type 0) → ((h : HeapState) (a : A) → look h a → Finding h a)
     → (old : MemberView) (answer : Option A) (new : MemberView) → Finds look old answer new → Finds Finding old answer new
 finds_so look Finding so old None new finds = finds
-finds_so look Finding so old (Some a) new finds = (finds.0, finds.1, so finds.0.heap a finds.2, finds.3)
+finds_so look Finding so old (Some a) new finds = (finds.0, finds.1, so finds.0.course.heap a finds.2, finds.3)
 
 -- what is told of a heap that is looked at in the turn
 pub tells_in_turn : {A : Type 0} (figure : HeapState → A) (look : HeapState → A → Type 0) → ((h : HeapState) (a : A) → look h a → a ≡ figure h)

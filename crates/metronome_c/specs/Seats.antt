@@ -92,7 +92,7 @@ ShapesSeat old m c new before told =
 pub record IsNewSeat (ring : ℕ) (s : Settings) (m : MemberView) : Type 0 where
   pub config : Config
   pub of : IsOf s config
-  pub settings : (m.settings ≡ settings_by config) × (m.ring ≡ ring)
+  pub settings : (m.settings ≡ settings_by config) × (m.ring ≡ ring) × (m.plan ≡ None)
   pub mutators : (m.from ≡ 0) × (m.to ≡ config.mutators)
   pub numbers : (m.number ≡ 0) × (m.step ≡ 1)
   pub seen : (m.seen ≡ []) × (m.learnt ≡ [])

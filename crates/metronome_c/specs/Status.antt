@@ -68,6 +68,7 @@ no_turn_status turns.Inside = statuses.Inside
 abbrev pub not_done_status : NotDone → Status
 not_done_status undone.Outside = statuses.Outside
 not_done_status undone.NotYours = statuses.NotYours
+not_done_status undone.AbovePlan = statuses.AbovePlan
 
 -- the status of why there is no other member
 abbrev pub no_member_status : NoMember → Status

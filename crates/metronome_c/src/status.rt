@@ -161,6 +161,7 @@ impl Status {
         match why {
             NotDone::Outside => Status::Outside,
             NotDone::NotYours => Status::NotYours,
+            NotDone::AbovePlan => Status::AbovePlan,
         }
     }
 

@@ -52,6 +52,10 @@ same_plan t Begin_refused = refl
 same_plan t (Quantum_done budget units phase) = refl
 same_plan t (Quantum_refused budget) = refl
 
+pub path_plan : (Passes : PacedState → Event → Type 0) (es : List Event) (old new : PacedState) → Path Passes old es new → new.counts.plan ≡ old.counts.plan
+path_plan Passes [] old new p = ap (λ (v : PacedState). v.counts.plan) p
+path_plan Passes (e ∷ es) old new p = path_plan Passes es p.0 new p.4 ∙ (ap (λ (t : Counts). t.plan) p.3 ∙ same_plan old.counts e)
+
 -- the collector's work keeps the plan
 work_keeps : (words : ℕ) (v : PacedState) (e : Event) → WorksFor words v e → KeepsPlan v e
 work_keeps words v (Command_done m c reply) w = absurd w

@@ -21,8 +21,7 @@ pub extern "C" fn metronome_seat_new_plain(
         (seat_in seat.new) result }
 {
     let shape = Shape::Plain { refs, words };
-    let command = Command::New { dst, shape };
-    seat.answer(mutator, command, |heap| heap.make(mutator, dst, shape))
+    seat.make(mutator, dst, shape)
 }
 
 /// A new array of reference cells, into slot dst.
@@ -37,8 +36,7 @@ pub extern "C" fn metronome_seat_new_refs(
         (seat_in seat.new) result }
 {
     let shape = Shape::RefArray(refs);
-    let command = Command::New { dst, shape };
-    seat.answer(mutator, command, |heap| heap.make(mutator, dst, shape))
+    seat.make(mutator, dst, shape)
 }
 
 /// A new array of word cells, into slot dst.
@@ -53,8 +51,7 @@ pub extern "C" fn metronome_seat_new_words(
         (seat_in seat.new) result }
 {
     let shape = Shape::WordArray(words);
-    let command = Command::New { dst, shape };
-    seat.answer(mutator, command, |heap| heap.make(mutator, dst, shape))
+    seat.make(mutator, dst, shape)
 }
 
 /// What a reference cell holds into slot dst.

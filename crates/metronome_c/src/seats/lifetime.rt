@@ -44,7 +44,12 @@ pub(super) fn create(seat: &mut MetronomeSeat, settings: &Settings, ring: usize)
         Err(fault) => return Status::of_fault(fault).number(),
     };
     let alloc = seat.alloc;
-    let Ok(made) = Member::with_ring(alloc, &SharedConfig { config, ring }) else {
+    let asked = SharedConfig {
+        config,
+        ring,
+        plan: None,
+    };
+    let Ok(made) = Member::with_ring(alloc, &asked) else {
         return Status::NoMemory.number();
     };
     match seat.put(made) {

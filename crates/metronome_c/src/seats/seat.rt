@@ -2,6 +2,8 @@
 ghost use Rattle.std.specs.Prelude.{◌≡◌, ◌==◌, Some, None, IsSome, false, MatchResult};
 ghost use Rattle.std.specs.Option.{is_some};
 ghost use Rattle.std.specs.Fn.{FnOnceReturnsAt, FnOnceReturnsAtMut};
+ghost use Rattle.graph_heap.specs.declared.command.Command.TheVariants as commands;
+ghost use Rattle.paced.specs.Pacing.{MakesNothing};
 ghost use Rattle.heap_shared.specs.Members.{Finds};
 ghost use Rattle.heap_shared.specs.Methods.{IsMethodOf};
 ghost use Rattle.metronome_c.specs.Asking.{Asks};
@@ -12,7 +14,7 @@ ghost use Rattle.metronome_c.specs.declared.status.Status.TheVariants.{Outside};
 use crate::answer::{Answer, MetronomeShape};
 use crate::seats::handle::SeatHandle;
 use crate::status::Status;
-use graph_heap::{Command, Reply};
+use graph_heap::{Command, Reply, Shape};
 use heap_shared::Member;
 use machine::Heap;
 use std::alloc::Global;
@@ -151,6 +153,7 @@ impl MetronomeSeat {
     ) -> Result<Reply, Status>
         requires callable { F.IsAlwaysCallable method }
         requires does { IsMethodOf mutator command (FnOnceReturnsAtMut F.FnOnce method) }
+        requires nothing { MakesNothing command }
         ensures { DoesSeat (seat_in self.old) mutator command (seat_in self.new) (λ told. result ≡ told) }
     {
         if !self.is_open() {
@@ -177,12 +180,35 @@ impl MetronomeSeat {
     ) -> Answer
         requires callable { F.IsAlwaysCallable method }
         requires does { IsMethodOf mutator command (FnOnceReturnsAtMut F.FnOnce method) }
+        requires nothing { MakesNothing command }
         ensures { AnswersSeat (seat_in self.old) mutator command (seat_in self.new) result }
     {
         Answer::from_outcome(self.call(mutator, command, method))
     }
 
-    /// The same of a description, and tells the shape that the reply tells.
+    /// Makes an object for a mutator, if there is a seat that may, and replies.
+    #[inline(always)]
+    fn make_object(&mut self, mutator: u32, dst: u32, shape: Shape) -> Result<Reply, Status>
+        ensures { DoesSeat (seat_in self.old) mutator (commands.New dst shape) (seat_in self.new) (λ told. result ≡ told) }
+    {
+        if !self.is_open() {
+            return Err(self.why_empty());
+        }
+        match self.handle.lend().member().make(mutator, dst, shape) {
+            Ok(made) => Ok(made),
+            Err(why) => Err(Status::of_not_done(why)),
+        }
+    }
+
+    /// The same, and tells the reply.
+    #[inline(always)]
+    pub(super) fn make(&mut self, mutator: u32, dst: u32, shape: Shape) -> Answer
+        ensures { AnswersSeat (seat_in self.old) mutator (commands.New dst shape) (seat_in self.new) result }
+    {
+        Answer::from_outcome(self.make_object(mutator, dst, shape))
+    }
+
+    /// Does a description, and tells the shape that the reply tells.
     pub(super) fn describe(&mut self, mutator: u32, a: u32, shape: &mut MetronomeShape) -> Answer
         ensures { ShapesSeat (seat_in self.old) mutator (Command.Describe a) (seat_in self.new) shape.old
             (result, shape.new) }

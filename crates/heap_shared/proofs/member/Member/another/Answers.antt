@@ -13,7 +13,7 @@ compare_exchange-requires c =
     let words : 16 < c.deref.result.now.shared.table_id.words = subst (λ t. 16 < t.shared.table_id.words) (sym d) c.self.invariant.1 in
     let key = c.deref.result.now.shared.key in
     let n = c.from-cut.result in
-    let out = carries_none _ _ _ _ c.if-self.false c.self.invariant.5 in
+    let out = carries_none _ _ _ c.if-self.false c.self.invariant.5 in
     let id = c.self.inside.seat.id in
     let me = c.self.inside.seat.me in (
       c.self.invariant.0 ∙ sym (ap (λ t. t.shared.table_id) d),
@@ -26,7 +26,7 @@ split_seat-seat-requires c =
     let d = c.deref-2.ensures in
     let words : 16 < c.deref-2.result.now.shared.table_id.words = subst (λ t. 16 < t.shared.table_id.words) (sym d) c.self.invariant.1 in
     let key = c.deref-2.result.now.shared.key in
-    let out = carries_none _ _ _ _ c.if-self.false c.self.invariant.5 in
+    let out = carries_none _ _ _ c.if-self.false c.self.invariant.5 in
     let seat = c.compare_exchange.new.seat in
     let did = c.compare_exchange.ensures in
     let from : c.from-cut.result ≡ c.args.from = search rules in

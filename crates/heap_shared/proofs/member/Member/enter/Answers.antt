@@ -16,7 +16,7 @@ compare_exchange-found-requires c =
     let key = c.deref-2.result.now.shared.key in
     let n = c.peek-seen.result in
     let even : n % 2 ≡ 0 = search rules in
-    let out = carries_none _ _ _ _ c.if-self.false c.self.invariant.5 in
+    let out = carries_none _ _ _ c.if-self.false c.self.invariant.5 in
     let id = c.self.inside.seat.id in
     let me = c.self.inside.seat.me in (
       c.self.invariant.0 ∙ sym (ap (λ t. t.shared.table_id) d),
@@ -33,7 +33,7 @@ returns-clause-enters c =
     let same : c.compare_exchange-found.result ≡ c.peek-seen.result = search rules in
     subst (λ (v : MemberView). Enters v (Ok tt) (shown_by seat.table_id key seat.me)) c.self.view_is
     (subst (λ (t : TableId). Enters (shown_by table key c.self.inside.seat.me) (Ok tt) (shown_by t key seat.me)) (sym did.0)
-    (enters_so table key _ _ _ c.self.inside.seat.me seat.me c.if-self.false c.self.invariant.5 c.self.invariant.2 (did.2.0 same)))
+    (enters_so table key _ _ c.self.inside.seat.me seat.me c.if-self.false c.self.invariant.5 c.self.invariant.2 (did.2.0 same)))
 
 pub invariant_of-self-2 : goal.invariant_of-self-2
 invariant_of-self-2 c =
@@ -46,5 +46,5 @@ invariant_of-self-2 c =
       ap (λ (y : Me Ringed Known). y.0.config) h.has ∙ i.2,
       ap (λ (y : Me Ringed Known). y.0.from) h.has ∙ i.3,
       ap (λ (y : Me Ringed Known). y.0.to) h.has ∙ i.4,
-      entered _ _ _ _ i.2 h _ (sym same),
+      entered _ _ _ _ i.2 h,
     )

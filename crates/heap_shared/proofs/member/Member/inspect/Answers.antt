@@ -7,4 +7,4 @@ returns g c =
     let has : c.self.inside.inside ≡ true = search rules in
     let i = c.self.invariant.5 in
     let value = c.slot_mut.ensures.value in
-    (_, has_turn _ _ _ _ _ _ has i value _ c.self.view_is, c.inspect.ensures, stays _ _ _ _ _ _ has i value _ c.self.view_is)
+    (_, has_turn _ _ _ _ _ has i value _ c.self.view_is, c.inspect.ensures, stays _ _ _ _ _ has i value _ c.self.view_is)

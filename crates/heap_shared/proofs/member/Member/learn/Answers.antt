@@ -32,7 +32,7 @@ join_seat-requires c =
     let at = c.self.invariant.0 ∙ sym (ap (λ t. t.shared.table_id) d) in
     let none = ap (λ (v : MemberView). v.turn) c.other.view_is ∙ c.requires in
     let here : (fits.table_id ≡ spare.table_id) × (fits.me.1 ≡ []) = ⊎_elim
-    (λ t. (ap (λ s. s.table_id) t.1 ∙ t.0, ap (λ s. s.me.1) t.1 ∙ empty_handed _ _ _ _ none c.other.invariant.5))
+    (λ t. (ap (λ s. s.table_id) t.1 ∙ t.0, ap (λ s. s.me.1) t.1 ∙ empty_handed _ _ _ none c.other.invariant.5))
     (λ t. (ap (λ s. s.table_id) t.1, ap (λ s. s.me.1) t.1 ∙ ap (λ m. m.1) split.4))
     c.fitting_first-fitting.ensures in (
       split.0 ∙ at,
@@ -55,5 +55,5 @@ invariant_of-self c =
       ap (λ (y : Me Ringed Known). y.0.config) at ∙ i.2,
       ap (λ (y : Me Ringed Known). y.0.from) at ∙ i.3,
       ap (λ (y : Me Ringed Known). y.0.to) at ∙ i.4,
-      subst (IsMember (arc_value c.self.inside.table).shared.key c.self.inside.inside c.self.inside.word) (sym at) (learnt_still _ _ _ mine.me _ i.5),
+      subst (IsMember (arc_value c.self.inside.table).shared.key c.self.inside.inside) (sym at) (learnt_still _ _ mine.me _ i.5),
     )

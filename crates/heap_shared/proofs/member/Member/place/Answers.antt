@@ -10,7 +10,7 @@ load-requires c =
     let d = c.deref.ensures in
     let words : 16 < c.deref.result.now.shared.table_id.words = subst (λ t. 16 < t.shared.table_id.words) (sym d) c.self.invariant.1 in
     let key = c.deref.result.now.shared.key in
-    let out = carries_none _ _ _ _ c.if-self.false c.self.invariant.5 in
+    let out = carries_none _ _ _ c.if-self.false c.self.invariant.5 in
     let id = c.self.inside.seat.id in
     let me = c.self.inside.seat.me in (
       c.self.invariant.0 ∙ sym (ap (λ t. t.shared.table_id) d),
@@ -24,4 +24,4 @@ returns-clause-places c =
     let old = c.self.inside.seat in
     let new = c.load.new.seat in
     shown_so (λ v w. Places v (Some (c.load.result / 2)) w) old.table_id new.table_id key old.me new.me _ c.load.ensures.0 c.self.view_is
-    (places_so old.table_id key _ _ old.me new.me (c.load.result / 2) c.if-self.false c.self.invariant.5 c.self.invariant.2 c.load.ensures.2)
+    (places_so old.table_id key _ old.me new.me (c.load.result / 2) c.if-self.false c.self.invariant.5 c.self.invariant.2 c.load.ensures.2)

@@ -16,7 +16,7 @@ join_seat-requires c =
     let here = ap (λ (v : MemberView). v.heap) c.made.view_is ∙ (given.0 ∙ sym (ap (λ (v : MemberView). v.heap) c.self.view_is)) in (
       at,
       here ∙ at,
-      empty_handed _ _ _ _ (ap (λ (v : MemberView). v.turn) c.made.view_is ∙ given.1) c.made.invariant.5,
+      empty_handed _ _ _ (ap (λ (v : MemberView). v.turn) c.made.view_is ∙ given.1) c.made.invariant.5,
       omega (arith, words),
       rejoins c.deref.result.now.shared.key mine.id mine.me.0 theirs.id theirs.me.0 _ c.made.invariant.2 (half_shown _ _ (arc_value c.self.inside.table).shared.key (arc_value c.made.inside.table).shared.key _ _ _ _ c.self.view_is c.made.view_is _ _ c.requires),
     )

@@ -1,34 +1,20 @@
-use Rattle.std.proofs.Common.{◌≡◌, ◌++◌, [], ◌∷◌, sym, ap, ◌∙◌, List}
-use Rattle.circular_buffer.specs.Buffer.{Buffer, keep_last}
+use Rattle.std.proofs.Common.{◌∙◌, [], ◌∷◌, ap}
 use Rattle.heap_model.specs.Event.{Event}
 use Rattle.machine.specs.Recorded.{quantum_done}
-use Rattle.paced.specs.declared.logged.Logged.{Logged}
-use Rattle.heap_shared.specs.Past.{with_event}
-use Rattle.heap_shared.proofs.Rings.{kept_on}
-use Rattle.heap_shared.proofs.Pasts.{quantum_goes, led_now, goes_by, events_now}
+use Rattle.heap_shared.specs.Past.{LogView, with_event}
+use Rattle.heap_shared.proofs.Pasts.{led_now, goes_now}
 use Rattle.heap_shared.proofs.shared_heap.SharedHeap.quantum.Goals as goal
 
 pub invariant_of-self : goal.invariant_of-self
 invariant_of-self c =
-    let h = c.self.inside.heap in
-    let p = c.self.inside.past.value in
+    let s = c.self.inside in
     let a = c.quantum-told.result in
-    let event = c.from_quantum-event in
-    let now = c.went_on-self-inside in
-    let ring = c.enter.new.self.entries in
-    let is : now.result.value ≡ with_event p (quantum_done c.args.budget a) = now.ensures ∙ ap (with_event p) event.ensures in
-    let does = quantum_goes h p c.args.budget _ a c.quantum-told.ensures.spends in (
-      led_now h _ p now.result.value (quantum_done c.args.budget a) is does c.self.invariant.0,
-      kept_on c.self.inside.ring.entries ring p.events event.result c.enter.ensures c.self.invariant.1
-          ∙ (ap (λ (e : Event). keep_last ring.capacity (p.events ++ e ∷ [])) event.ensures
-          ∙ ap (λ (es : List Event). keep_last ring.capacity es) (sym (events_now h _ p now.result.value (quantum_done c.args.budget a) is does))),
-    )
+    let at = ap (λ (x : LogView). x.past) c.enter.ensures ∙ ap (λ (e : Event). with_event s.log.past e) c.from_quantum.ensures in
+    led_now (quantum_done c.args.budget a ∷ []) s.heap c.quantum-told.new.heap s.log.past c.enter.new.self.past s.cycles c.quantum-told.new.cycles at c.self.invariant c.quantum-told.ensures.cycles
 
-pub returns : goal.returns
-returns c =
-    let h = c.self.inside.heap in
-    let p = c.self.inside.past.value in
+pub returns-clause-goes : goal.returns-clause-goes
+returns-clause-goes c =
+    let s = c.self.inside in
     let a = c.quantum-told.result in
-    let now = c.went_on-self-inside in
-    let is : now.result.value ≡ with_event p (quantum_done c.args.budget a) = now.ensures ∙ ap (with_event p) c.from_quantum-event.ensures in
-    goes_by h _ p now.result.value (quantum_done c.args.budget a) is (quantum_goes h p c.args.budget _ a c.quantum-told.ensures.spends) _ _ _ c.self.view_is (ap (λ (b : Buffer Logged). b.capacity) c.enter.ensures)
+    let at = ap (λ (x : LogView). x.past) c.enter.ensures ∙ ap (λ (e : Event). with_event s.log.past e) c.from_quantum.ensures in
+    goes_now (quantum_done c.args.budget a ∷ []) s.heap c.quantum-told.new.heap s.log.past c.enter.new.self.past s.cycles c.quantum-told.new.cycles at c.self.invariant c.quantum-told.ensures.cycles _ _ _ s.pacer c.quantum-told.new.pacer c.self.view_is (ap (λ (x : LogView). x.kept) c.enter.ensures) c.quantum-told.ensures.keeps

@@ -1,7 +1,7 @@
 use Rattle.paced.specs.Logged.{event_of}
 use Rattle.heap_shared.specs.Past.{with_event}
-use Rattle.heap_shared.proofs.shared_heap.SharedHeap.call_by.Given as goal
+use Rattle.heap_shared.proofs.log.HeapLogLog.enter.Given as goal
 
 -- the past after the call
 abbrev pub ghost-went_on : goal.ghost-went_on
-ghost-went_on g a = with_event a.past.now.value (event_of a._event)
+ghost-went_on a = with_event a.past.now.value (event_of a._event)

@@ -1,0 +1,25 @@
+use Rattle.std.proofs.Common.{ℕ, ◌∙◌, refl, sym, ap}
+use Rattle.circular_buffer.specs.Buffer.{Buffer, keep_last}
+use Rattle.paced.specs.declared.logged.Logged.{Logged}
+use Rattle.paced.specs.Logged.{event_of}
+use Rattle.heap_shared.specs.Past.{PastView, LogView, with_event}
+use Rattle.heap_shared.proofs.Pasts.{next_event}
+use Rattle.heap_shared.proofs.Rings.{kept_on, more_by_one}
+use Rattle.heap_shared.proofs.log.HeapLogLog.enter.Goals as goal
+
+pub invariant_of-self : goal.invariant_of-self
+invariant_of-self c =
+    let p = c.self.inside.past.value in
+    let now = c.went_on-self-inside.result.value in
+    let ring = c.enter.new.self.entries in
+    let es = ap (λ (x : PastView). x.events) c.went_on-self-inside.ensures ∙ next_event p (event_of c.args.event) in (
+      kept_on c.self.inside.ring.entries ring p.events c.args.event c.enter.ensures c.self.invariant.0 ∙ ap (keep_last ring.capacity) (sym es),
+      more_by_one p.events now.events (event_of c.args.event) _ _ c.self.invariant.1 refl es,
+    )
+
+pub returns : goal.returns
+returns c =
+    let p = c.self.inside.past.value in
+    ap (λ (x : PastView). record { past = x; kept = c.enter.new.self.entries.capacity }) c.went_on-self-inside.ensures
+    ∙ ap (λ (n : ℕ). record { past = with_event p (event_of c.args.event); kept = n }) (ap (λ (b : Buffer Logged). b.capacity) c.enter.ensures)
+    ∙ ap (λ (l : LogView). record l { past = with_event l.past (event_of c.args.event) }) c.self.view_is

@@ -1,4 +1,4 @@
--- A log that bears out accounts is a merge of what these say was done.
+-- A log that bears out accounts is a merge of the deeds that these have.
 use Rattle.std.proofs.Common.{◌≡◌, ◌≢◌, ℕ, suc, ◌%◌, ◌<◌, ◌≤◌, ◌⊎◌, inl, inr, Bool, true, false, true≢false, List, [], ◌∷◌, ◌++◌, refl, sym, ap, ◌∙◌, arith, append-nil}
 use Rattle.std.specs.Prelude.{nat_eq, if◌then◌else◌, slice_index_or}
 use Rattle.std.specs.List.{All}
@@ -17,7 +17,7 @@ use Rattle.heap_shared.specs.Merged.{has_mutator, commands_by, is_covered, Cover
 use Rattle.heap_shared.proofs.Accounts.{mine_others, mine_same}
 use Rattle.heap_shared.proofs.Pasts.{history_append}
 
--- no entry is a mutator's where no event is its command
+-- if no event is a mutator's command, no entry is the mutator's
 entries_apart : (es : List Event) (m : ℕ) → All (λ e. IsCommandOf m e → ⊥) es → All (λ e. e.mutator ≢ m) (history_of es)
 entries_apart [] m all = All-nil (λ (e : Entry). e.mutator ≢ m)
 entries_apart (Command_done k c reply ∷ es) m all =
@@ -30,7 +30,7 @@ entries_apart (Quantum_refused budget ∷ es) m all = entries_apart es m (λ j e
 deeds_apart : (log : List Deed) (m : ℕ) → All (λ d. IsCommandOf m d.event → ⊥) log → All (λ e. e.mutator ≢ m) (history_by log)
 deeds_apart log m all = entries_apart (events_of log) m (All-map (λ (e : Event). IsCommandOf m e → ⊥) (λ (d : Deed). d.event) log all)
 
--- of an account's mutators the history has the entries that were seen
+-- the history has those entries of an account's mutators that were seen
 bears_mine : (a : Account) (log : List Deed) (m : ℕ) → BearsOut log a → IsWithin a.from a.to m → mine (history_by log) m ≡ mine (history_by a.seen) m
 bears_mine a log m b within =
     ap (λ (xs : List Deed). mine (history_by xs) m) (sym b.1)
@@ -38,7 +38,7 @@ bears_mine a log m b within =
     ∙ (ap (λ (hs : List Entry). mine hs m) (history_append (events_of a.seen) (events_of b.0))
     ∙ mine_same (history_by a.seen) (history_by b.0) m (deeds_apart b.0 m (λ k d lt of. b.2 k d lt (mutator_of m) within of))))
 
--- whose mutator it is
+-- a mutator is an account's
 within_of : (a : Account) (m : ℕ) → has_mutator a m ≡ true → IsWithin a.from a.to m
 within_of a m has = grind (arith, nat_tests)
 
@@ -112,7 +112,7 @@ deeds_are (a ∷ rest) log n bears covered =
 pub logs_merge : (log : List Deed) (accounts : List Account) → All (BearsOut log) accounts → CoverAll accounts → (n : ℕ) → deeds_of n log ≡ deeds_by accounts n
 logs_merge log accounts bears covers n = deeds_are accounts log n bears (covers n)
 
--- who has all numbers has seen all that was done
+-- a member with all numbers has seen all deeds
 whole_step : (n : ℕ) → n % 1 ≡ 0
 whole_step n = omega arith
 

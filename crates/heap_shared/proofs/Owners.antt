@@ -1,4 +1,4 @@
--- To whom mutators and numbers belong, where a member's are cut in two or told.
+-- The owners of mutators and numbers, if a member's are cut in two or learnt.
 use Rattle.std.proofs.Common.{◌≡◌, ◌≢◌, ℕ, suc, ◌+◌, ◌-◌, ◌*◌, ◌/◌, ◌%◌, ◌<◌, ◌≤◌, ◌⊎◌, inl, inr, ⊎_elim, refl, sym, ap, ◌∙◌, arith}
 use Rattle.std.proofs.Math.Nat.{add-mul-mod_self_right, add-mod_right, mod-add-div', mod-eq_of_lt, mod-lt, mul-add}
 use mathlib.Core.Option.{Option, some, some-injective}
@@ -30,7 +30,7 @@ chosen_no : {P : Type 0} (d : Dec P) (a b : Option ℕ) → ¬ P → chosen d a 
 chosen_no (yes p) a b isnt = absurd (isnt p)
 chosen_no (no n) a b isnt = refl
 
--- what is an account's belongs to this one now
+-- the mutators and numbers of an account belong to this member now
 abbrev pub given : Account → Option ℕ → (Doer → Option ℕ) → Doer → Option ℕ
 given a to_whom owner x = chosen (has_dec a x) to_whom (owner x)
 
@@ -41,7 +41,7 @@ module _ (a : Account) (to_whom : Option ℕ) (owner : Doer → Option ℕ) (x :
   pub given_else : ¬ Has a x → given a to_whom owner x ≡ owner x
   given_else isnt = chosen_no (has_dec a x) to_whom (owner x) isnt
 
--- who owns what comes to it keeps it
+-- a member keeps those that it owns
 same_chosen : {P : Type 0} (d : Dec P) (a b : Option ℕ) → b ≡ a → chosen d a b ≡ a
 same_chosen (yes p) a b is = refl
 same_chosen (no n) a b is = is
@@ -49,14 +49,14 @@ same_chosen (no n) a b is = is
 pub given_same : (a : Account) (to_whom : Option ℕ) (owner : Doer → Option ℕ) (x : Doer) → owner x ≡ to_whom → given a to_whom owner x ≡ to_whom
 given_same a to_whom owner x is = same_chosen (has_dec a x) to_whom (owner x) is
 
--- whose owner isn't the one of the account keeps it
+-- a mutator or number whose owner isn't the one of the account keeps that owner
 pub given_other : (a : Account) (to_whom was : Option ℕ) (owner : Doer → Option ℕ) (x : Doer) (y : Option ℕ) → (Has a x → owner x ≡ was) → owner x ≡ y → y ≢ was → given a to_whom owner x ≡ y
 given_other a to_whom was owner x y mine is apart = given_else a to_whom owner x (λ h. apart (sym is ∙ mine h)) ∙ is
 
 pub apart_some : (j k : ℕ) → j ≢ k → some j ≢ some k
 apart_some j k n e = n (some-injective j k e)
 
--- every other number
+-- every other number goes to a new member
 in_two : (n r a b : ℕ) → r + b ≡ n → b ≡ a + a → n ≡ r + a + a
 in_two n r a b sum twice = omega arith
 

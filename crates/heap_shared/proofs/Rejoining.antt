@@ -24,7 +24,7 @@ S = State Ringed Known
 below_or : (m n : ℕ) → (m < n) ⊎ (n ≤ m)
 below_or m n = grind arith
 
--- what one member's cut in two gave to another
+-- a member whose mutators were cut in two gave half of them to another
 pub record IsHalf (v w : Known) : Type 0 where
   pub width : ℕ
   pub next : w.number ≡ v.number + width
@@ -131,7 +131,7 @@ record IsUpper (v made : MemberView) : Type 0 where
   pub high : made.from ≤ made.to
   pub seen : made.seen ≡ v.seen
 
--- who was given this got the upper half
+-- the member that was given them has the upper half
 upper : (old : MemberView) (from : ℕ) (made new : MemberView) → Adds old from (Ok made) new → IsUpper new made
 upper old from made new adds =
     let cut : MemberView = record old { to = from; step = old.step + old.step } in
@@ -145,11 +145,11 @@ half_shown id there c d m n v w mine theirs old from adds =
     let u : IsUpper (shown_by id c m) (shown_by there d n) = subst (λ (x : MemberView). IsUpper x (shown_by there d n)) (sym mine) (subst (IsUpper v) (sym theirs) (upper old from w v adds)) in
     record { width = u.width; next = u.next; mine = u.mine; theirs = u.theirs; joins = u.joins; low = u.low; high = u.high; seen = u.seen }
 
--- what was given is at the same heap, and neither has the turn
+-- both are at the same heap, and neither has the turn
 pub given_here : (old : MemberView) (from : ℕ) (made new : MemberView) → Adds old from (Ok made) new → (made.heap ≡ new.heap) × (made.turn ≡ None)
 given_here old from made new adds = (ap (λ (v : MemberView). v.heap) adds.4 ∙ sym (ap (λ (v : MemberView). v.heap) adds.3), ap (λ (v : MemberView). v.turn) adds.4 ∙ adds.0)
 
--- who takes back what it has just given is who it was
+-- a member that takes back what it has just given is as it was
 pub as_before : (old : MemberView) (from : ℕ) (made new : MemberView) → Adds old from (Ok made) new → before_giving new made ≡ old
 as_before old from made new adds =
     let cut : MemberView = record old { to = from; step = old.step + old.step } in

@@ -1,5 +1,4 @@
--- A member's mutators are cut in two, a seat is made that can't say anything, and a member learns what another can tell: each keeps
--- the rule of the word.
+-- A member's mutators are cut in two, a spare seat is made, and a member learns another's accounts: each keeps the rule of the word.
 use Rattle.std.proofs.Common.{◌≡◌, ◌≢◌, ℕ, zero, suc, ◌+◌, ◌%◌, ◌<◌, ◌≤◌, true, false, List, [], ◌∷◌, ◌++◌, length, set, refl, sym, ap, ◌∙◌, arith, Some, None}
 use Rattle.std.specs.List.{All}
 use Rattle.std.specs.Prelude.{Option as Maybe}
@@ -22,7 +21,7 @@ use Rattle.heap_shared.proofs.Views.{below_there, others_and_new, others_two}
 abbrev S : Type 0
 S = State Ringed Known
 
--- What there is changes its owner, all of it that of one member: the others know the same.
+-- All mutators and numbers of one member change their owner: the other members know the same.
 module _ (c : SharedConfig) (log : List Deed) (owner now : Doer → Option ℕ) (whose : ℕ) (stays : (x : Doer) (y : Option ℕ) → owner x ≡ y → y ≢ some whose → now x ≡ y) where
   gone_still : (xs : List Account) → All (λ a. (x : Doer) → Has a x → owner x ≡ none) xs → All (λ a. (x : Doer) → Has a x → now x ≡ none) xs
   gone_still xs gone j d lt x h = stays x none (gone j d lt x h) (λ e. some-ne-none whose (sym e))
@@ -115,7 +114,7 @@ splits c id v d config out low high s k at =
       below = k.below;
     }
 
--- nobody says nothing
+-- nobody has no accounts
 no_number : (n : ℕ) → n % 1 ≡ 1 → ⊥
 no_number n is = omega (arith, is)
 
@@ -143,7 +142,7 @@ turn_spared c s log id v at (taken by found) is = (
   others_and_new (λ k u. u.inside ≡ true → (k ≡ by) × (u.seen ≡ log)) s.views id v nobody (is.2 id v at) (λ so. absurd (both_ways false refl so)) (λ k u apart below e. is.2 k u e),
 )
 
--- a seat is made that can't say anything
+-- a spare seat is made
 pub spares : (c : SharedConfig) (id : ℕ) (v : Known) → Splits (Keeps c) id v v nobody
 spares c id v s k at = record {
   log = k.log;
@@ -197,7 +196,7 @@ turn_learnt c s log id other v w apart at (taken by found) is = (
   others_two (λ k u. u.inside ≡ true → (k ≡ by) × (u.seen ≡ log)) s.views id other (learning v w) nobody (λ so. is.2 id v at so) (λ so. absurd (both_ways false refl so)) (λ k u off far e. is.2 k u e) apart,
 )
 
--- a view of another
+-- the view of another member stays
 pub there_else : (vs : List Known) (id other : ℕ) (u w : Known) → ¬ (other ≡ id) → get_elem? (set vs id u) other ≡ some w → get_elem? vs other ≡ some w
 there_else [] id other u w n e = e
 there_else (x ∷ xs) zero zero u w n e = absurd (n refl)
@@ -205,7 +204,7 @@ there_else (x ∷ xs) zero (suc other) u w n e = e
 there_else (x ∷ xs) (suc id) zero u w n e = e
 there_else (x ∷ xs) (suc id) (suc other) u w n e = there_else xs id other u w (λ h. n (ap suc h)) e
 
--- a member learns what another can tell
+-- a member learns another's accounts
 pub learns : (c : SharedConfig) (id : ℕ) (v : Known) (other : ℕ) (w : Known) → Joins (Keeps c) id v other w (learning v w) nobody
 learns c id v other w s k at off there =
     let apart : id ≢ other = λ e. off (sym e) in

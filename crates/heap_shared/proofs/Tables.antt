@@ -1,4 +1,4 @@
--- Whether two tables are one, by what tells them apart.
+-- Two tables are one if nothing tells them apart.
 use Rattle.std.proofs.Common.{◌≡◌, ◌≢◌, ℕ, ◌⊎◌, inl, inr, ⊎_elim, List, [], ◌∷◌, get_or, drop, ap}
 use Rattle.std.proofs.lemmas.Bool.Decides.{eqb_tells}
 use lib.Dec.{eqb}

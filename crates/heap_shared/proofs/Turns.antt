@@ -30,7 +30,7 @@ use Rattle.heap_shared.proofs.Words.{odd, half, half_odd}
 abbrev S : Type 0
 S = State Ringed Known
 
--- what isn't true is false
+-- a value that isn't true is false
 not_true : (b : Bool) → (b ≡ true → ⊥) → b ≡ false
 not_true true n = absurd (n refl)
 not_true false n = refl
@@ -54,7 +54,7 @@ unchanged : (c : SharedConfig) (s : S) (id : ℕ) (v : Known) (carried : List (�
 unchanged c s id v carried k at =
     subst (Keeps c) (λ i. record { words = sym (same_word s.words) i; homes = s.homes; views = sym (set_again s.views id v at) i }) k
 
--- who has seen the whole log knows the same else
+-- a member that has seen the whole log knows the same else
 whole : (c : SharedConfig) (log : List Deed) (owner : Doer → Option ℕ) (k : ℕ) (v : Known) (inside : Bool) (last : Maybe Last) → Knows c log owner k v → Knows c log owner k (record v { seen = log; inside = inside; last = last })
 whole c log owner k v inside last knows = record {
   config = knows.config;
@@ -66,7 +66,7 @@ whole c log owner k v inside last knows = record {
   gone = knows.gone;
 }
 
--- a log is what its members are told
+-- members learn this of a log
 told : (c : SharedConfig) (s : S) (kept : Keeps c s) (id : ℕ) (v : Known) → get_elem? s.views id ≡ some v → Told kept.log v
 told c s kept id v at = record {
   own = (kept.known id v at).own;
@@ -100,13 +100,13 @@ first_knows : (c : SharedConfig) (k : ℕ) (v : Known) → get_elem? (newcomer c
 first_knows c zero v e = subst (Knows c [] alone 0) (some-injective _ _ e) (newcomer_knows c)
 first_knows c (suc k) v e = absurd (some-ne-none v (sym e))
 
--- who has just found or put back a heap remembers it
+-- a member that has just found or put back a heap remembers it
 remembers_new : (log : List Deed) (heap : Course) (v : Known) → v.last ≡ Some (record { length = length log; heap = heap }) → Remembers log heap v
 remembers_new log heap v is x has =
     let e : record { length = length log; heap = heap } ≡ x = (let z : Some (record { length = length log; heap = heap }) ≡ Some x = sym is ∙ has in cc) in
     ((let l = ap (λ (y : Last). y.length) e in omega (arith, l)), λ _. sym (ap (λ (y : Last). y.heap) e))
 
--- who has found none yet remembers none
+-- a member that has found none yet remembers none
 pub remembers_none : (log : List Deed) (heap : Course) (v : Known) → v.last ≡ None → Remembers log heap v
 remembers_none log heap v is x has = absurd (let z : None ≡ Some x = sym is ∙ has in cc)
 
@@ -115,7 +115,7 @@ first_remembers c heap zero v e = remembers_none [] heap v (ap (λ (u : Known). 
 first_remembers c heap (suc k) v e = absurd (some-ne-none v (sym e))
 
 module _ (c : SharedConfig) where
-  -- a new heap
+  -- a heap is new
   pub opens : (ws : List ℕ) (r : Ringed) → TURN_WORD < length ws → get_or ws TURN_WORD 0 ≡ 0 → r.events ≡ [] → IsAsAsked c r → Keeps c (opening ws (r ∷ []) (newcomer c))
   opens ws r there number empty asked = record {
     log = [];
@@ -129,7 +129,7 @@ module _ (c : SharedConfig) where
   }
 
 module _ (c : SharedConfig) (slots : ℕ) where
-  -- what is told of a turn that is taken
+  -- a member that takes the turn learns this
   abbrev Takes : S → ℕ → ℕ → Known → Type 0
   Takes s n id v = (w : Known) × (a : Act Ringed) × Valid s.homes [] a × Keeps c (stepped s TURN_WORD (n + 1) id [] w a) × HasTurn v n (w, carried_after [] a)
 
@@ -194,11 +194,11 @@ module _ (c : SharedConfig) (slots : ℕ) where
   enters id n m none-carried even =
       subst (λ (y : Me Ringed Known). Allows (Keeps c) slots id y TURN_WORD (λ x. either (eqb x n) (n + 1) x) (Entered (step slots TURN_WORD n (n + 1) none) y)) (λ i. (m.0, sym none-carried i)) (enters_from id n m.0 even)
 
-  -- deeds that are others' to whoever has nothing of what a member has
+  -- deeds of a member are others' to an account with none of its mutators and numbers
   abbrev Foreign : (Doer → Option ℕ) → ℕ → List Deed → Type 0
   Foreign owner id added = (a : Account) → ((x : Doer) → Has a x → owner x ≢ some id) → All (IsOthers a) added
 
-  -- what others know of the log that a member's deeds were added to
+  -- other members' knowledge of the log, to which a member's deeds were added
   others_know : (log added : List Deed) (owner : Doer → Option ℕ) (id k : ℕ) (u : Known) → Foreign owner id added → k ≢ id → Knows c log owner k u → Knows c (log ++ added) owner k u
   others_know log added owner id k u foreign apart knows = record {
     config = knows.config;
@@ -210,7 +210,7 @@ module _ (c : SharedConfig) (slots : ℕ) where
     gone = knows.gone;
   }
 
-  -- and what it knows itself
+  -- and its own knowledge
   knows_after : (log added : List Deed) (owner : Doer → Option ℕ) (id : ℕ) (v : Known) → Foreign owner id added → Knows c log owner id v → (last : Maybe Last) → Knows c (log ++ added) owner id (record v { seen = log ++ added; inside = false; last = last })
   knows_after log added owner id v foreign knows last = record {
     config = knows.config;
@@ -222,15 +222,15 @@ module _ (c : SharedConfig) (slots : ℕ) where
     gone = knows.gone;
   }
 
-  -- where nothing was done yet, it is the heap that was found
+  -- if nothing was done yet, it is the heap that was found
   abbrev Still : Known → Ringed → Type 0
   Still v r = length r.events ≡ length v.seen → v.last ≡ Some (record { length = length v.seen; heap = r.course })
 
-  -- who put back that heap last
+  -- the member put back that heap last
   abbrev behind : Known → Ringed → Known
   behind v r = record v { seen = seen_now (v, (0, r) ∷ []); inside = false; last = Some (record { length = length (seen_now (v, (0, r) ∷ [])); heap = r.course }) }
 
-  -- what others remember of the heap that was found is so of what was put back: it is the same, or the log went on
+  -- others remember the heap that was put back as they did the one that was found: it is the same, or the log went on
   others_remember : (log now : List Deed) (id : ℕ) (v : Known) (r : Ringed) (found : Course) (did : List Event) → length now ≡ length log + length did → length r.events ≡ length v.seen + length did
       → v.seen ≡ log → Still v r → Remembers log found v → (u : Known) → Remembers log found u → Remembers now r.course u
   others_remember log now id v r found did long events saw still mine u theirs x has =
@@ -342,7 +342,7 @@ module _ (c : SharedConfig) (slots : ℕ) where
       let knows : Knows c k.log k.owner id w = record { config = (k.known id v at).config; numbered = (k.known id v at).numbered; range = (k.known id v at).range; own = (k.known id v at).own; owns = (k.known id v at).owns; learnt = (k.known id v at).learnt; gone = (k.known id v at).gone } in
       (w, keeps, tt, subst (λ y. Keeps c (stepped s TURN_WORD y id [] w keeps)) (sym (either_same x n)) (view_changes s k id w out knows (k.remembered id v at)), refl)
 
-  -- a place is named at which the member's mutators are to be cut in two
+  -- a place is named at which the member's mutators are cut in two
   pub cuts : (id n : ℕ) (m : Me Ringed Known) → m.1 ≡ [] → m.0.inside ≡ false → Allows (Keeps c) slots id m TURN_WORD (λ x. either (eqb x n) n x) (Cut (step slots TURN_WORD n n none) m)
   cuts id n m none-carried out =
       subst (λ (y : Me Ringed Known). Allows (Keeps c) slots id y TURN_WORD (λ x. either (eqb x n) n x) (Cut (step slots TURN_WORD n n none) y)) (λ i. (m.0, sym none-carried i)) (cuts_from id n m.0 out)

@@ -1,4 +1,4 @@
--- What members' accounts say was done.
+-- The commands and the deeds that members' accounts have.
 use Rattle.std.specs.Prelude.{ℕ, ◌≡◌, ◌<◌, ◌%◌, List, [], ◌∷◌, map, nat_eq, nat_le, nat_lt, ◌&&◌, Bool, true, false, if◌then◌else◌}
 use Rattle.graph_heap.specs.declared.command.Command.{Command}
 use Rattle.graph_heap.specs.Merge.{mine, commands_of, upto}
@@ -6,7 +6,7 @@ use Rattle.heap_shared.specs.declared.deed.Deed.{Deed}
 use Rattle.heap_shared.specs.declared.rule.Account.{Account}
 use Rattle.heap_shared.specs.Accounts.{history_by}
 
--- whether a mutator is one of an account's own
+-- whether an account has a mutator
 abbrev pub has_mutator : Account → ℕ → Bool
 has_mutator a m = nat_le a.from m && nat_lt m a.to
 
@@ -20,11 +20,11 @@ abbrev pub is_covered : List Account → ℕ → Bool
 is_covered [] m = false
 is_covered (a ∷ rest) m = if has_mutator a m then true else is_covered rest m
 
--- each mutator is one of an account's
+-- one of the accounts has each mutator
 abbrev pub Covers : ℕ → List Account → Type 0
 Covers mutators accounts = (m : ℕ) → m < mutators → is_covered accounts m ≡ true
 
--- of each mutator the commands that were called
+-- the commands of each mutator
 abbrev pub called_by : ℕ → List Account → List (List Command)
 called_by mutators accounts = map (commands_by accounts) (upto mutators)
 
@@ -33,7 +33,7 @@ abbrev pub deeds_of : ℕ → List Deed → List Deed
 deeds_of n [] = []
 deeds_of n (d ∷ log) = if nat_eq d.by n then d ∷ deeds_of n log else deeds_of n log
 
--- whether a number is one of an account's own
+-- whether an account has a number
 abbrev pub has_number : Account → ℕ → Bool
 has_number a n = nat_eq (n % a.step) a.number
 
@@ -47,6 +47,6 @@ abbrev pub is_numbered : List Account → ℕ → Bool
 is_numbered [] n = false
 is_numbered (a ∷ rest) n = if has_number a n then true else is_numbered rest n
 
--- each number is one of an account's
+-- one of the accounts has each number
 abbrev pub CoverAll : List Account → Type 0
 CoverAll accounts = (n : ℕ) → is_numbered accounts n ≡ true

@@ -1,4 +1,4 @@
--- Members of a heap, who take turns.
+-- Members of a heap take turns.
 use Rattle.std.specs.Prelude.{ℕ, ◌≡◌, ◌≢◌, ◌+◌, ◌-◌, ◌*◌, ◌/◌, ◌%◌, ◌<◌, ◌≤◌, true, false, List, [], ◌∷◌, ◌++◌, length, drop, slice_index, Option, Some, None}
 use Rattle.std.specs.List.{All}
 use mathlib.Core.Option as home
@@ -14,7 +14,7 @@ use Rattle.heap_shared.specs.declared.shared_heap.SharedConfig.{SharedConfig}
 use Rattle.heap_shared.specs.Accounts.{Doer, Has, BearsOut, AreBelow, account_of, events_of, signed}
 use Rattle.heap_shared.specs.Ring.{Ringed, IsAsAsked}
 
--- who has seen nothing of the log, and has all mutators and all numbers
+-- a member that has seen nothing of the log, and has all mutators and all numbers
 abbrev pub newcomer : SharedConfig → Known
 newcomer c = record {
   config = Some c;
@@ -29,32 +29,32 @@ newcomer c = record {
   last = None;
 }
 
--- who keeps the mutators before the cut, and every other number, its own with them
+-- a member that keeps the mutators before the cut, and every other number, its own among them
 abbrev pub before_cut : Known → Known
 before_cut v = record v { to = v.cut; step = v.step + v.step }
 
--- who gets the mutators from the cut on, and the other numbers: it has seen the same, and hasn't the turn
+-- a member that gets the mutators from the cut on, and the other numbers; it has seen the same log, and doesn't have the turn
 abbrev pub behind_cut : Known → Known
 behind_cut v = record v { from = v.cut; number = v.number + v.step; step = v.step + v.step; learnt = []; inside = false }
 
--- what a member of a heap of a configuration can tell: its account, and all that it has learnt; who is none tells nothing
+-- the accounts of a member of a heap: its own, and those that it has learnt; there are none without a heap
 abbrev pub told_by : Option SharedConfig → Known → List Account
 told_by None w = []
 told_by (Some c) w = account_of w ∷ w.learnt
 
--- who has learnt what another can tell
+-- a member that has learnt another's accounts
 abbrev pub learning : Known → Known → Known
 learning v w = record v { learnt = v.learnt ++ told_by w.config w }
 
--- who takes back what it gave to another: the mutators from the cut on, and every other number
+-- a member that took back what it gave to another: the mutators from the cut on, and every other number
 abbrev pub rejoined : Known → Known → Known
 rejoined v w = record v { to = w.to; step = w.number - v.number }
 
--- who is no member, or no more: it has no mutator and no number, and can't say anything
+-- nobody: no member, or none any more, without mutators, numbers and accounts
 abbrev pub nobody : Known
 nobody = record { config = None; from = 0; to = 0; number = 1; step = 1; cut = 0; seen = []; learnt = []; inside = false; last = None }
 
--- the word after so many events: twice their number, as it wraps
+-- the word after this many events: twice their number, as it wraps
 abbrev pub word_of : ℕ → ℕ
 word_of events = (2 * events) % 18446744073709551616
 
@@ -63,13 +63,13 @@ pub data Turn : Type 0 where
   free : Ringed → Turn
   taken : ℕ → Course → Turn
 
--- the heap to which just the log led
+-- the heap to which exactly the log led
 abbrev pub heap_at : Turn → Course
 heap_at (free r) = r.course
 heap_at (taken by found) = found
 
--- What the table is at a log, by who has the turn. The heap in the slot is one to which just this log led. Nobody else is
--- inside, and who is has seen the whole log.
+-- The table at a log, while nobody has the turn or a member has it. A heap in the slot is one to which exactly this log led. Only
+-- the member that has the turn is inside, and it has seen the whole log.
 abbrev pub IsTurn : SharedConfig → State Ringed Known → List Deed → Turn → Type 0
 IsTurn c s log (free r) = (slice_index s.words TURN_WORD ≡ word_of (length log)) × (s.homes ≡ home.some r ∷ [])
     × (events_of log ≡ r.events) × IsAsAsked c r
@@ -77,9 +77,9 @@ IsTurn c s log (free r) = (slice_index s.words TURN_WORD ≡ word_of (length log
 IsTurn c s log (taken by found) = (slice_index s.words TURN_WORD ≡ word_of (length log) + 1) × (s.homes ≡ home.none ∷ [])
     × ((k : ℕ) (v : Known) → get_elem? s.views k ≡ home.some v → v.inside ≡ true → (k ≡ by) × (v.seen ≡ log))
 
--- What the member of number k knows, at a log, where each mutator and each number belongs to one member or to none: its
--- own number is one of its numbers; the log bears out its account, and those that it has learnt; what is its own belongs to
--- it, and what is of the learnt to nobody.
+-- The knowledge of member k, at a log, if each mutator and each number belongs to one member or to none. Its own number is one of
+-- its numbers. The log bears out its account, and those that it has learnt. Its mutators and numbers belong to it, and those of
+-- learnt accounts to nobody.
 pub record Knows (c : SharedConfig) (log : List Deed) (owner : Doer → home.Option ℕ) (k : ℕ) (v : Known) : Type 0 where
   pub config : (d : SharedConfig) → v.config ≡ Some d → d ≡ c
   pub numbered : (d : SharedConfig) → v.config ≡ Some d → v.number < v.step
@@ -89,12 +89,12 @@ pub record Knows (c : SharedConfig) (log : List Deed) (owner : Doer → home.Opt
   pub learnt : All (BearsOut log) v.learnt
   pub gone : All (λ a. (x : Doer) → Has a x → owner x ≡ home.none) v.learnt
 
--- what a member found or put back last is the heap that is there, unless the log went on since
+-- the heap that a member found or put back last is the heap that is there, unless the log went on since
 abbrev pub Remembers : List Deed → Course → Known → Type 0
 Remembers log heap v = (x : Last) → v.last ≡ Some x → (x.length ≤ length log) × (x.length ≡ length log → x.heap ≡ heap)
 
--- The rule: there is one log, whose commands are of the heap's mutators; one member at most has the turn; and each knows
--- what is so.
+-- The rule of the word: there is one log, with commands of the heap's mutators alone. At most one member has the turn. All that a
+-- member knows is so.
 pub record Keeps (c : SharedConfig) (s : State Ringed Known) : Type 0 where
   pub log : List Deed
   pub turn : Turn
@@ -105,15 +105,15 @@ pub record Keeps (c : SharedConfig) (s : State Ringed Known) : Type 0 where
   pub remembered : (k : ℕ) (v : Known) → get_elem? s.views k ≡ home.some v → Remembers log (heap_at turn) v
   pub below : AreBelow c.config.mutators log
 
--- what a log tells a member that steps on the word: it bears out each account that the member has, its own too, and has
--- commands of the configuration's mutators alone
+-- A member that steps on the word learns this of the log: it bears out the member's own account and each that it has learnt. All
+-- its commands are of the configuration's mutators.
 pub record Told (log : List Deed) (v : Known) : Type 0 where
   pub own : BearsOut log (account_of v)
   pub learnt : All (BearsOut log) v.learnt
   pub below : (d : SharedConfig) → v.config ≡ Some d → AreBelow d.config.mutators log
 
--- Who had seen this has the turn, and the heap to which just that log led of which it is told: the very one that it found or
--- put back last, if the log is as long as it was then.
+-- A member has got the turn, and the heap to which exactly the log led. If the log is as long as when the member found or put back a
+-- heap last, it is the very same heap.
 pub record HasTurn (v : Known) (found : ℕ) (m : Me Ringed Known) : Type 0 where
   pub log : List Deed
   pub held : Ringed
@@ -128,12 +128,12 @@ pub record HasTurn (v : Known) (found : ℕ) (m : Me Ringed Known) : Type 0 wher
 abbrev pub Entered : Step Ringed → Me Ringed Known → ℕ → Me Ringed Known → Type 0
 Entered st m found n = (found ≡ st.first → HasTurn m.0 found n) × (found ≢ st.first → n ≡ m)
 
--- what was done since this was seen, at the heap that is carried
+-- the events that were done at the heap that is carried, since this log was seen
 abbrev pub done_since : List Deed → List (ℕ × Ringed) → List Event
 done_since seen [] = []
 done_since seen (x ∷ xs) = drop (length seen) x.1.events
 
--- what a member has seen, and what it did itself since then
+-- the log that a member has seen, and the deeds that it did since
 abbrev pub seen_now : Me Ringed Known → List Deed
 seen_now m = m.0.seen ++ signed m.0.number (done_since m.0.seen m.1)
 
@@ -151,6 +151,6 @@ abbrev pub Looked : Step Ringed → Me Ringed Known → ℕ → Me Ringed Known 
 Looked st m found n = (n ≡ (record m.0 { seen = n.0.seen }, m.1)) × Told n.0.seen m.0
     × (found / 2 ≡ length n.0.seen % 9223372036854775808)
 
--- the number expected is where the member's mutators are cut in two
+-- the member's mutators are cut in two at the number that was expected
 abbrev pub Cut : Step Ringed → Me Ringed Known → ℕ → Me Ringed Known → Type 0
 Cut st m found n = n ≡ (record m.0 { cut = st.first }, m.1)

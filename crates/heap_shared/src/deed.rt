@@ -1,10 +1,10 @@
-//! What is done at a shared heap, and by whom, for proofs alone.
+//! The deeds at a shared heap: events, and the members that did them. They are for proofs alone.
 use crate::past::Past;
 use machine::Heap;
 use paced::Logged;
 use std::marker::Model;
 
-/// An event of a heap, as contracts see it. None is ever made: proofs alone speak of it.
+/// An event of a heap, as contracts see it. No value is ever made.
 #[derive(Drop)]
 pub struct Happened {
     event: Logged,
@@ -19,7 +19,7 @@ impl Model for Happened {
     ghost view = { λ h. event_of h.event };
 }
 
-/// A heap with its history, as contracts see it. None is ever made.
+/// A heap with its history, as contracts see it. No value is ever made.
 #[derive(Drop)]
 pub struct Stood {
     heap: Heap,
@@ -35,7 +35,7 @@ impl Model for Stood {
     ghost view = { λ s. course_of s.heap s.past };
 }
 
-/// An event, and the number of the member that did it. None is ever made.
+/// An event, and the number of the member that did it. No value is ever made.
 pub struct Deed {
     pub by: u64,
     pub event: Happened,

@@ -13,29 +13,29 @@ ghost use Rattle.heap_shared.specs.Merged.{Covers, called_by, CoverAll, deeds_of
 ghost use Rattle.heap_shared.specs.Ring.{Ringed};
 ghost use Rattle.heap_shared.specs.Turns.{Keeps, newcomer};
 
-/// The history of a log that bears out accounts, to one of which each mutator belongs, is a merge of what these say was
-/// called.
+/// If a log bears out accounts, and each mutator belongs to one of them, the log's history is a merge of the commands that the
+/// accounts have.
 pub fn histories_merge()
     ensures { (mutators : ℕ) (log : List Deed) (accounts : List Account) → All (BearsOut log) accounts → AreBelow mutators log
         → Covers mutators accounts
         → IsMerge (history_by log) (called_by mutators accounts) }
 {}
 
-/// A log that bears out accounts, to one of which each number belongs, is a merge of what these say was done: of each
-/// member it has just the deeds, in their order, that its account has.
+/// If a log bears out accounts, and each number belongs to one of them, the log is a merge of the deeds that the accounts have:
+/// each member's deeds in it are those of its account, in their order.
 pub fn logs_merge()
     ensures { (log : List Deed) (accounts : List Account) → All (BearsOut log) accounts → CoverAll accounts
         → (n : ℕ) → deeds_of n log ≡ deeds_by accounts n }
 {}
 
-/// If one account has all numbers, its member alone did deeds: what it has seen is the log.
+/// If one account has all numbers, its member alone did deeds: the log is the part that it has seen.
 pub fn nothing_is_done_between()
     ensures { (log : List Deed) (a : Account) → BearsOut log a → a.number ≡ 0 → a.step ≡ 1 → log ≡ a.seen }
 {}
 
-/// No event can be hidden. A member that does one as it enters or leaves contradicts the contract of that call; so does a
-/// member that does one in a turn of its own before it enters, before it looks at the place, or in a heap that it just made;
-/// and no event may come before the rule of the word begins.
+/// No event can be hidden. A member that does one as it enters or leaves contradicts the contract of that call. So does a member
+/// that does one in a turn of its own before it enters or looks at the place, or in a heap that it just made. No event may come
+/// before the rule of the word begins, either.
 pub fn no_event_is_hidden()
     ensures entering { (event : Event) (old mid new : MemberView) → DoesInTurn (λ e. e) mid (Some event) new
         → Enters old (Ok tt) new → ⊥ }

@@ -8,8 +8,8 @@ use ghosts::Ghost;
 use paced::Logged;
 use std::marker::Model;
 
-/// The events that led to a heap, and the place of its history at which the last cycle began. None is ever made: proofs
-/// alone speak of it.
+/// The events that led to a heap, and the place of its history at which the last cycle began. No value is ever made: the type
+/// is for proofs alone.
 #[derive(Drop)]
 pub struct Past {
     events: Vec<Happened>,
@@ -24,14 +24,14 @@ impl Model for Past {
     ghost view = { λ p. record { events = p.events.items; place = p.place } };
 }
 
-/// Nothing was done yet.
+/// Returns the past of a new heap: nothing was done yet.
 pub(crate) fn no_past() -> Ghost<Past>
     ensures { result.value ≡ record { events = []; place = 0 } }
 {
     Ghost::new()
 }
 
-/// This past, and an event that was done.
+/// Returns this past with one more event.
 #[inline(always)]
 pub(crate) fn went_on(past: &Ghost<Past>, _event: Logged) -> Ghost<Past>
     ghost after: { PastView }

@@ -1,17 +1,22 @@
-//! The rule of the word by which members take turns, and what a step on it tells.
+//! The rule of the word by which members take turns, and the steps on it.
 use crate::deed::{Deed, Stood};
 use crate::shared_heap::{SharedConfig, SharedHeap};
 use atomic_table::{Play, Split, TableRule};
 use std::collections::LinkedList;
 
-/// How many words the table has. One counts: the others keep what lies beside the table in memory off its cache line.
+/// How many words the table has. Only one counts. The others keep its cache line free of the memory beside the table.
 pub const WORDS: usize = 32;
 
 /// The place of the word that counts.
 pub const TURN_WORD: usize = 16;
 
-/// What a member can tell of the log: the mutators from which on and below which it alone calls; its own number, and the
-/// step from that to the next of those that it alone has, or can give away; and what it has seen. No value of it is made.
+/// A member's account of the log. It has these parts:
+///
+/// - the mutators for which it alone calls, from one number on and below another;
+/// - its own number, and the step from one to the next of the numbers that it alone has, or can give away;
+/// - the deeds that it has seen.
+///
+/// No value of it is made.
 pub struct Account {
     pub from: u32,
     pub to: u32,
@@ -26,8 +31,15 @@ pub struct Last {
     pub heap: Stood,
 }
 
-/// What a member knows: what was asked of the heap; its account; where its mutators were cut last; the accounts of
-/// those that it has learnt from; whether it has the turn; and the heap that it found or put back last. No value of it is made.
+/// The knowledge of a member. It has these parts:
+///
+/// - the wishes for the heap;
+/// - its account, and where its mutators were cut last;
+/// - the accounts of the members that it has learnt from;
+/// - whether it has the turn;
+/// - the heap that it found or put back last.
+///
+/// No value of it is made.
 pub struct Known {
     pub config: Option<SharedConfig>,
     pub from: u32,
@@ -41,9 +53,9 @@ pub struct Known {
     pub last: Option<Last>,
 }
 
-/// One word counts, and there is one slot. The word is twice the length of the log, as it wraps, and one more while a
-/// member has the turn; the heap lies in the slot while none has it, and just the log led to it. What each member has seen
-/// begins the log, which goes on with what others did.
+/// One word counts, and there is one slot. The word is twice the length of the log, as it wraps, and one more while a member has
+/// the turn. While none has it, the heap lies in the slot, and exactly the log led to it. The log begins with the deeds that a
+/// member has seen, and goes on with deeds of others.
 pub struct TurnRule;
 
 impl TableRule<SharedHeap, Known, SharedConfig> for TurnRule {
@@ -81,7 +93,7 @@ impl Play<SharedHeap, Known> for Look {
     ghost then = { Looked };
 }
 
-/// A step that changes nothing of the table, and says where a member's mutators are to be cut in two.
+/// A step that changes nothing of the table. It says where a member's mutators are cut in two.
 pub struct Cut;
 
 impl Play<SharedHeap, Known> for Cut {
@@ -90,7 +102,7 @@ impl Play<SharedHeap, Known> for Cut {
     ghost then = { turns.Cut };
 }
 
-/// A new member has seen what another one has, and gets its mutators from the cut on.
+/// A new member has seen the same deeds as its maker, and gets its maker's mutators from the cut on.
 pub struct Halve;
 
 impl Split<Known> for Halve {
@@ -101,7 +113,7 @@ impl Split<Known> for Halve {
     ghost right = { behind_cut };
 }
 
-/// A seat is made of which a member has no need: it can't say anything.
+/// A spare seat is made, which knows nothing.
 pub struct Spare;
 
 impl Split<Known> for Spare {
@@ -112,7 +124,7 @@ impl Split<Known> for Spare {
     ghost right = { λ _. nobody };
 }
 
-/// A member learns what another can tell.
+/// A member takes over another's account.
 pub struct Learn;
 
 impl atomic_table::Join<Known> for Learn {
@@ -123,7 +135,7 @@ impl atomic_table::Join<Known> for Learn {
     ghost spent = { nobody };
 }
 
-/// A member takes back what it gave to another, which did nothing.
+/// A member takes back the mutators that it gave to another, which did nothing.
 pub struct Rejoin;
 
 impl atomic_table::Join<Known> for Rejoin {

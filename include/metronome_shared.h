@@ -127,6 +127,28 @@ METRONOME_NONNULL static inline uint32_t metronome_seat_create_logged(metronome_
     return metronome_seat_create_logged_for(seat, settings, ring, METRONOME_VERSION);
 }
 
+/* Does the same as metronome_seat_create_logged_for, for a heap that keeps a plan from the start, as metronome_keep says in
+ * metronome_keep.h. The calls of all seats keep it together. Before each new object of any seat, the collector does as much
+ * as the plan requires, in that seat's turn. The log has that work, too. A `ring` of 0 keeps no entries. Programs call
+ * metronome_seat_create_kept.
+ *
+ * PROMISE. If the live objects of all mutators together keep within live_words whenever a cycle begins, by whichever seat,
+ * then no object is refused for lack of space. This is proved for all commands, begins and quanta of all seats.
+ *
+ * Returns OK, or changes nothing and returns one of these:
+ *   * OTHER_VERSION.
+ *   * NO_PLAN: No setting has a fault, and a heap of these settings can't keep the plan. A plan that metronome_plan
+ *     calculated for the same settings can be kept.
+ *   * The other statuses of metronome_seat_create_for. */
+uint32_t metronome_seat_create_kept_for(metronome_seat *seat, const metronome_settings *settings, size_t ring,
+                                        const metronome_flow *flow, uint32_t version) METRONOME_NONNULL;
+
+/* Does the same as metronome_seat_create_kept_for, for this header's version. */
+METRONOME_NONNULL static inline uint32_t metronome_seat_create_kept(metronome_seat *seat, const metronome_settings *settings,
+                                                                    size_t ring, const metronome_flow *flow) {
+    return metronome_seat_create_kept_for(seat, settings, ring, flow, METRONOME_VERSION);
+}
+
 /* Makes one more seat at the same heap, if `made` holds none. It calls for the mutators of `seat` from number `from` on, and
  * `seat` keeps those below. If `from` is the number after its last mutator, `made` gets none.
  *
@@ -156,7 +178,8 @@ uint32_t metronome_seat_place(metronome_seat *seat, uint64_t *place) METRONOME_N
 void metronome_seat_destroy(metronome_seat *seat) METRONOME_NONNULL;
 
 /* ---- Commands of mutators, in the turn. Each does what the command of the same name in metronome.h does, and returns the
- * same. Before the reasons there, it is refused as NO_HEAP or BAD_HANDLE, as OUTSIDE, or as NOT_YOURS, in this order ---- */
+ * same. Before the reasons there, it is refused as NO_HEAP or BAD_HANDLE, as OUTSIDE, or as NOT_YOURS, in this order. If the
+ * heap keeps a plan, ABOVE_PLAN follows these, for the calls that make objects ---- */
 
 metronome_answer metronome_seat_new_plain(metronome_seat *seat, uint32_t mutator, uint32_t dst, uint32_t refs,
                                           uint32_t words) METRONOME_NONNULL;
@@ -213,6 +236,11 @@ uint32_t metronome_seat_units(metronome_seat *seat, uint64_t *units) METRONOME_N
 uint32_t metronome_seat_free_pages(metronome_seat *seat, uint64_t *free_pages) METRONOME_NONNULL;
 uint32_t metronome_seat_count(metronome_seat *seat, metronome_counts *counts) METRONOME_NONNULL;
 uint32_t metronome_seat_page(metronome_seat *seat, size_t number, metronome_page_view *page) METRONOME_NONNULL;
+uint32_t metronome_seat_last_cycle(metronome_seat *seat, metronome_cycle *cycle) METRONOME_NONNULL;
+
+/* Stores in *work the work that the collector did because the plan required it, since the heap was made. It may also return
+ * NO_PLAN: The heap keeps none. */
+uint32_t metronome_seat_kept(metronome_seat *seat, metronome_work *work) METRONOME_NONNULL;
 
 #ifdef __cplusplus
 }

@@ -58,6 +58,12 @@ public:
         return metronome_seat_create_logged(&seat, &settings, ring);
     }
 
+    // Opens the first seat of a new heap that keeps a plan, and the last `ring` entries of its log. Returns NO_PLAN if a heap
+    // of these settings can't keep the plan.
+    std::uint32_t try_open_kept(const metronome_settings &settings, std::size_t ring, const metronome_flow &flow) noexcept {
+        return metronome_seat_create_kept(&seat, &settings, ring, &flow);
+    }
+
     // Opens one more seat. It takes over this seat's mutators from number `from` on.
     std::uint32_t try_another(std::uint32_t from, Seat &made) noexcept {
         return &made == this ? std::uint32_t{METRONOME_OPEN} : metronome_seat_another(&seat, &made.seat, from);
@@ -72,6 +78,9 @@ public:
 #ifdef __cpp_exceptions
     explicit Seat(const metronome_settings &settings) { detail::need(try_open(settings)); }
     Seat(const metronome_settings &settings, std::size_t ring) { detail::need(try_open_logged(settings, ring)); }
+    Seat(const metronome_settings &settings, std::size_t ring, const metronome_flow &flow) {
+        detail::need(try_open_kept(settings, ring, flow));
+    }
 
     Seat another(std::uint32_t from) {
         Seat made;
@@ -141,6 +150,11 @@ public:
         return metronome_seat_page(seat, number, &page);
     }
 
+    // Stores the figures of the last cycle that ended, or zeros if none has.
+    std::uint32_t try_last_cycle(metronome_cycle &cycle) noexcept { return metronome_seat_last_cycle(seat, &cycle); }
+    // Reads the work done for the plan. Returns NO_PLAN if the heap keeps no plan.
+    std::uint32_t try_kept(metronome_work &work) noexcept { return metronome_seat_kept(seat, &work); }
+
 #ifdef __cpp_exceptions
     Turn(Gate &its_gate, Seat &its_seat) : gate(its_gate.handle()), seat(its_seat.handle()) {
         detail::need(metronome_gate_enter(gate, seat));
@@ -172,6 +186,11 @@ public:
     }
     void whole_cycle(std::uint32_t budget) { detail::need(try_whole_cycle(budget)); }
     void pace(metronome_pacing &pacing, std::uint64_t words) { detail::need(try_pace(pacing, words)); }
+    metronome_work kept() {
+        metronome_work work{};
+        detail::need(try_kept(work));
+        return work;
+    }
 
     std::uint32_t phase() {
         std::uint32_t phase = METRONOME_IDLE;
@@ -192,6 +211,11 @@ public:
         metronome_counts counts{};
         detail::need(try_count(counts));
         return counts;
+    }
+    metronome_cycle last_cycle() {
+        metronome_cycle cycle{};
+        detail::need(try_last_cycle(cycle));
+        return cycle;
     }
     metronome_page_view page(std::size_t number) {
         metronome_page_view page{};

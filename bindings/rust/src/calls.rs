@@ -1,10 +1,9 @@
-//! The calls of metronome.h, of the headers that it includes and of metronome_shared.h, and their types.
+//! The calls of metronome.h and of the headers that it includes, and their types.
 use std::ffi::c_void;
 use std::os::raw::c_char;
 
 use crate::flow::{Flow, Work};
 use crate::heap::Cycle;
-use crate::log::EntryTold;
 use crate::refusal::{Refusal, Result};
 
 /// The version of metronome.h that these declarations are for.
@@ -21,17 +20,6 @@ pub(crate) struct Handle {
 
 impl Handle {
     pub(crate) const CLOSED: Handle = Handle { at: std::ptr::null_mut(), check: 0 };
-}
-
-/// A handle that holds a seat at a shared heap, or none.
-#[repr(C)]
-pub(crate) struct SeatHandle {
-    at: *mut c_void,
-    check: u64,
-}
-
-impl SeatHandle {
-    pub(crate) const NONE: SeatHandle = SeatHandle { at: std::ptr::null_mut(), check: 0 };
 }
 
 /// The settings of a heap, each with its range.
@@ -338,62 +326,4 @@ extern "C" {
     pub(crate) fn metronome_kept(heap: *mut Handle, work: *mut Work) -> u32;
     pub(crate) fn metronome_text_into(status: u32, text: *mut c_char, length: usize) -> usize;
     pub(crate) fn metronome_version() -> u32;
-    pub(crate) fn metronome_seat_create_for(seat: *mut SeatHandle, settings: *const Settings, version: u32) -> u32;
-    pub(crate) fn metronome_seat_create_logged_for(
-        seat: *mut SeatHandle,
-        settings: *const Settings,
-        ring: usize,
-        version: u32,
-    ) -> u32;
-    pub(crate) fn metronome_seat_another(seat: *mut SeatHandle, made: *mut SeatHandle, from: u32) -> u32;
-    pub(crate) fn metronome_seat_enter(seat: *mut SeatHandle) -> u32;
-    pub(crate) fn metronome_seat_leave(seat: *mut SeatHandle) -> u32;
-    pub(crate) fn metronome_seat_place(seat: *mut SeatHandle, place: *mut u64) -> u32;
-    pub(crate) fn metronome_seat_entry(seat: *mut SeatHandle, place: u64, entry: *mut EntryTold) -> u32;
-    pub(crate) fn metronome_seat_destroy(seat: *mut SeatHandle);
-    pub(crate) fn metronome_seat_new_plain(seat: *mut SeatHandle, mutator: u32, dst: u32, refs: u32, words: u32) -> Answer;
-    pub(crate) fn metronome_seat_new_refs(seat: *mut SeatHandle, mutator: u32, dst: u32, refs: u32) -> Answer;
-    pub(crate) fn metronome_seat_new_words(seat: *mut SeatHandle, mutator: u32, dst: u32, words: u32) -> Answer;
-    pub(crate) fn metronome_seat_load(seat: *mut SeatHandle, mutator: u32, dst: u32, obj: u32, i: u32) -> Answer;
-    pub(crate) fn metronome_seat_store(seat: *mut SeatHandle, mutator: u32, obj: u32, i: u32, src: u32) -> Answer;
-    pub(crate) fn metronome_seat_compare_store(
-        seat: *mut SeatHandle,
-        mutator: u32,
-        obj: u32,
-        i: u32,
-        expect: u32,
-        replacement: u32,
-    ) -> Answer;
-    pub(crate) fn metronome_seat_get(seat: *mut SeatHandle, mutator: u32, obj: u32, i: u32) -> Answer;
-    pub(crate) fn metronome_seat_put(seat: *mut SeatHandle, mutator: u32, obj: u32, i: u32, word: u64) -> Answer;
-    pub(crate) fn metronome_seat_compare_put(
-        seat: *mut SeatHandle,
-        mutator: u32,
-        obj: u32,
-        i: u32,
-        old: u64,
-        replacement: u64,
-    ) -> Answer;
-    pub(crate) fn metronome_seat_copy(seat: *mut SeatHandle, mutator: u32, dst: u32, src: u32) -> Answer;
-    pub(crate) fn metronome_seat_clear(seat: *mut SeatHandle, mutator: u32, dst: u32) -> Answer;
-    pub(crate) fn metronome_seat_load_static(seat: *mut SeatHandle, mutator: u32, dst: u32, k: u32) -> Answer;
-    pub(crate) fn metronome_seat_store_static(seat: *mut SeatHandle, mutator: u32, k: u32, src: u32) -> Answer;
-    pub(crate) fn metronome_seat_compare_static(
-        seat: *mut SeatHandle,
-        mutator: u32,
-        k: u32,
-        expect: u32,
-        replacement: u32,
-    ) -> Answer;
-    pub(crate) fn metronome_seat_same(seat: *mut SeatHandle, mutator: u32, a: u32, b: u32) -> Answer;
-    pub(crate) fn metronome_seat_describe(seat: *mut SeatHandle, mutator: u32, a: u32, shape: *mut ShapeTold) -> Answer;
-    pub(crate) fn metronome_seat_join(seat: *mut SeatHandle, mutator: u32) -> Answer;
-    pub(crate) fn metronome_seat_retire(seat: *mut SeatHandle, mutator: u32) -> Answer;
-    pub(crate) fn metronome_seat_begin(seat: *mut SeatHandle) -> u32;
-    pub(crate) fn metronome_seat_quantum(seat: *mut SeatHandle, budget: u32, spent: *mut SpentTold) -> u32;
-    pub(crate) fn metronome_seat_phase(seat: *mut SeatHandle, phase: *mut u32) -> u32;
-    pub(crate) fn metronome_seat_units(seat: *mut SeatHandle, units: *mut u64) -> u32;
-    pub(crate) fn metronome_seat_free_pages(seat: *mut SeatHandle, free_pages: *mut u64) -> u32;
-    pub(crate) fn metronome_seat_count(seat: *mut SeatHandle, counts: *mut Counts) -> u32;
-    pub(crate) fn metronome_seat_page(seat: *mut SeatHandle, number: usize, page: *mut Page) -> u32;
 }

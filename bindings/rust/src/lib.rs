@@ -50,6 +50,7 @@ mod record;
 mod refusal;
 mod root;
 mod seat;
+mod seat_calls;
 mod turn;
 mod walk;
 

@@ -2,8 +2,10 @@
 use std::fmt;
 use std::sync::{Arc, Mutex, MutexGuard, PoisonError, TryLockError};
 
-use crate::calls::{self, done, SeatHandle, Settings};
+use crate::calls::{self, done, Settings};
+use crate::flow::Flow;
 use crate::refusal::{Refusal, Result};
+use crate::seat_calls::{self, SeatHandle};
 use crate::turn::Turn;
 
 /// A heap that threads share. It calls for the mutators that it gave to no [`Seat`]; each thread that has a seat calls
@@ -67,7 +69,7 @@ impl Drop for Gate {
     fn drop(&mut self) {
         let seat = self.lock.get_mut().unwrap_or_else(PoisonError::into_inner);
         // SAFETY: the handle lives through the call, and nobody else uses it any more.
-        unsafe { calls::metronome_seat_destroy(seat) }
+        unsafe { seat_calls::metronome_seat_destroy(seat) }
     }
 }
 
@@ -75,14 +77,26 @@ impl Shared {
     /// Makes a heap. Refused: `BadSetting`, `BadSchedule`, `NoMemory`, `OtherVersion`.
     pub fn new(settings: &Settings) -> Result<Shared> {
         // SAFETY: both live through the call, and the handle holds none.
-        Shared::opened(|handle| unsafe { calls::metronome_seat_create_for(handle, settings, calls::VERSION) })
+        Shared::opened(|handle| unsafe { seat_calls::metronome_seat_create_for(handle, settings, calls::VERSION) })
     }
 
     /// Makes a heap that keeps the last `ring` entries of its log, for [`Turn::entry`]: 72 bytes each, all taken here.
     /// Refused as [`Shared::new`].
     pub fn logged(settings: &Settings, ring: usize) -> Result<Shared> {
         // SAFETY: as above.
-        Shared::opened(|handle| unsafe { calls::metronome_seat_create_logged_for(handle, settings, ring, calls::VERSION) })
+        Shared::opened(|handle| unsafe {
+            seat_calls::metronome_seat_create_logged_for(handle, settings, ring, calls::VERSION)
+        })
+    }
+
+    /// Makes a heap that keeps a plan, by the calls of all seats together, and the last `ring` entries of its log. As long as
+    /// live objects keep to `live_words`, no object is refused for lack of space. Refused as [`Shared::new`], and as `NoPlan` if
+    /// the plan doesn't fit in a heap of these settings.
+    pub fn kept(settings: &Settings, ring: usize, flow: &Flow) -> Result<Shared> {
+        // SAFETY: as above.
+        Shared::opened(|handle| unsafe {
+            seat_calls::metronome_seat_create_kept_for(handle, settings, ring, flow, calls::VERSION)
+        })
     }
 
     /// Returns the heap whose first seat a call makes.
@@ -97,7 +111,7 @@ impl Shared {
     pub fn seat(&self, from: u32) -> Result<Seat> {
         let mut handle = SeatHandle::NONE;
         // SAFETY: both live through the call; the first is open and used under the lock, and the other holds none.
-        done(unsafe { calls::metronome_seat_another(&mut *self.gate.lock(), &mut handle, from) })?;
+        done(unsafe { seat_calls::metronome_seat_another(&mut *self.gate.lock(), &mut handle, from) })?;
         Ok(Seat { handle, gate: Arc::clone(&self.gate) })
     }
 
@@ -120,7 +134,7 @@ impl Shared {
 fn place_of(handle: &mut SeatHandle) -> u64 {
     let mut place = 0;
     // SAFETY: both live through the call, and the seat is open.
-    unsafe { calls::metronome_seat_place(handle, &mut place) };
+    unsafe { seat_calls::metronome_seat_place(handle, &mut place) };
     place
 }
 
@@ -137,7 +151,7 @@ impl Seat {
     pub fn another(&mut self, from: u32) -> Result<Seat> {
         let mut handle = SeatHandle::NONE;
         // SAFETY: both live through the call; the first is open, and the other holds none.
-        done(unsafe { calls::metronome_seat_another(&mut self.handle, &mut handle, from) })?;
+        done(unsafe { seat_calls::metronome_seat_another(&mut self.handle, &mut handle, from) })?;
         Ok(Seat { handle, gate: Arc::clone(&self.gate) })
     }
 
@@ -177,6 +191,6 @@ impl fmt::Debug for Seat {
 impl Drop for Seat {
     fn drop(&mut self) {
         // SAFETY: the handle lives through the call, and nothing borrows the seat any more.
-        unsafe { calls::metronome_seat_destroy(&mut self.handle) }
+        unsafe { seat_calls::metronome_seat_destroy(&mut self.handle) }
     }
 }

@@ -73,6 +73,29 @@ fn the_last_entries_are_logged() -> Result<()> {
     Ok(())
 }
 
+/// A heap that keeps a plan refuses no object, whichever seats make them, and its log has the collector's work.
+#[test]
+fn a_plan_is_kept_by_all_seats() -> Result<()> {
+    let settings = Settings::moving(200, 2, 4);
+    let flow = settings.plan(4000)?;
+    assert_eq!(Shared::kept(&SMALL, 0, &flow).err(), Some(Refusal::NoPlan));
+    let shared = Shared::kept(&settings, 1 << 16, &flow)?;
+    let mut seat = shared.seat(1)?;
+    for _ in 0..2000 {
+        seat.enter().new_words(1, 0, 1000)?;
+        shared.enter().new_words(0, 0, 1000)?;
+    }
+    let mut turn = shared.enter();
+    assert_eq!(turn.new_words(0, 0, 4_000_000).err(), Some(Refusal::AbovePlan));
+    let (kept, last) = (turn.kept()?, turn.last_cycle().expect("a cycle has ended"));
+    assert!(kept.cycles > 1 && kept.quanta >= kept.most_quanta && last.number + 1 >= kept.cycles && last.quanta > 0);
+    let log: Vec<Logged> = (0..).map(|place| turn.entry(place)).take_while(|entry| *entry != Logged::NotYet).collect();
+    assert_eq!(log.iter().filter(|entry| **entry == Logged::Begin(true)).count() as u64, kept.cycles);
+    assert_eq!(log.iter().filter(|entry| matches!(entry, Logged::Quantum(1000, Ok(_)))).count() as u64, kept.quanta);
+    assert_eq!(Shared::new(&SMALL)?.enter().kept().err(), Some(Refusal::NoPlan));
+    Ok(())
+}
+
 #[test]
 fn the_turn_is_one_seats() -> Result<()> {
     let shared = Shared::new(&SMALL)?;

@@ -22,7 +22,7 @@ use Rattle.metronome_c.specs.declared.planning.MetronomeFlow.{MetronomeFlow}
 use Rattle.metronome_c.specs.declared.status.Status.TheVariants.{Done}
 use Rattle.metronome_c.specs.Keeping.{IsUnused, CanKeep}
 use Rattle.metronome_c.specs.Lifetime.{IsMadeOf}
-use Rattle.metronome_c.specs.Planning.{flow_told, IsPlanned, plan_status, PlansUnless, TellsPlan}
+use Rattle.metronome_c.specs.Planning.{flow_of, Suits, SuitsSettings, flow_told, IsPlanned, plan_status, PlansUnless, TellsPlan}
 use Rattle.metronome_c.specs.Status.{status_number, fault_status}
 
 abbrev one_if : Bool → ℕ
@@ -69,24 +69,46 @@ module _ (s : Settings) (c d : Config) (of : IsOf s c) (is : IsOf s d) where
       (subst (λ p. FlowFitsOn f (roots_in c) p (d.collector_ticks * d.rate)) pages
       (subst (FlowFitsOn f (roots_in c) c.pages) budget w))
 
-module _ (s : Settings) (h : Held) (made : IsMadeOf s h) (told live : ℕ) (before flow : MetronomeFlow) where
+module _ (s : Settings) (d : Config) (is : IsOf s d) (told live : ℕ) (before flow : MetronomeFlow) where
   -- where a plan was told
-  by_plan : (c : Config) (least : Option ℕ) (plan : Option Plan) → IsOf s c → IsPlanned c live plan → flow ≡ flow_told c live least plan → told ≡ status_number (plan_status plan) → told ≡ status_number Done → CanKeep h flow
-  by_plan c least None of planned is status done = absurd (omega (arith, status, done))
-  by_plan c least (Some plan) of planned is status done =
-      subst (λ (f : MetronomeFlow). CanKeep h f) (sym is) (record {
-        unused = unused h.heap made.0;
-        budget = budget s c h.config of made.1;
-        moves = moves s c h.config of made.1 planned.0;
-        fits = fits s c h.config of made.1 (planned_flow live plan) planned.1.0.lasts.fits;
+  by_plan : (c : Config) (least : Option ℕ) (plan : Option Plan) → IsOf s c → IsPlanned c live plan → flow ≡ flow_told c live least plan → told ≡ status_number (plan_status plan) → told ≡ status_number Done → Suits d flow
+  by_plan c least None of planned told_so status done = absurd (omega (arith, status, done))
+  by_plan c least (Some plan) of planned told_so status done =
+      subst (λ (f : MetronomeFlow). Suits d f) (sym told_so) (record {
+        budget = budget s c d of is;
+        moves = moves s c d of is planned.0;
+        fits = fits s c d of is (planned_flow live plan) planned.1.0.lasts.fits;
       })
 
-  by_fault : (fault : Option ConfigFault) → PlansUnless fault s live before flow told → told ≡ status_number Done → CanKeep h flow
+  by_fault : (fault : Option ConfigFault) → PlansUnless fault s live before flow told → told ≡ status_number Done → Suits d flow
   by_fault (Some fault) tells done = absurd (no_fault fault (sym tells.1 ∙ done))
   by_fault None tells done = by_plan tells.0 tells.1 tells.2 tells.3 tells.5 tells.6 tells.7 done
 
-  pub plan_kept : TellsPlan s live before flow told → told ≡ status_number Done → CanKeep h flow
-  plan_kept tells done = by_fault (fault_of Library s) tells done
+  pub plan_suits : TellsPlan s live before flow told → told ≡ status_number Done → Suits d flow
+  plan_suits tells done = by_fault (fault_of Library s) tells done
+
+-- so it is kept by a heap that was just made
+pub plan_kept : (s : Settings) (h : Held) → IsMadeOf s h → (told live : ℕ) (before flow : MetronomeFlow) → TellsPlan s live before flow told → told ≡ status_number Done → CanKeep h flow
+plan_kept s h made told live before flow tells done = record {
+  unused = unused h.heap made.0;
+  suits = plan_suits s h.config made.1 told live before flow tells done;
+}
+
+-- a flow that suits one configuration of settings suits each
+pub suits_each : (s : Settings) (c : Config) (flow : MetronomeFlow) → IsOf s c → Suits c flow → SuitsSettings s flow
+suits_each s c flow of suits none d is = record {
+  budget = suits.budget ∙ budget s c d of is;
+  moves = moves s c d of is suits.moves;
+  fits = fits s c d of is (flow_of flow) suits.fits;
+}
+
+-- where the settings have a fault, it suits them
+pub suits_faulty : (s : Settings) (fault : ConfigFault) (flow : MetronomeFlow) → Some fault ≡ fault_of Library s → SuitsSettings s flow
+suits_faulty s fault flow is none = absurd (let z : Some fault ≡ None = is ∙ none in cc)
+
+-- where they have none, it doesn't suit them if it doesn't suit their configuration
+pub unsuited : (s : Settings) (c : Config) (flow : MetronomeFlow) → None ≡ fault_of Library s → IsOf s c → (Suits c flow → ⊥) → SuitsSettings s flow → ⊥
+unsuited s c flow none of isnt suits = isnt (suits (sym none) c of)
 
 -- C is told a plan, or the first fault of the settings
 pub plan_told : (s : Settings) (c : Config) (live : ℕ) (least : Option ℕ) (plan : Option Plan) (before after : MetronomeFlow) (n : ℕ) → None ≡ fault_of Library s → IsOf s c → IsLeastPages c live least → IsPlanned c live plan

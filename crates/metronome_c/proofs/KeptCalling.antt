@@ -235,9 +235,9 @@ module _ (s : Settings) (h : Held) (made : IsMadeOf s h) (flow : MetronomeFlow) 
       let just : IsJustPaced h.config (plan_in flow) (state_of v) = record {
         heap = made.0;
         settings = made.2;
-        counts = ap (λ (b : ℕ). first_counts b (plan_in flow)) can.budget;
+        counts = ap (λ (b : ℕ). first_counts b (plan_in flow)) can.suits.budget;
       } in
-      let found = finds_room h.config (plan_in flow) flow.live_words (state_of v) (state_of all.view) all.events just can.moves can.fits all.path in
+      let found = finds_room h.config (plan_in flow) flow.live_words (state_of v) (state_of all.view) all.events just can.suits.moves can.suits.fits all.path in
       record {
         events = all.events;
         left = held h.config all.view;

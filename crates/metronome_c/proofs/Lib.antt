@@ -17,4 +17,5 @@ pub mod Calling
 pub mod Checks
 pub mod KeptCalling
 pub mod Fitting
+pub mod SeatPlans
 pub mod Limits

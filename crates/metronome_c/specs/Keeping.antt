@@ -1,19 +1,17 @@
 -- A plan is kept.
-use Rattle.std.specs.Prelude.{◌≡◌, ℕ, ◌*◌, Bool, true, false, if◌then◌else◌, length, Option, Some, None, Result, Ok, Err}
+use Rattle.std.specs.Prelude.{◌≡◌, ℕ, Bool, true, false, if◌then◌else◌, length, Option, Some, None, Result, Ok, Err}
 use Rattle.heap_model.specs.declared.phase.Phase.TheVariants as phases
 use Rattle.heap_model.specs.Pages.{free_pages}
 use Rattle.heap_model.specs.State.{HeapState}
-use Rattle.fragmentation.specs.Flow.{Flow}
-use Rattle.fragmentation.specs.Configured.{MovesAll, FlowFitsIn}
 use Rattle.paced.specs.declared.figures.Figures.{Figures}
 use Rattle.paced.specs.Pacing.{PacerView}
-use Rattle.paced.specs.Rooms.{planned_flow, first_pacer}
+use Rattle.paced.specs.Rooms.{first_pacer}
 use Rattle.metronome_c.specs.declared.held.Held.{Held}
 use Rattle.metronome_c.specs.declared.keeping.MetronomeWork.{MetronomeWork}
 use Rattle.metronome_c.specs.declared.planning.MetronomeFlow.{MetronomeFlow}
 use Rattle.metronome_c.specs.declared.status.Status.{Status}
 use Rattle.metronome_c.specs.declared.status.Status.TheVariants.{Done, NoPlan}
-use Rattle.metronome_c.specs.Planning.{plan_in}
+use Rattle.metronome_c.specs.Planning.{plan_in, Suits}
 use Rattle.metronome_c.specs.Status.{status_number}
 
 -- no page was used yet, and no cycle begun
@@ -22,16 +20,10 @@ pub record IsUnused (h : HeapState) : Type 0 where
   pub units : h.units ≡ 0
   pub free : free_pages h.store.pages ≡ length h.store.pages
 
--- the flow that C gives
-abbrev pub flow_of : MetronomeFlow → Flow
-flow_of f = planned_flow f.live_words (plan_in f)
-
--- The heap is unused, it moves all, and the flow fits in it, with quanta of the budget of its settings.
+-- the heap is unused, and the flow suits its configuration
 pub record CanKeep (h : Held) (flow : MetronomeFlow) : Type 0 where
   pub unused : IsUnused h.heap
-  pub budget : flow.budget ≡ h.config.collector_ticks * h.config.rate
-  pub moves : MovesAll h.config
-  pub fits : FlowFitsIn h.config (flow_of flow)
+  pub suits : Suits h.config flow
 
 -- a heap as it is, with a pacer that has counted nothing
 abbrev pub kept : Held → MetronomeFlow → Held

@@ -19,7 +19,7 @@ use Rattle.metronome_c.specs.declared.status.Status.TheVariants.{AbovePlan}
 use Rattle.metronome_c.specs.Answer.{refused}
 use Rattle.metronome_c.specs.BulkCalls.{progress_told, DoesList, MakesList}
 use Rattle.metronome_c.specs.Calls.{Call, Command_called, DoesCall, TellsEvent}
-use Rattle.metronome_c.specs.Keeping.{flow_of}
+use Rattle.metronome_c.specs.Planning.{flow_of}
 
 -- A call that may change the heap: one as without a plan; or one that does a list of commands of a mutator, with how far it
 -- was done.

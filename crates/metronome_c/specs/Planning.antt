@@ -5,9 +5,11 @@ use Rattle.size_classes.specs.declared.config.Config.{Config}
 use Rattle.size_classes.specs.declared.fault.ConfigFault.{ConfigFault}
 use Rattle.size_classes.specs.declared.ranges.Ranges.TheVariants.{Library}
 use Rattle.size_classes.specs.Config.{fault_of, IsOf}
-use Rattle.fragmentation.specs.Configured.{MovesAll}
+use Rattle.fragmentation.specs.Flow.{Flow}
+use Rattle.fragmentation.specs.Configured.{MovesAll, FlowFitsIn}
 use Rattle.paced.specs.declared.plan.Plan.{Plan}
 use Rattle.paced.specs.Planning.{IsFastest, IsLeastPages}
+use Rattle.paced.specs.Rooms.{planned_flow}
 use Rattle.metronome_c.specs.declared.planning.MetronomeFlow.{MetronomeFlow}
 use Rattle.metronome_c.specs.declared.status.Status.{Status}
 use Rattle.metronome_c.specs.declared.status.Status.TheVariants.{Done, NoPlan}
@@ -16,6 +18,21 @@ use Rattle.metronome_c.specs.Status.{status_number, fault_status}
 -- the plan that C gives
 abbrev pub plan_in : MetronomeFlow → Plan
 plan_in f = record { quantum_words = f.quantum_words; cycle_words = f.cycle_words }
+
+-- the flow that C gives
+abbrev pub flow_of : MetronomeFlow → Flow
+flow_of f = planned_flow f.live_words (plan_in f)
+
+-- A flow suits a configuration if its quanta have the configuration's budget, each cycle moves and may empty all pages, and the
+-- flow fits.
+pub record Suits (c : Config) (flow : MetronomeFlow) : Type 0 where
+  pub budget : flow.budget ≡ c.collector_ticks * c.rate
+  pub moves : MovesAll c
+  pub fits : FlowFitsIn c (flow_of flow)
+
+-- a flow suits settings if it suits their configuration, or they have a fault
+abbrev pub SuitsSettings : Settings → MetronomeFlow → Type 0
+SuitsSettings s flow = fault_of Library s ≡ None → (c : Config) → IsOf s c → Suits c flow
 
 -- the words of a plan; none where there is none
 abbrev pub words_told : Option Plan → Plan

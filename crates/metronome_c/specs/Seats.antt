@@ -1,24 +1,34 @@
 -- What is asked of the seat that C holds, and what C is told.
-use Rattle.std.specs.Prelude.{◌≡◌, ℕ, Bool, true, false, [], Option, Some, None, Result, Ok, Err}
+use Rattle.std.specs.Prelude.{◌≡◌, ◌⊎◌, ℕ, ◌*◌, Bool, true, false, [], Option, Some, None, Result, Ok, Err}
 use Rattle.graph_heap.specs.declared.command.Command.{Command}
 use Rattle.graph_heap.specs.declared.command.Reply.{Reply}
 use Rattle.size_classes.specs.declared.settings.Settings.{Settings}
 use Rattle.size_classes.specs.declared.config.Config.{Config}
 use Rattle.size_classes.specs.Config.{IsOf}
+use Rattle.heap_model.specs.Opening.{IsOpening}
 use Rattle.heap_model.specs.Settings.{settings_by}
 use Rattle.heap_model.specs.State.{HeapState}
 use Rattle.machine.specs.declared.collector.Busy.{Busy as CycleOn}
 use Rattle.machine.specs.declared.collector.BudgetOutOfRange.{BudgetOutOfRange as Refused}
 use Rattle.machine.specs.declared.collector.Spent.{Spent}
-use Rattle.heap_shared.specs.Members.{MemberView, Calls, Finds, Adds}
+use Rattle.paced.specs.declared.figures.Figures.{Figures}
+use Rattle.paced.specs.declared.plan.Plan.{Plan}
+use Rattle.paced.specs.Rooms.{FindsRoom}
+use Rattle.heap_shared.specs.Members.{MemberView, events_up_to, Calls, Finds, Adds}
+use Rattle.heap_shared.specs.Ring.{Ringed}
 use Rattle.metronome_c.specs.declared.answer.Answer.{Answer}
 use Rattle.metronome_c.specs.declared.answer.MetronomeShape.{MetronomeShape}
 use Rattle.metronome_c.specs.declared.collector.QuantumSpent.{QuantumSpent}
+use Rattle.metronome_c.specs.declared.keeping.MetronomeWork.{MetronomeWork}
+use Rattle.metronome_c.specs.declared.planning.MetronomeFlow.{MetronomeFlow}
 use Rattle.metronome_c.specs.declared.status.Status.{Status}
-use Rattle.metronome_c.specs.declared.status.Status.TheVariants.{Done, Busy, BudgetOutOfRange, Closed, Open, Outside}
+use Rattle.metronome_c.specs.declared.status.Status.TheVariants.{Done, Busy, BudgetOutOfRange, Closed, NoPlan, Open, Outside}
 use Rattle.metronome_c.specs.Answer.{answered, shape_told}
 use Rattle.metronome_c.specs.Collecting.{phase_number}
 use Rattle.metronome_c.specs.Figures.{IsTold}
+use Rattle.metronome_c.specs.Keeping.{work_told}
+use Rattle.metronome_c.specs.Lifetime.{Creates}
+use Rattle.metronome_c.specs.Planning.{plan_in, flow_of, SuitsSettings}
 use Rattle.metronome_c.specs.Status.{status_number, not_done_status, no_member_status}
 
 -- A call of the seat that a handle holds, and what is told of its answer: a value, or a status. Where the handle holds
@@ -87,16 +97,44 @@ abbrev pub ShapesSeat : Result MemberView Status → ℕ → Command → Result 
 ShapesSeat old m c new before told =
     DoesSeat old m c new (λ outcome. (told.0 ≡ answered outcome) × (told.1 ≡ shape_told before outcome))
 
--- A seat at a new heap of these settings, which keeps so many of its last entries: it calls for all mutators, has all
--- numbers, has seen an empty log, which is all that was done, as no one else has a number; and it hasn't the turn.
-pub record IsNewSeat (ring : ℕ) (s : Settings) (m : MemberView) : Type 0 where
+-- A seat at a new heap of these settings, which keeps this many of its last entries, and a plan or none. The seat calls for all
+-- mutators and has all numbers. It has seen an empty log, which is all that was done, as no one else has a number. It doesn't have
+-- the turn.
+pub record IsNewSeat (ring : ℕ) (plan : Option Plan) (s : Settings) (m : MemberView) : Type 0 where
   pub config : Config
   pub of : IsOf s config
-  pub settings : (m.settings ≡ settings_by config) × (m.ring ≡ ring) × (m.plan ≡ None)
+  pub settings : (m.settings ≡ settings_by config) × (m.ring ≡ ring) × (m.plan ≡ plan)
+  pub budget : m.budget ≡ config.collector_ticks * config.rate
   pub mutators : (m.from ≡ 0) × (m.to ≡ config.mutators)
   pub numbers : (m.number ≡ 0) × (m.step ≡ 1)
   pub seen : (m.seen ≡ []) × (m.learnt ≡ [])
   pub turn : (m.turn ≡ None) × (m.did ≡ [])
+
+-- If a plan suits the settings, the first seat of a heap that keeps it is created. Else C is told that there is no such plan, and
+-- nothing changes.
+abbrev pub CreatesKept : ℕ → MetronomeFlow → Result MemberView Status → Settings → Result MemberView Status → ℕ → Type 0
+CreatesKept ring flow old s new status =
+    (SuitsSettings s flow × Creates (IsNewSeat ring (Some (plan_in flow))) old s new status)
+    ⊎ ((SuitsSettings s flow → ⊥) × (new ≡ old) × (status ≡ status_number NoPlan))
+
+-- A seat is at the heap of another: it has the same settings, plan and budget.
+pub record IsAtHeapOf (first v : MemberView) : Type 0 where
+  pub heap : v.heap ≡ first.heap
+  pub settings : v.settings ≡ first.settings
+  pub plan : v.plan ≡ first.plan
+  pub budget : v.budget ≡ first.budget
+
+-- The events up to now led from a heap of these settings that was just made. No reply among them is the refusal for lack of space,
+-- if live objects were within the flow whenever one of them began a cycle.
+abbrev pub HasFoundRoom : Settings → MetronomeFlow → MemberView → Ringed → Type 0
+HasFoundRoom s flow v r = (c : Config) × IsOf s c × (opening : HeapState) × IsOpening opening
+    × FindsRoom c (flow_of flow) opening r.course.heap (events_up_to v)
+
+-- the figures of a plan; or that the heap keeps none, or that the seat hasn't the turn
+abbrev pub kept_told : Option (Option Figures) → Result MetronomeWork Status
+kept_told (Some (Some figures)) = Ok (work_told figures)
+kept_told (Some None) = Err NoPlan
+kept_told None = Err Outside
 
 -- what a closed handle holds after one more seat was asked for: that seat, or nothing
 abbrev pub made_of : Result MemberView Status → Result MemberView Status

@@ -9,7 +9,7 @@ ghost use Rattle.metronome_c.specs.Keeping.{IsUnused, KeepsHeld};
 use crate::planning::MetronomeFlow;
 use graph_heap::Shape;
 use machine::{BudgetOutOfRange, Busy, Heap, Spent};
-use paced::{Cycles, Figures, NoLog, Pacer, flow_fits, moves_all};
+use paced::{Cycles, Figures, NoLog, Pacer};
 use size_classes::Config;
 
 /// A heap, the configuration that it was made of, its pacer, where the program keeps a plan, and its cycles.
@@ -102,15 +102,10 @@ impl Held {
     pub(crate) fn keep(&mut self, flow: &MetronomeFlow) -> bool
         ensures { KeepsHeld self.old flow.now result self.new }
     {
-        let plan = flow.plan();
-        if !self.is_unused()
-            || flow.budget != self.config.budget()
-            || !moves_all(&self.config)
-            || !flow_fits(&self.config, flow.live_words, &plan, None)
-        {
+        if !self.is_unused() || !flow.suits(&self.config) {
             return false;
         }
-        self.pacer = Some(Pacer::new(&self.config, plan));
+        self.pacer = Some(Pacer::new(&self.config, flow.plan()));
         true
     }
 }

@@ -21,7 +21,7 @@ pub struct MetronomeWork {
 
 impl MetronomeWork {
     /// What C is told of a pacer's figures.
-    fn from_figures(figures: Figures) -> MetronomeWork
+    pub(crate) fn from_figures(figures: Figures) -> MetronomeWork
         ensures { result ≡ work_told figures }
     {
         MetronomeWork {

@@ -1,10 +1,10 @@
 //! Plans: how many words of objects a heap of some settings lets be made while its collector works.
-ghost use Rattle.std.specs.Prelude.{◌≡◌, ℕ, Option};
+ghost use Rattle.std.specs.Prelude.{◌≡◌, ℕ, Option, true, false};
 ghost use Rattle.paced.specs.Planning.{IsLeastPages};
-ghost use Rattle.metronome_c.specs.Planning.{plan_in, flow_told, IsPlanned, TellsPlan};
+ghost use Rattle.metronome_c.specs.Planning.{plan_in, Suits, SuitsSettings, flow_told, IsPlanned, TellsPlan};
 
 use crate::status::Status;
-use paced::{Plan, least_pages, moves_all, planned};
+use paced::{Plan, flow_fits, least_pages, moves_all, planned};
 use size_classes::{Config, Settings};
 
 /// A plan, for what is live at most: how many words of blocks are made at most for each quantum of a budget, and in a whole
@@ -39,6 +39,28 @@ impl MetronomeFlow {
             cycle_words,
             least_pages: least,
             budget: config.budget(),
+        }
+    }
+
+    /// Returns whether the plan suits a configuration: its quanta have the budget of the configuration, each cycle moves and may
+    /// empty all pages, and its flow fits.
+    pub(crate) fn suits(&self, config: &Config) -> bool
+        ensures yes { result ≡ true → Suits config.now self.now }
+        ensures no { result ≡ false → Suits config.now self.now → ⊥ }
+    {
+        self.budget == config.budget()
+            && moves_all(config)
+            && flow_fits(config, self.live_words, &self.plan(), None)
+    }
+
+    /// Returns whether the plan suits the configuration of settings, or these have a fault.
+    pub(crate) fn suits_settings(&self, settings: &Settings) -> bool
+        ensures yes { result ≡ true → SuitsSettings settings.now self.now }
+        ensures no { result ≡ false → SuitsSettings settings.now self.now → ⊥ }
+    {
+        match Config::check_for_library(settings) {
+            Ok(config) => self.suits(&config),
+            Err(_fault) => true,
         }
     }
 

@@ -4,6 +4,7 @@ mod collector;
 mod commands;
 mod figures;
 mod handle;
+mod keeping;
 mod laws;
 mod lifetime;
 mod ring;

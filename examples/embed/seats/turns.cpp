@@ -95,6 +95,34 @@ static void check_log() {
     CHECK(entry.kind == METRONOME_NOT_YET);
 }
 
+// A heap that keeps a plan for 2000 live words, and its figures.
+static void check_plan() {
+    const metronome_settings moving = METRONOME_SETTINGS_MOVING(200, THREADS, 3);
+    metronome_flow flow{};
+    metronome_work work{};
+    metronome_cycle cycle{};
+    metronome_answer answer{};
+    Gate gate;
+    Seat seat, other;
+    std::optional<Turn> turn;
+    IS(METRONOME_OK, metronome_plan(&moving, 2000, &flow));
+    IS(METRONOME_NO_PLAN, seat.try_open_kept(SETTINGS, 0, flow));
+    IS(METRONOME_OK, seat.try_open_kept(moving, 0, flow));
+    IS(METRONOME_OK, seat.try_another(1, other));
+    for (std::uint32_t n = 0; n < 2000; n++) {
+        std::optional<Turn> made;
+        const std::uint32_t mutator = n % 2;
+        if (Turn::try_enter(gate, mutator == 0 ? seat : other, made) != METRONOME_OK) break;
+        if (made->try_call(answer, metronome_seat_new_words, mutator, 0, 1000) != METRONOME_OK) break;
+    }
+    CHECK(answer.kind == METRONOME_MADE);
+    IS(METRONOME_OK, Turn::try_enter(gate, seat, turn));
+    IS(METRONOME_OK, turn->try_kept(work));
+    IS(METRONOME_OK, turn->try_last_cycle(cycle));
+    CHECK(work.cycles > 1 && work.quanta >= work.most_quanta && cycle.number + 1 >= work.cycles);
+    IS(METRONOME_ABOVE_PLAN, turn->try_call(answer, metronome_seat_new_words, 0, 0, 4000000));
+}
+
 // The work of a mutator's thread: it adds to a word of an object, with two calls in a turn.
 static void count_up(Gate &gate, Seat seat, std::uint32_t mutator, Seat &back) {
     for (std::uint32_t n = 0; n < ROUNDS; n++) {
@@ -163,6 +191,12 @@ static void check_throwing() {
     CHECK(seat.place() == before + 1);
     Seat logged(SETTINGS, 1);
     CHECK(Turn(gate, logged).entry(0).kind == METRONOME_NOT_YET);
+    const metronome_settings moving = METRONOME_SETTINGS_MOVING(200, THREADS, 3);
+    metronome_flow flow{};
+    IS(METRONOME_OK, metronome_plan(&moving, 2000, &flow));
+    Seat planned(moving, 0, flow);
+    CHECK(Turn(gate, planned).kept().quanta == 0);
+    CHECK(Turn(gate, planned).last_cycle().number == 0);
 }
 
 #else
@@ -176,6 +210,7 @@ int main() {
     check_seats();
     check_turns();
     check_log();
+    check_plan();
     check_threads(fast);
     check_threads(fair);
     check_throwing();

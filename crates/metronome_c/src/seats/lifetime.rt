@@ -1,5 +1,5 @@
 //! Heaps that threads share are made, with seats at them, and given back.
-ghost use Rattle.std.specs.Prelude.{◌≡◌, ◌≢◌};
+ghost use Rattle.std.specs.Prelude.{◌≡◌, ◌≢◌, None};
 ghost use Rattle.metronome_c.specs.declared.status.Status.TheVariants.{OtherVersion};
 ghost use Rattle.metronome_c.specs.Lifetime.{Creates, Destroys};
 ghost use Rattle.metronome_c.specs.Opened.{seat_in};
@@ -10,6 +10,7 @@ use crate::seats::seat::MetronomeSeat;
 use crate::status::Status;
 use crate::text::VERSION;
 use heap_shared::{Member, SharedConfig};
+use paced::Plan;
 use size_classes::{Config, Settings};
 
 /// Makes a heap of these settings and the first seat at it, where the handle is closed and the program was built for
@@ -20,18 +21,24 @@ pub extern "C" fn metronome_seat_create_for(
     settings: &Settings,
     version: u32,
 ) -> u32
-    ensures same { version ≡ 2 → Creates (IsNewSeat 0) (seat_in seat.old) settings.now (seat_in seat.new) result }
+    ensures same { version ≡ 2 → Creates (IsNewSeat 0 None) (seat_in seat.old) settings.now (seat_in seat.new) result }
     ensures other { version ≢ 2 → (seat_in seat.new ≡ seat_in seat.old) × (result ≡ status_number OtherVersion) }
 {
     if version != VERSION {
         return Status::OtherVersion.number();
     }
-    create(seat, settings, 0)
+    create(seat, settings, 0, None)
 }
 
-/// Makes a heap of these settings, with a ring of this capacity, and the first seat at it, where the handle is closed.
-pub(super) fn create(seat: &mut MetronomeSeat, settings: &Settings, ring: usize) -> u32
-    ensures { Creates (IsNewSeat ring) (seat_in seat.old) settings.now (seat_in seat.new) result }
+/// Makes a heap of these settings, with a ring of this capacity and a plan, if it is to keep one, and the first seat at it, where
+/// the handle is closed. That the plan fits is for the caller to see.
+pub(super) fn create(
+    seat: &mut MetronomeSeat,
+    settings: &Settings,
+    ring: usize,
+    plan: Option<Plan>,
+) -> u32
+    ensures { Creates (IsNewSeat ring plan) (seat_in seat.old) settings.now (seat_in seat.new) result }
 {
     if seat.is_open() {
         return Status::Open.number();
@@ -44,12 +51,7 @@ pub(super) fn create(seat: &mut MetronomeSeat, settings: &Settings, ring: usize)
         Err(fault) => return Status::of_fault(fault).number(),
     };
     let alloc = seat.alloc;
-    let asked = SharedConfig {
-        config,
-        ring,
-        plan: None,
-    };
-    let Ok(made) = Member::with_ring(alloc, &asked) else {
+    let Ok(made) = Member::with_ring(alloc, &SharedConfig { config, ring, plan }) else {
         return Status::NoMemory.number();
     };
     match seat.put(made) {

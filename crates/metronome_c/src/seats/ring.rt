@@ -1,5 +1,5 @@
 //! The end of the log of a heap that threads share, which a program reads in its turns.
-ghost use Rattle.std.specs.Prelude.{◌≡◌, ◌≢◌};
+ghost use Rattle.std.specs.Prelude.{◌≡◌, ◌≢◌, None};
 ghost use Rattle.paced.specs.Logged.{event_of};
 ghost use Rattle.heap_shared.specs.Members.{FindsEntry};
 ghost use Rattle.metronome_c.specs.declared.status.Status.TheVariants.{OtherVersion};
@@ -196,13 +196,13 @@ pub extern "C" fn metronome_seat_create_logged_for(
     ring: usize,
     version: u32,
 ) -> u32
-    ensures same { version ≡ 2 → Creates (IsNewSeat ring) (seat_in seat.old) settings.now (seat_in seat.new) result }
+    ensures same { version ≡ 2 → Creates (IsNewSeat ring None) (seat_in seat.old) settings.now (seat_in seat.new) result }
     ensures other { version ≢ 2 → (seat_in seat.new ≡ seat_in seat.old) × (result ≡ status_number OtherVersion) }
 {
     if version != VERSION {
         return Status::OtherVersion.number();
     }
-    create(seat, settings, ring)
+    create(seat, settings, ring, None)
 }
 
 /// Tells what there is at a place of the log, from 0, as it wraps at 2^63, in the turn of the seat.

@@ -1,5 +1,6 @@
 //! Commands as text: their keywords, how they are read, and how they are written.
 ghost use Rattle.std.specs.Prelude.{◌≡◌, ◌≤◌, ◌+◌, ◌∷◌, [], ◌++◌, codes, get_or, length, option_map, take};
+ghost use Rattle.trace.specs.declared.commands.Keyword.TheVariants as keywords;
 ghost use Rattle.trace.specs.Spelling.{keyword_text, command_text};
 ghost use Rattle.trace.specs.Reading.{after_in, comparing, first_keyword_in, keyword_or};
 ghost use Rattle.trace.specs.Reading.{shape_in, two_in, three_in, four_in, slot_and_shape_in, arguments_in, bare_in, command_in, mutator_and_command_in};
@@ -230,27 +231,44 @@ fn command_of(kind: Keyword, version: Version, bytes: &[u8]) -> Option<Command>
     }
 }
 
-/// Reads a command of two kinds, trying the first one first; if it is neither, one without arguments.
+/// Reads a command that loads a reference into a slot; if it is none, one without arguments.
 #[tactic(auto, unfolding(crate::specs::Reading::first_keyword_in))]
-#[inline(always)]
-fn command_of_two(kind: Keyword, other: Keyword, version: Version, bytes: &[u8]) -> Option<Command>
-    ensures { result ≡ keyword_or (first_keyword_in (kind ∷ other ∷ []) bytes.now) (bare_in version bytes.now) }
+#[inline(never)]
+fn loading_command(version: Version, bytes: &[u8]) -> Option<Command>
+    ensures { result ≡ keyword_or (first_keyword_in (keywords.Load ∷ keywords.LoadStatic ∷ []) bytes.now)
+        (bare_in version bytes.now) }
 {
-    match kind.strip(bytes) {
-        Some(rest) => arguments(kind, rest),
-        None => command_of(other, version, bytes),
+    match Keyword::Load.strip(bytes) {
+        Some(rest) => arguments(Keyword::Load, rest),
+        None => command_of(Keyword::LoadStatic, version, bytes),
+    }
+}
+
+/// Reads a command that stores a slot's reference; if it is none, one without arguments.
+#[tactic(auto, unfolding(crate::specs::Reading::first_keyword_in))]
+#[inline(never)]
+fn storing_command(version: Version, bytes: &[u8]) -> Option<Command>
+    ensures { result ≡ keyword_or (first_keyword_in (keywords.Store ∷ keywords.StoreStatic ∷ []) bytes.now)
+        (bare_in version bytes.now) }
+{
+    match Keyword::Store.strip(bytes) {
+        Some(rest) => arguments(Keyword::Store, rest),
+        None => command_of(Keyword::StoreStatic, version, bytes),
     }
 }
 
 /// Reads a command of the kinds that compare; if it is none of them, one without arguments.
 #[tactic(auto, unfolding(crate::specs::Reading::first_keyword_in))]
-#[inline(always)]
+#[inline(never)]
 fn comparing_command(version: Version, bytes: &[u8]) -> Option<Command>
     ensures { result ≡ keyword_or (first_keyword_in comparing bytes.now) (bare_in version bytes.now) }
 {
-    match Keyword::CompareStore.strip(bytes) {
-        Some(rest) => arguments(Keyword::CompareStore, rest),
-        None => command_of_two(Keyword::ComparePut, Keyword::CompareStatic, version, bytes),
+    if let Some(rest) = Keyword::CompareStore.strip(bytes) {
+        return arguments(Keyword::CompareStore, rest);
+    }
+    match Keyword::ComparePut.strip(bytes) {
+        Some(rest) => arguments(Keyword::ComparePut, rest),
+        None => command_of(Keyword::CompareStatic, version, bytes),
     }
 }
 
@@ -265,9 +283,9 @@ fn command(version: Version, bytes: &[u8]) -> Option<Command>
         (b'g', _) => command_of(Keyword::Get, version, bytes),
         (b'p', _) => command_of(Keyword::Put, version, bytes),
         (b'd', _) => command_of(Keyword::Describe, version, bytes),
-        (b'l', _) => command_of_two(Keyword::Load, Keyword::LoadStatic, version, bytes),
+        (b'l', _) => loading_command(version, bytes),
         (b's', b'a') => command_of(Keyword::Same, version, bytes),
-        (b's', _) => command_of_two(Keyword::Store, Keyword::StoreStatic, version, bytes),
+        (b's', _) => storing_command(version, bytes),
         (_, b'o') => command_of(Keyword::Copy, version, bytes),
         (_, b'l') => command_of(Keyword::Clear, version, bytes),
         _ => comparing_command(version, bytes),

@@ -43,6 +43,7 @@ fn tell_entry<K: Sink>(
 }
 
 /// Writes the line that tells the version to a sink, in a style. The line is made in an array.
+#[inline(never)]
 fn tell_version<K: Sink>(style: Style, out: &mut [u8; 256], sink: &mut K) -> Result<(), WriteFailed>
     ensures ok { OnOk result (K.taken sink.new ≡ K.taken sink.old ++ written_version versions.Second style) }
     ensures err { OnErr result (GrowsByPart (K.taken sink.old) (K.taken sink.new)

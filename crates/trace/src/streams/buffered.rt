@@ -22,17 +22,15 @@ fn copy_ends(out: &mut [u8], bytes: &[u8], count: usize)
     out[rest..].copy_from_slice(&bytes[rest..]);
 }
 
-/// Copies a piece of bytes. If it has 2 to 32 bytes, as a line has, it is copied without a call.
+/// Copies a piece of bytes. If it has 4 to 16 bytes, as most lines of replies, it is copied without a call.
 #[inline(always)]
 fn copy(out: &mut [u8], bytes: &[u8])
     requires { length out.old ≡ length bytes.now }
     ensures { out.new ≡ bytes.now }
 {
     match bytes.len() {
-        2..=3 => copy_ends(out, bytes, 2),
         4..=7 => copy_ends(out, bytes, 4),
-        8..=15 => copy_ends(out, bytes, 8),
-        16..=32 => copy_ends(out, bytes, 16),
+        8..=16 => copy_ends(out, bytes, 8),
         _ => out.copy_from_slice(bytes),
     }
 }

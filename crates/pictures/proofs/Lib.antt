@@ -9,4 +9,5 @@ pub mod PageRows
 pub mod Texts
 pub mod PathLines
 pub mod CycleSpans
+pub mod PageCounts
 pub mod Noting

@@ -1,18 +1,20 @@
--- The quanta of a run, and its cycles with their phases, as events that viewers of traces read: JSON, in the Trace Event
--- Format. Times are ticks, which stand for its microseconds. All names are fixed, so nothing is escaped.
-use Rattle.std.specs.Prelude.{ℕ, ◌-◌, ◌*◌, ◌/◌, List, [], ◌∷◌, ◌++◌, codes, decimal}
+-- The quanta of a run, its cycles with their phases, and its pages, as events that viewers of traces read: JSON, in the
+-- Trace Event Format. Times are ticks, which stand for its microseconds. All names are fixed, so nothing is escaped.
+use Rattle.std.specs.Prelude.{ℕ, ◌-◌, ◌*◌, ◌/◌, List, [], ◌∷◌, ◌++◌, length, map, codes, decimal}
 use Rattle.std.specs.List.{flat_map, zip}
+use Rattle.heap_model.specs.Pages.{free_pages}
 use Rattle.quanta.specs.declared.interval.Interval.{Interval}
-use Rattle.quanta.specs.Timetable.{Timetable, last_end}
+use Rattle.quanta.specs.Timetable.{last_end}
 use Rattle.trace.specs.Player.{PlayerState}
 use Rattle.pictures.specs.declared.events.Row.{Row}
 use Rattle.pictures.specs.declared.events.Row.TheVariants.{Collector, Mutators, Cycles, Phases}
 use Rattle.pictures.specs.declared.events.Span.{Span}
 use Rattle.pictures.specs.declared.events.Span.TheVariants as spans
 use Rattle.pictures.specs.declared.events.TraceEvent.{TraceEvent}
-use Rattle.pictures.specs.declared.events.TraceEvent.TheVariants.{Open, Process, Row as Row_name, Quantum, Between, Share, Span as Span_of, Rest, Close}
-use Rattle.pictures.specs.CycleSpans.{cycles_on, cycle_events}
+use Rattle.pictures.specs.declared.events.TraceEvent.TheVariants.{Open, Process, Row as Row_name, Quantum, Between, Share, Span as Span_of, Pages, Rest, Close}
+use Rattle.pictures.specs.CycleSpans.{Turn, cycles_on, cycle_events}
 use Rattle.pictures.specs.Lines.{lines_text}
+use Rattle.pictures.specs.Samples.{pages_used}
 use Rattle.pictures.specs.Utilisation.{span_of}
 
 -- the name of the whole
@@ -67,6 +69,12 @@ span_line spans.Marking start ticks = ticks_line (codes "marking") Phases start 
 span_line spans.Sweeping start ticks = ticks_line (codes "sweeping") Phases start ticks
 span_line spans.Moving start ticks = ticks_line (codes "moving") Phases start ticks
 
+-- how many pages are in use and how many are free, from a tick on
+abbrev pub pages_line : ℕ → ℕ → ℕ → List ℕ
+pages_line tick used free =
+    codes "{\"name\":\"pages\",\"ph\":\"C\",\"ts\":" ++ decimal tick ++ codes ",\"pid\":1,\"args\":{\"used\":"
+    ++ decimal used ++ codes ",\"free\":" ++ decimal free ++ codes "}},"
+
 -- an event as a line of text: each but the last has a comma behind it
 abbrev pub event_line : TraceEvent → List ℕ
 event_line Open = codes "{\"traceEvents\":["
@@ -76,6 +84,7 @@ event_line (Quantum start ticks) = ticks_line (codes "quantum") Collector start 
 event_line (Between start ticks) = ticks_line (codes "mutators") Mutators start ticks
 event_line (Share tick permille) = share_line tick permille
 event_line (Span_of span start ticks) = span_line span start ticks
+event_line (Pages tick used free) = pages_line tick used free
 event_line (Rest start ticks) = ticks_text (codes "mutators") Mutators start ticks
 event_line Close = codes "]}"
 
@@ -101,14 +110,25 @@ events_head = Open ∷ Process ∷ Row_name Collector ∷ Row_name Mutators ∷ 
 abbrev pub cycles_events : PlayerState → List TraceEvent
 cycles_events p = flat_map cycle_events (cycles_on [] (zip p.timetable.intervals p.starts))
 
--- behind them the mutators' ticks up to the end of the span
-abbrev pub events_tail : Timetable → List TraceEvent
-events_tail t = Rest (last_end t.intervals) (span_of t - last_end t.intervals) ∷ Close ∷ []
+-- the pages of a heap that were in use, and the free ones, when a quantum started
+abbrev pub pages_event : ℕ → Turn → TraceEvent
+pages_event pages q = Pages q.0.start (pages - q.1.free_pages) q.1.free_pages
+
+-- that of each of a player's quanta that took ticks, one after the other
+abbrev pub pages_events : PlayerState → List TraceEvent
+pages_events p = map (pages_event (length p.course.heap.store.pages)) (zip p.timetable.intervals p.starts)
+
+-- behind them the pages at the end of the span, and the mutators' ticks up to there
+abbrev pub events_tail : PlayerState → List TraceEvent
+events_tail p =
+    Pages (span_of p.timetable) (pages_used p.course.heap) (free_pages p.course.heap.store.pages)
+    ∷ Rest (last_end p.timetable.intervals) (span_of p.timetable - last_end p.timetable.intervals) ∷ Close ∷ []
 
 -- all events of a player
 abbrev pub events_of : PlayerState → List TraceEvent
 events_of p =
-    events_head ++ (quanta_events 0 p.timetable.intervals ++ (cycles_events p ++ events_tail p.timetable))
+    events_head
+    ++ (quanta_events 0 p.timetable.intervals ++ (cycles_events p ++ (pages_events p ++ events_tail p)))
 
 -- the text of events: each is a line, with LF (byte 10) after it
 abbrev pub json_text : List TraceEvent → List ℕ

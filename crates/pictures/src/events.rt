@@ -1,13 +1,15 @@
-//! The quanta of a run, and its cycles with their phases, as events that viewers of traces read.
+//! The quanta of a run, its cycles with their phases, and its pages, as events that viewers of traces read.
 ghost use Rattle.std.specs.Prelude.{◌≡◌, ◌≤◌, ◌<◌, ◌+◌, ◌-◌, ◌*◌, ◌/◌, ◌++◌, length, take, OnOk, OnErr};
 ghost use Rattle.trace.specs.Streams.{GrowsByPart, failed};
 ghost use Rattle.quanta.specs.Intervals.{IsRising};
 ghost use Rattle.quanta.specs.Timetable.{last_end};
-ghost use Rattle.pictures.specs.Events.{row_number, row_text, row_line, length_text, ticks_text, ticks_line, span_line, share_line, event_line, quantum_events, quanta_events, events_head, events_tail, json_text, events_picture};
+ghost use Rattle.pictures.specs.Events.{row_number, row_text, row_line, length_text, ticks_text, ticks_line, span_line, share_line, pages_line, event_line, quantum_events, quanta_events, events_head, events_tail, json_text, events_picture};
 
 use crate::cycle_spans::write_cycles;
+use crate::page_counts::write_pages;
+use crate::sample::pages_used;
 use crate::writing::{DocumentLine, write_lines};
-use quanta::{Interval, Schedule};
+use quanta::Interval;
 use trace::{Player, Sink, WriteFailed, put, put_named};
 
 /// A row of events, with a name.
@@ -48,6 +50,8 @@ pub enum TraceEvent {
     Share(u64, u64),
     /// When a cycle or a phase begins, and how many ticks it takes.
     Span(Span, u64, u64),
+    /// From when on as many pages are in use, and as many free.
+    Pages(u64, u64, u64),
     /// As `Between`, behind the last quantum: the last event.
     Rest(u64, u64),
     /// The end of the document.
@@ -158,6 +162,18 @@ fn put_share(out: &mut [u8], tick: u64, permille: u64) -> usize
     put(out, end, b"}},")
 }
 
+/// Puts how many pages are in use and how many are free, from a tick on.
+fn put_pages(out: &mut [u8], tick: u64, used: u64, free: u64) -> usize
+    requires { 256 ≤ length out.old }
+    ensures text { take result out.new ≡ pages_line tick used free }
+    ensures place { result < 256 }
+{
+    let end = put_named(out, 0, b"{\"name\":\"pages\",\"ph\":\"C\",\"ts\":", tick);
+    let end = put_named(out, end, b",\"pid\":1,\"args\":{\"used\":", used);
+    let end = put_named(out, end, b",\"free\":", free);
+    put(out, end, b"}},")
+}
+
 impl DocumentLine for TraceEvent {
     ghost line = { event_line };
 
@@ -178,6 +194,7 @@ impl DocumentLine for TraceEvent {
             }
             TraceEvent::Share(tick, permille) => put_share(out, tick, permille),
             TraceEvent::Span(span, start, ticks) => put_span(out, span, start, ticks),
+            TraceEvent::Pages(tick, used, free) => put_pages(out, tick, used, free),
             TraceEvent::Rest(start, ticks) => {
                 put_ticks(out, b"mutators", Row::Mutators, start, ticks)
             }
@@ -251,12 +268,17 @@ fn head() -> [TraceEvent; 6]
 }
 
 /// Returns the lines behind the events of quanta.
-fn tail(schedule: &Schedule) -> [TraceEvent; 2]
-    ensures { result ≡ events_tail schedule.now }
+fn tail(player: &Player) -> [TraceEvent; 3]
+    ensures { result ≡ events_tail player.now }
 {
-    let end = last_end(schedule.intervals());
-    let rest = schedule.span().saturating_sub(end);
-    [TraceEvent::Rest(end, rest), TraceEvent::Close]
+    let (heap, span) = (player.recorded().heap(), player.schedule().span());
+    let end = last_end(player.schedule().intervals());
+    let rest = span.saturating_sub(end);
+    [
+        TraceEvent::Pages(span, pages_used(heap), heap.free_pages() as u64),
+        TraceEvent::Rest(end, rest),
+        TraceEvent::Close,
+    ]
 }
 
 /// Writes the quanta of a player that took ticks to a sink, as a JSON document in the Trace Event Format, for viewers
@@ -264,9 +286,10 @@ fn tail(schedule: &Schedule) -> [TraceEvent; 2]
 /// mutators has one for the ticks before each quantum, and one for those behind the last. A counter has the mutators'
 /// share from the end of a quantum to that of the next, in thousandths, rounded down. The row of cycles has one for
 /// each cycle, from the beginning of its first quantum to the end of its last. The row of phases has one for each phase
-/// of a cycle, in the same way, by the quanta that found the collector in it. A tick stands for a microsecond. A
-/// quantum that a line of a trace asks for takes no tick, and isn't drawn. It takes no memory. It fails only if the
-/// sink does; then the sink has taken a beginning of the document.
+/// of a cycle, in the same way, by the quanta that found the collector in it. Another counter has the pages in use and
+/// the free pages: when each quantum started, and at the end of the run. A tick stands for a microsecond. A quantum that
+/// a line of a trace asks for takes no tick, and isn't drawn. It takes no memory. It fails only if the sink does; then the
+/// sink has taken a beginning of the document.
 pub fn draw_events<K: Sink>(player: &Player, sink: &mut K) -> Result<(), WriteFailed>
     ensures ok { OnOk result (K.taken sink.new ≡ K.taken sink.old ++ events_picture player.now) }
     ensures err { OnErr result (GrowsByPart (K.taken sink.old) (K.taken sink.new) (events_picture player.now)) }
@@ -276,5 +299,7 @@ pub fn draw_events<K: Sink>(player: &Player, sink: &mut K) -> Result<(), WriteFa
     write_lines(sink, &head())?;
     write_quanta(schedule.intervals(), sink)?;
     write_cycles(schedule.intervals(), player.starts(), sink)?;
-    write_lines(sink, &tail(schedule))
+    let pages = player.recorded().heap().pages();
+    write_pages(pages, schedule.intervals(), player.starts(), sink)?;
+    write_lines(sink, &tail(player))
 }

@@ -10,6 +10,7 @@ pub mod graph;
 mod json;
 pub mod laws;
 mod measuring;
+mod page_counts;
 mod paths;
 mod quantum_log;
 mod refusals;

@@ -73,7 +73,7 @@ pub struct Sample {
 }
 
 /// Returns how many pages are in use.
-fn pages_used(heap: &Heap) -> u64
+pub(crate) fn pages_used(heap: &Heap) -> u64
     ensures { result ≡ pages_used heap.now }
 {
     heap.pages().saturating_sub(heap.free_pages()) as u64

@@ -22,7 +22,7 @@ use Rattle.paced.proofs.Paths.{path_then}
 use Rattle.paced.proofs.Running.{event_does}
 use Rattle.paced.proofs.Opened.{kept as opening_kept}
 use Rattle.paced.proofs.Reached.{comes, quantum_runs, more_quanta, few_saturated}
-use Rattle.paced.proofs.Deeds.{none_works}
+use Rattle.paced.proofs.Deeds.{none_works, may_keep}
 
 module _ (config : Config) (plan : Plan) (old : PacedState) (o : IsJustPaced config plan old) where
   -- some events led here, and no more quanta were counted than 64 bits hold
@@ -123,14 +123,7 @@ module _ (config : Config) (plan : Plan) (old : PacedState) (o : IsJustPaced con
       let counts : done.0.counts ≡ counted v.counts d.event = subst (λ (z : PacedState). done.0.counts ≡ counted z.counts d.event) same one.counts in
       let rest : MayAsk v (words_in d.event + (words - words_in d.event)) = may_fewer v words (words_in d.event + (words - words_in d.event)) may (omega (arith, few)) in
       let later = may_after d.event v done.0 (words - words_in d.event) l none.0 rest does counts in
-      (empty, free ds done.0 new (words - words_in d.event) (led_next v done.0 d.event l (may_keep_alone d.event v first) does counts) later done.2 none.1 (omega (arith, few)))
-    where
-      may_keep_alone : (e : Event) (v : PacedState) → MayAsk v (words_in e) → KeepsPlan v e
-      may_keep_alone (Command_done m c reply) v may = may
-      may_keep_alone Cycle_begun v may = tt
-      may_keep_alone Begin_refused v may = tt
-      may_keep_alone (Quantum_done budget units phase) v may = tt
-      may_keep_alone (Quantum_refused budget) v may = tt
+      (empty, free ds done.0 new (words - words_in d.event) (led_next v done.0 d.event l (may_keep d.event v first) does counts) later done.2 none.1 (omega (arith, few)))
 
   pub ahead_free : (es : List Event) (mid new : PacedState) (words : ℕ) (ds : List Deed) → Path KeepsPlan old es mid → MayAsk mid words → AreDone mid ds new → AllByRecursion BeginsNone ds → words_asked ds ≤ words → AllByRecursion IsFree ds
   ahead_free es mid new words ds path may done none few = free ds mid new words (led_path es old mid led_first path) may done none few

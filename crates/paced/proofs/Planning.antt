@@ -11,6 +11,7 @@ use Rattle.fragmentation.specs.Flow.{Flow, classes_made, live_most, marked_quant
 use Rattle.fragmentation.specs.Configured.{roots_in}
 use Rattle.paced.specs.declared.plan.Plan.{Plan}
 use Rattle.paced.specs.Rooms.{flow_for}
+use Rattle.paced.specs.Bounds.{LastsWith}
 use Rattle.paced.specs.Planning.{quanta_on, LastsOn, IsFullestOn, HasPlan, MayChoose, IsFastestFor, HasPlanOn, IsResized}
 
 -- of more, divided by less, comes no less
@@ -164,13 +165,13 @@ module _ (makes : ℕ → Bool) (classes : ℕ) (made : classes_made makes ≡ c
   pub none_fills : (plan : Plan) → room_of classes live pages < 3 * (quanta plan * plan.quantum_words) → Fits plan → ⊥
   none_fills plan l f = let r = fits_room plan f in let t = f.traced in omega (arith, l, r, t)
 
-  abbrev Lasts : Plan → Type 0
-  Lasts plan = LastsOn c (flow_for makes live plan) pages
+  abbrev Lasts : ℕ → Plan → Type 0
+  Lasts largest plan = LastsOn c (flow_for makes live plan) largest pages
 
-  -- no plan has more words for each quantum than there is room for
-  pub words_most : (plan : Plan) (whole swept : ℕ) → whole ≡ quanta_on c (flow_for makes live (record { quantum_words = 0; cycle_words = 0 })) pages → swept ≡ quanta (record { quantum_words = 0; cycle_words = 0 }) → Lasts plan
-      → plan.quantum_words ≤ room_of classes live pages / (2 * whole + swept)
-  words_most plan whole swept w t l =
+  -- no plan has more words for each quantum than there is room for besides the largest object, twice
+  pub words_most : (largest : ℕ) (plan : Plan) (whole swept : ℕ) → whole ≡ quanta_on c (flow_for makes live (record { quantum_words = 0; cycle_words = 0 })) pages → swept ≡ quanta (record { quantum_words = 0; cycle_words = 0 }) → Lasts largest plan
+      → plan.quantum_words ≤ (room_of classes live pages - largest - largest) / (2 * whole + swept)
+  words_most largest plan whole swept w t l =
       let none : Plan = record { quantum_words = 0; cycle_words = 0 } in
       let q = flow_more makes live none plan (roots_in c) pages k 0 (let g = great in omega (arith, g)) (omega arith) (omega arith) in
       let s = sweep_more makes live none plan (roots_in c) pages k (omega arith) in
@@ -180,7 +181,7 @@ module _ (makes : ℕ → Bool) (classes : ℕ) (made : classes_made makes ≡ c
       let n = mul-le-mul_left plan.quantum_words (let z : swept ≤ quanta plan = omega (arith, s, t) in z) in
       let e = spread plan.quantum_words whole swept in
       let o = turned plan.quantum_words (quanta plan) in
-      le-div plan.quantum_words (room_of classes live pages) (2 * whole + swept) (omega (arith, w)) (omega (arith, r, a, m, n, e, o))
+      le-div plan.quantum_words (room_of classes live pages - largest - largest) (2 * whole + swept) (omega (arith, w)) (omega (arith, r, a, m, n, e, o))
     where
       spread : (b w q : ℕ) → b * (2 * w + q) ≡ 2 * (b * w) + b * q
       spread b w q = grind arith
@@ -192,8 +193,8 @@ module _ (makes : ℕ → Bool) (classes : ℕ) (made : classes_made makes ≡ c
   abbrev pub single : Plan
   single = record { quantum_words = 1; cycle_words = (room_of classes live pages - quanta (record { quantum_words = 1; cycle_words = 0 }) * 1) / 2 }
 
-  pub single_lasts : (plan : Plan) → 1 ≤ plan.quantum_words → Lasts plan → Lasts single × IsFullestOn makes c live pages single
-  single_lasts plan one l = (record { fits = fills.0; lasts = lasts }, fills.1)
+  pub single_lasts : (largest : ℕ) (plan : Plan) → 1 ≤ plan.quantum_words → Lasts largest plan → Lasts largest single × IsFullestOn makes c live pages single
+  single_lasts largest plan one l = (record { fits = fills.0; lasts = lasts }, fills.1)
     where
       s : quanta single ≤ quanta plan
       s = sweep_more makes live single plan (roots_in c) pages k one
@@ -210,7 +211,7 @@ module _ (makes : ℕ → Bool) (classes : ℕ) (made : classes_made makes ≡ c
       more : plan.cycle_words ≤ single.cycle_words
       more = let u = traced in let r = room in let v = s in omega (arith, u, r, v)
 
-      lasts : 1 * quanta_on c (flow_for makes live single) pages ≤ single.cycle_words
+      lasts : 1 * quanta_on c (flow_for makes live single) pages + largest ≤ single.cycle_words
       lasts =
           let q = flow_more makes live single plan (roots_in c) pages k (single.cycle_words - plan.cycle_words) (let g = great in omega (arith, g)) one (let m = more in omega (arith, m)) in
           let w : 1 * quanta_on c (flow_for makes live plan) pages ≤ plan.quantum_words * quanta_on c (flow_for makes live plan) pages = mul-le-mul_right (quanta_on c (flow_for makes live plan) pages) one in
@@ -218,32 +219,32 @@ module _ (makes : ℕ → Bool) (classes : ℕ) (made : classes_made makes ≡ c
           let m = more in
           omega (arith, q, w, a, m)
 
--- on a number of pages there is a plan where there is one for a configuration that has so many
-module _ (makes : ℕ → Bool) (c resized : Config) (live : ℕ) (is : IsResized c resized) where
-  lasts_so : (f : Flow) → LastsOn c f resized.pages → LastsOn resized f resized.pages
+-- on a number of pages there is a plan if there is one for a configuration that has that number
+module _ (makes : ℕ → Bool) (c resized : Config) (live largest : ℕ) (is : IsResized c resized) where
+  lasts_so : (f : Flow) → LastsOn c f largest resized.pages → LastsOn resized f largest resized.pages
   lasts_so f l = record {
     fits = subst (λ r. FlowFitsOn f r resized.pages (resized.collector_ticks * resized.rate)) (sym is.roots) (subst (FlowFitsOn f (roots_in c) resized.pages) (sym is.budget) l.fits);
-    lasts = subst (λ r. f.quantum_words * flow_quanta f r resized.pages (resized.collector_ticks * resized.rate) ≤ f.cycle_words) (sym is.roots)
-        (subst (λ b. f.quantum_words * flow_quanta f (roots_in c) resized.pages b ≤ f.cycle_words) (sym is.budget) l.lasts);
+    lasts = subst (λ r. f.quantum_words * flow_quanta f r resized.pages (resized.collector_ticks * resized.rate) + largest ≤ f.cycle_words) (sym is.roots)
+        (subst (λ b. f.quantum_words * flow_quanta f (roots_in c) resized.pages b + largest ≤ f.cycle_words) (sym is.budget) l.lasts);
   }
 
-  so_lasts : (f : Flow) → LastsOn resized f resized.pages → LastsOn c f resized.pages
+  so_lasts : (f : Flow) → LastsOn resized f largest resized.pages → LastsOn c f largest resized.pages
   so_lasts f l = record {
     fits = subst (λ r. FlowFitsOn f r resized.pages (c.collector_ticks * c.rate)) is.roots (subst (FlowFitsOn f (roots_in resized) resized.pages) is.budget l.fits);
-    lasts = subst (λ r. f.quantum_words * flow_quanta f r resized.pages (c.collector_ticks * c.rate) ≤ f.cycle_words) is.roots
-        (subst (λ b. f.quantum_words * flow_quanta f (roots_in resized) resized.pages b ≤ f.cycle_words) is.budget l.lasts);
+    lasts = subst (λ r. f.quantum_words * flow_quanta f r resized.pages (c.collector_ticks * c.rate) + largest ≤ f.cycle_words) is.roots
+        (subst (λ b. f.quantum_words * flow_quanta f (roots_in resized) resized.pages b + largest ≤ f.cycle_words) is.budget l.lasts);
   }
 
-  pub resized_plan : HasPlanOn makes c live resized.pages → HasPlan makes resized live
+  pub resized_plan : HasPlanOn makes c live largest resized.pages → HasPlan makes resized live largest
   resized_plan p = (p.0, p.1, lasts_so (flow_for makes live p.0) p.2)
 
-  pub plan_resized : HasPlan makes resized live → HasPlanOn makes c live resized.pages
+  pub plan_resized : HasPlan makes resized live largest → HasPlanOn makes c live largest resized.pages
   plan_resized p = (p.0, p.1, so_lasts (flow_for makes live p.0) p.2)
 
 -- what is told of a plan of so many words for each quantum that fills the room, and lasts
-module _ (makes : ℕ → Bool) (c : Config) (live pages : ℕ) where
+module _ (makes : ℕ → Bool) (c : Config) (live largest pages : ℕ) where
   abbrev pub Chosen : ℕ → Plan → Type 0
-  Chosen words plan = (plan.quantum_words ≡ words) × LastsOn c (flow_for makes live plan) pages × IsFullestOn makes c live pages plan
+  Chosen words plan = (plan.quantum_words ≡ words) × LastsOn c (flow_for makes live plan) largest pages × IsFullestOn makes c live pages plan
 
   same_plan : (p q : Plan) → p.quantum_words ≡ q.quantum_words → p.cycle_words ≡ q.cycle_words → p ≡ q
   same_plan p q e f t = record { quantum_words = e t; cycle_words = f t }
@@ -257,15 +258,15 @@ module _ (makes : ℕ → Bool) (c : Config) (live pages : ℕ) where
       omega (arith, a, b))
 
   -- there is a plan exactly where that of one word is told
-  pub has_plan : (o : Option Plan) → IfSome o (Chosen 1) → (o ≡ None → (plan : Plan) → plan.quantum_words ≡ 1 → LastsOn c (flow_for makes live plan) pages → IsFullestOn makes c live pages plan → ⊥)
-      → (IsTrue (is_some o) → HasPlanOn makes c live pages) × (HasPlanOn makes c live pages → IsTrue (is_some o))
-  has_plan None some none = (λ is. absurd (cc), λ p. absurd (let s = single_lasts makes (classes_made makes) refl c live pages p.0 p.1 p.2 in none refl (single makes (classes_made makes) refl c live pages) refl s.0 s.1))
+  pub has_plan : (o : Option Plan) → IfSome o (Chosen 1) → (o ≡ None → (plan : Plan) → plan.quantum_words ≡ 1 → LastsOn c (flow_for makes live plan) largest pages → IsFullestOn makes c live pages plan → ⊥)
+      → (IsTrue (is_some o) → HasPlanOn makes c live largest pages) × (HasPlanOn makes c live largest pages → IsTrue (is_some o))
+  has_plan None some none = (λ is. absurd (cc), λ p. absurd (let s = single_lasts makes (classes_made makes) refl c live pages largest p.0 p.1 p.2 in none refl (single makes (classes_made makes) refl c live pages) refl s.0 s.1))
   has_plan (Some plan) some none = (λ is. (plan, (let e = some.0 in omega (arith, e)), some.1), λ p. refl)
 
 -- where there is a plan, one may be chosen
-pub single_chosen : (makes : ℕ → Bool) (c : Config) (live : ℕ) → HasPlan makes c live → (plan : Plan) × MayChoose makes c live plan
-single_chosen makes c live p =
-    let s = single_lasts makes (classes_made makes) refl c live c.pages p.0 p.1 p.2 in
+pub single_chosen : (makes : ℕ → Bool) (c : Config) (live largest : ℕ) → HasPlan makes c live largest → (plan : Plan) × MayChoose makes c live largest plan
+single_chosen makes c live largest p =
+    let s = single_lasts makes (classes_made makes) refl c live c.pages largest p.0 p.1 p.2 in
     (single makes (classes_made makes) refl c live c.pages, record { some = omega arith; lasts = s.0; fullest = s.1 })
 
 -- none is told where nothing is
@@ -274,9 +275,18 @@ none_told None e = refl
 none_told (Some x) e = absurd (cc)
 
 -- what is told of the most words is the fastest plan
-pub chosen_fastest : (makes : ℕ → Bool) (c : Config) (live words : ℕ) → 1 ≤ words → (o : Option Plan) → is_some o ≡ true → IfSome o (Chosen makes c live c.pages words) → ((plan : Plan) → MayChoose makes c live plan → plan.quantum_words ≤ words) → IsFastestFor makes c live o
-chosen_fastest makes c live words one None e some most = absurd (cc)
-chosen_fastest makes c live words one (Some plan) e some most = (
+pub chosen_fastest : (makes : ℕ → Bool) (c : Config) (live largest words : ℕ) → 1 ≤ words → (o : Option Plan) → is_some o ≡ true → IfSome o (Chosen makes c live largest c.pages words)
+    → ((plan : Plan) → MayChoose makes c live largest plan → plan.quantum_words ≤ words) → IsFastestFor makes c live largest o
+chosen_fastest makes c live largest words one None e some most = absurd (cc)
+chosen_fastest makes c live largest words one (Some plan) e some most = (
   record { some = (let q = some.0 in omega (arith, q, one)); lasts = some.1; fullest = some.2 },
   λ other may. (let m = most other may in let q = some.0 in omega (arith, m, q)),
 )
+
+-- the fastest plan lasts with room for the largest object
+pub fastest_lasts : (c : Config) (live largest : ℕ) (plan : Plan) → MayChoose (λ class. true) c live largest plan → LastsWith c plan live largest
+fastest_lasts c live largest plan may = record {
+  some = may.some;
+  lasts = may.lasts.lasts;
+  small = (let f = may.lasts.fits.enough in let p = c.pages_in_range.1 in omega (arith, f, p));
+}

@@ -32,7 +32,7 @@ use Rattle.paced.proofs.Running.{IsKept, goes, event_does}
 use Rattle.paced.proofs.Opened.{keeps_both, kept as opening_kept}
 
 -- what holds of all events holds of those that come first
-metered_first : (k : ℕ) (Passes : FlowMeter → Event → Type 0) (es fs : List Event) (t : FlowMeter) → AllMetered k Passes t (es ++ fs) → AllMetered k Passes t es
+pub metered_first : (k : ℕ) (Passes : FlowMeter → Event → Type 0) (es fs : List Event) (t : FlowMeter) → AllMetered k Passes t (es ++ fs) → AllMetered k Passes t es
 metered_first k Passes [] fs t all = tt
 metered_first k Passes (e ∷ es) fs t all = (all.0, metered_first k Passes es fs (next_meter k t e) all.1)
 

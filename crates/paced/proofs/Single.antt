@@ -1,20 +1,25 @@
 -- How many quanta are spent for one object, however large it is.
-use Rattle.std.proofs.Common.{◌≡◌, ℕ, ◌+◌, ◌-◌, ◌*◌, ◌/◌, ◌<◌, ◌≤◌, ◌⊎◌, inl, inr, true, false, if◌then◌else◌, nat_le, List, [], ◌∷◌, ◌++◌, ap, ◌∙◌, sym, subst, arith, refl, append-nil}
+use Rattle.std.proofs.Common.{◌≡◌, ℕ, zero, suc, ◌+◌, ◌-◌, ◌*◌, ◌/◌, ◌<◌, ◌≤◌, ◌⊎◌, inl, inr, true, false, if◌then◌else◌, nat_le, List, [], ◌∷◌, ◌++◌, ap, ◌∙◌, sym, subst, arith, refl, append-nil, append_assoc}
+use Rattle.std.specs.List.{AllByRecursion}
 use Rattle.std.proofs.lemmas.Nat.{le-div, div_below}
 use Rattle.std.proofs.lemmas.Bool.{le-leb}
 use Rattle.std.proofs.Math.Nat.{mul-le-mul_right}
 use Rattle.size_classes.specs.declared.config.Config.{Config}
+use Rattle.size_classes.specs.Config.{limits_of}
 use Rattle.heap_model.specs.declared.phase.Phase.{Phase}
 use Rattle.heap_model.specs.declared.phase.Phase.TheVariants as phases
 use Rattle.heap_model.specs.Event.{Event, Command_done, Cycle_begun, Begin_refused, Quantum_done, Quantum_refused, quanta_in}
 use Rattle.space.specs.Pace.{in_cycle}
+use Rattle.fragmentation.specs.Flow.{opening_meter, LivesIn}
 use Rattle.paced.specs.declared.plan.Plan.{Plan}
 use Rattle.paced.specs.Cycles.{saturated, DoesOn}
 use Rattle.paced.specs.Pacing.{Counts, PacedState, counted, Path, MayAsk, KeepsPlan, WorksFor}
-use Rattle.paced.specs.Rooms.{IsJustPaced}
-use Rattle.paced.specs.Bounds.{LastsWith, LiveWithinPlan, most_for_one}
+use Rattle.paced.specs.Rooms.{planned_flow, IsJustPaced}
+use Rattle.paced.specs.Bounds.{words_in, Deed, AreDone, events_of, LastsWith, LiveWithinPlan, most_for_one, IsShort}
+use Rattle.paced.proofs.Paths.{path_then, work_paces}
+use Rattle.paced.proofs.Deeds.{may_keep}
 use Rattle.paced.proofs.Pieces.{runs_on}
-use Rattle.paced.proofs.Reached.{Stands, most, plan_is, few, countable, stands_next, stands_first, stands_path}
+use Rattle.paced.proofs.Reached.{metered_first, Stands, most, plan_is, few, countable, stands_next, stands_first, stands_path}
 use Rattle.paced.proofs.Stretches.{times_next, once_times, order, asks_some}
 
 split : (n d b : ℕ) → (n + d) * b ≡ n * b + d * b
@@ -274,3 +279,25 @@ module _ (config : Config) (plan : Plan) (live largest : ℕ) (old : PacedState)
           first_some Begin_refused work p = absurd p.1
           first_some (Quantum_done budget units phase) work p = asks_some mid words p.1.0
           first_some (Quantum_refused budget) work p = absurd p.1
+
+-- each deed of a stretch is within the bound for its words
+module _ (config : Config) (plan : Plan) (live largest : ℕ) (old : PacedState) (o : IsJustPaced config plan old) (lasts : LastsWith config plan live largest) where
+  -- words that may be asked for aren't above those of a cycle
+  within : (v : PacedState) (rest : List Event) (words : ℕ) → Stands config plan live largest old o lasts v rest → MayAsk v words → words ≤ plan.cycle_words
+  within v rest zero s may = omega arith
+  within v rest (suc n) s may = let l = may.cycle (omega arith) in let p = ap (λ (z : Plan). z.cycle_words) (plan_is config plan live largest old o lasts v rest s) in omega (arith, l, p)
+
+  pub each_short : (ds : List Deed) (es : List Event) (mid new : PacedState) → Path KeepsPlan old es mid → AreDone mid ds new → LiveWithinPlan config plan live (es ++ events_of ds) → AllByRecursion (IsShort plan largest) ds
+  each_short [] es mid new path done lives = tt
+  each_short (d ∷ ds) es mid new path done lives =
+      let one = done.1 in
+      let words = words_in d.event in
+      let worked = path_then KeepsPlan es d.work old mid one.before path (work_paces words d.work mid one.before one.works) in
+      let split = append_assoc es d.work (d.event ∷ events_of ds) in
+      let more : LiveWithinPlan config plan live ((es ++ d.work) ++ d.event ∷ events_of ds) = subst (LiveWithinPlan config plan live) (sym split) lives in
+      let first = metered_first (config.collector_ticks * config.rate) (LivesIn (planned_flow live plan)) (es ++ d.work) (d.event ∷ events_of ds) (opening_meter (limits_of config)) more in
+      let stands = stands_path config plan live largest old o lasts (es ++ d.work) (d.event ∷ events_of ds) old one.before (stands_first config plan live largest old o lasts ((es ++ d.work) ++ d.event ∷ events_of ds) more) worked in
+      let few = one_bounded config plan live largest old o lasts words (within one.before (d.event ∷ events_of ds) words stands one.may) es mid one.before d.work path one.works first in
+      let after = path_then KeepsPlan (es ++ d.work) (d.event ∷ []) old one.before done.0 worked (done.0, may_keep d.event one.before one.may, one.does, one.counts, refl) in
+      let rest : LiveWithinPlan config plan live (((es ++ d.work) ++ d.event ∷ []) ++ events_of ds) = subst (LiveWithinPlan config plan live) (sym (append_assoc (es ++ d.work) (d.event ∷ []) (events_of ds))) more in
+      (few, each_short ds ((es ++ d.work) ++ d.event ∷ []) done.0 new after done.2 rest)

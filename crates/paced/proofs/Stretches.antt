@@ -18,6 +18,7 @@ use Rattle.paced.specs.Pacing.{Counts, PacedState, counted, Path, MayAsk, KeepsP
 use Rattle.paced.specs.Rooms.{IsJustPaced}
 use Rattle.paced.specs.Bounds.{words_in, Deed, AreDone, events_of, quanta_paid, units_paid, words_asked, AsksWithin, LastsWith, LiveWithinPlan, KeepsToWords}
 use Rattle.paced.proofs.Pieces.{runs_on}
+use Rattle.paced.proofs.Deeds.{may_keep}
 use Rattle.paced.proofs.Reached.{more_quanta, Stands, plan_is, budget_is, command_runs, quantum_runs, has_words, countable, stands_next, stands_first, stands_path}
 
 -- a quantum more is paid for words that mayn't be asked for yet
@@ -189,14 +190,6 @@ module _ (config : Config) (plan : Plan) (live largest : ℕ) (old : PacedState)
         omega (arith, l, n, q)
         );
   }
-
-  -- an event whose words may be asked for keeps the plan
-  may_keep : (e : Event) (v : PacedState) → MayAsk v (words_in e) → KeepsPlan v e
-  may_keep (Command_done m c reply) v may = may
-  may_keep Cycle_begun v may = tt
-  may_keep Begin_refused v may = tt
-  may_keep (Quantum_done budget units phase) v may = tt
-  may_keep (Quantum_refused budget) v may = tt
 
   stretch_owes : (ds : List Deed) (v new : PacedState) (paid asked : ℕ) → At v (events_of ds) → AreDone v ds new → AllByRecursion (AsksWithin largest) ds → Owes paid asked v → Owes (paid + quanta_paid ds) (asked + words_asked ds) new
   stretch_owes [] v new paid asked s done small w =

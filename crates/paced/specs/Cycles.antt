@@ -1,5 +1,5 @@
--- Events on a heap, and its cycles, counted: a `Cycle` has the figures of one, and `Cycles` has the one that began last, as far as it
--- has gone, and the last one that ended.
+-- Events on a heap, and the count of its cycles. A `Cycle` has the figures of one cycle. `Cycles` has the cycle that began
+-- last, as far as it has gone, and the last one that ended.
 use Rattle.std.specs.Prelude.{◌≡◌, ◌≢◌, ◌⊎◌, ℕ, ◌+◌, ◌-◌, ◌^◌, ◌<◌, if◌then◌else◌, min, max, Result, IfOk, List, [], ◌∷◌}
 use Rattle.size_classes.specs.declared.config.TheConstants.{LEAST_BUDGET}
 use Rattle.heap_model.specs.declared.phase.Phase.TheVariants as phases
@@ -28,7 +28,7 @@ DoesOn h (Quantum_done budget units phase) after = IsBudget budget × QuantumSpe
     × (phase ≡ after.phase)
 DoesOn h (Quantum_refused budget) after = (IsBudget budget → ⊥) × (after ≡ h)
 
--- no cycle
+-- all zeros stand for no cycle
 abbrev pub no_cycle : Cycle
 no_cycle = record { number = 0; quanta = 0; units = 0; longest = 0; free_before = 0; free_after = 0 }
 
@@ -36,7 +36,7 @@ no_cycle = record { number = 0; quanta = 0; units = 0; longest = 0; free_before 
 abbrev pub no_cycles : Cycles
 no_cycles = record { begun = no_cycle; ended = no_cycle }
 
--- the cycle behind another one, which has just begun in a heap
+-- the next cycle, which has just begun in a heap
 abbrev pub next_cycle : Cycle → HeapState → Cycle
 next_cycle c h = record {
   number = saturated (c.number + 1);
@@ -47,7 +47,7 @@ next_cycle c h = record {
   free_after = free_pages h.store.pages;
 }
 
--- a cycle after one more quantum, which spent so many units and left a heap
+-- a cycle after one more quantum, which spent this number of units and left a heap
 abbrev pub one_quantum_on : Cycle → ℕ → HeapState → Cycle
 one_quantum_on c units after = record c {
   quanta = saturated (c.quanta + 1);
@@ -56,11 +56,11 @@ one_quantum_on c units after = record c {
   free_after = free_pages after.store.pages;
 }
 
--- the cycle that began last is this one; where none is running any more it has ended
+-- the cycle that began last is this one, and it has ended if none is running any more
 abbrev pub come_to : Cycles → Cycle → HeapState → Cycles
 come_to cycles c after = record { begun = c; ended = if is_idle after.phase then c else cycles.ended }
 
--- the cycles after one more event, by the heap before it and after it: a quantum counts where it found a cycle running
+-- the cycles after one more event, by the heap before it and after it: a quantum counts if it found a cycle running
 abbrev pub cycles_after : Event → HeapState → HeapState → Cycles → Cycles
 cycles_after Cycle_begun before after cycles = record cycles { begun = next_cycle cycles.begun after }
 cycles_after (Quantum_done budget units phase) before after cycles =

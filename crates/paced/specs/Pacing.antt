@@ -1,4 +1,4 @@
--- What a pacer goes by, and what is done on a heap that it paces.
+-- The counts of a pacer, and the events on a heap that it paces.
 use Rattle.std.specs.Prelude.{◌≡◌, ◌≢◌, ℕ, ◌+◌, ◌*◌, ◌<◌, ◌≤◌, true, nat_le, max, if◌then◌else◌, Result, Ok, Err, List, [], ◌∷◌}
 use Rattle.graph_heap.specs.Graph.{Graph}
 use Rattle.graph_heap.specs.declared.command.Command.{Command}
@@ -22,20 +22,20 @@ use Rattle.paced.specs.declared.pacer.AbovePlan.{AbovePlan}
 use Rattle.paced.specs.declared.plan.Plan.{Plan}
 use Rattle.paced.specs.Cycles.{saturated, DoesOn, CountsCycles}
 
--- What a pacer goes by: its plan; the budget of its own quanta, which is the least of one that it counts; and the words of
--- blocks that were asked for, and the quanta that were done, since the last cycle began.
+-- The plan and the counts of a pacer. Its own quanta have its budget, which is the least budget that it counts. It counts the
+-- words of blocks that were asked for, and the quanta that were done, since the last cycle began.
 pub record Counts : Type 0 where
   pub plan : Plan
   pub budget : ℕ
   pub words : ℕ
   pub quanta : ℕ
 
--- a pacer: what it goes by, and its figures
+-- a pacer: its counts, and its figures
 pub record PacerView : Type 0 where
   pub counts : Counts
   pub figures : Figures
 
--- a heap, and what its pacer goes by
+-- a heap, and the counts of its pacer
 pub record PacedState : Type 0 where
   pub heap : HeapState
   pub counts : Counts
@@ -50,16 +50,15 @@ pub record PacedView : Type 0 where
 abbrev pub paced_by : PacerView → HeapState → Cycles → PacedView
 paced_by p h c = record { heap = h; cycles = c; pacer = p }
 
--- a heap, and what the pacer goes by that paces it
+-- a heap, and the counts of a pacer
 abbrev pub state_by : PacerView → HeapState → PacedState
 state_by p h = record { heap = h; counts = p.counts }
 
--- the heap, and what its pacer goes by, without the figures
+-- the heap, and the counts of its pacer without the figures
 abbrev pub state_of : PacedView → PacedState
 state_of v = state_by v.pacer v.heap
 
--- What a pacer goes by after one more event: a beginning zeroes its counts, and a quantum counts if its budget is no
--- smaller than the pacer's.
+-- The counts after one more event. A beginning zeroes them, and a quantum counts if its budget is no smaller than the pacer's.
 abbrev pub counted : Counts → Event → Counts
 counted t (Command_done m c reply) = record t { words = t.words + words_of (asks c) }
 counted t Cycle_begun = record t { words = 0; quanta = 0 }
@@ -68,13 +67,13 @@ counted t (Quantum_done budget units phase) =
     record t { quanta = if nat_le t.budget budget then saturated (t.quanta + 1) else t.quanta }
 counted t (Quantum_refused budget) = t
 
--- Events are done on a heap, one after the other, each where it passes, and its pacer counts them.
+-- Events are done on a heap, one after the other, each if it passes, and its pacer counts them.
 abbrev pub Path : (PacedState → Event → Type 0) → PacedState → List Event → PacedState → Type 0
 Path Passes old [] new = new ≡ old
 Path Passes old (e ∷ es) new = (mid : PacedState) × Passes old e × DoesOn old.heap e mid.heap
     × (mid.counts ≡ counted old.counts e) × Path Passes mid es new
 
--- Words may be asked for if as many are left until a cycle has to begin and, while one runs, for the quanta that were
+-- Words may be asked for if as many are left until a cycle has to begin and, while one is running, for the quanta that were
 -- done. To ask for none is always allowed.
 pub record MayAsk (v : PacedState) (words : ℕ) : Type 0 where
   pub cycle : 0 < words → v.counts.words + words ≤ v.counts.plan.cycle_words
@@ -95,8 +94,8 @@ MakesNothing c = Unit {0}
 abbrev pub Paced : PacedState → PacedState → Type 0
 Paced old new = (es : List Event) × Path KeepsPlan old es new
 
--- The collector works because so many words mayn't be asked for yet: it begins a cycle, or spends a quantum of the
--- pacer's budget on the one that runs.
+-- The collector works because a number of words may not be asked for yet. It begins a cycle, or spends a quantum of the pacer's
+-- budget on the cycle that is running.
 abbrev pub WorksFor : ℕ → PacedState → Event → Type 0
 WorksFor words v Cycle_begun = MayAsk v words → ⊥
 WorksFor words v (Quantum_done budget units phase) = (MayAsk v words → ⊥) × (budget ≡ v.counts.budget)
@@ -115,7 +114,7 @@ worked f es = record {
 abbrev pub KeepsAgreeing : HeapState → HeapState → Type 0
 KeepsAgreeing old new = (g : Graph) → Agrees old g → Agrees new g
 
--- Words are paid for: the collector works until they may be asked for, and no longer; its work is entered in the figures,
+-- Words are paid for. The collector works until they may be asked for, and no longer. Its work is entered in the figures, and
 -- its cycles and the words are counted. Each graph heap with which the heap agreed is one with which it agrees.
 pub record Pays (old : PacedView) (words : ℕ) (new : PacedView) : Type 0 where
   pub work : List Event
@@ -127,17 +126,17 @@ pub record Pays (old : PacedView) (words : ℕ) (new : PacedView) : Type 0 where
   pub cycles : CountsCycles old.heap old.cycles work new.heap new.cycles
   pub agrees : KeepsAgreeing old.heap new.heap
 
--- the words of the blocks that an object of a shape needs, or none where the shape is too large
+-- the words of the blocks that an object of a shape needs, or none if the shape is too large
 abbrev pub shape_words : Shape → ℕ
 shape_words shape = words_of (λ class. if fits shape then needed shape class else 0)
 
--- Words are paid for by work that a log has; unless they are more than the plan has for a whole cycle: then nothing is done.
+-- Words are paid for by work that a log has. If they are more than the plan has for a whole cycle, nothing is done.
 abbrev pub PaysUnless : (List Event → Type 0) → PacedView → ℕ → Result (Unit {0}) AbovePlan → PacedView → Type 0
 PaysUnless Logs old words (Err above) new = (old.pacer.counts.plan.cycle_words < words) × (new ≡ old) × Logs []
 PaysUnless Logs old words (Ok paid) new = (words ≤ old.pacer.counts.plan.cycle_words) × (p : Pays old words new) × Logs p.work
 
--- A command that asks for more words than the plan has for a whole cycle is told so, and nothing is done. Any other is
--- done once its words were paid for, and gets its reply.
+-- If a command asks for more words than the plan has for a whole cycle, it is refused, and nothing is done. Any other is done
+-- once its words were paid for, and gets its reply.
 abbrev pub Calls : PacedView → ℕ → Command → Result Reply AbovePlan → PacedView → Type 0
 Calls old m c (Err above) new = (old.pacer.counts.plan.cycle_words < words_of (asks c)) × (new ≡ old)
 Calls old m c (Ok reply) new = (words_of (asks c) ≤ old.pacer.counts.plan.cycle_words) × (mid : PacedView)

@@ -1,4 +1,4 @@
--- What is promised of a heap that was paced since it was made.
+-- Promises of a heap that was paced since it was made.
 use Rattle.std.specs.Prelude.{◌≡◌, ℕ, ◌*◌, Bool, true, ◌==◌, List, Option, Some, None}
 use Rattle.std.specs.List.{list_any}
 use Rattle.size_classes.specs.declared.config.Config.{Config}
@@ -14,7 +14,8 @@ use Rattle.paced.specs.declared.figures.Figures.{Figures}
 use Rattle.paced.specs.declared.plan.Plan.{Plan}
 use Rattle.paced.specs.Pacing.{Counts, PacerView, PacedState}
 
--- the flow of a plan, for what is live at most: blocks of every class, and nothing besides what each quantum allows
+-- the flow of a plan, for live objects of this number of words at most: blocks of every class, and nothing besides the words of
+-- each quantum
 abbrev pub planned_flow : ℕ → Plan → Flow
 planned_flow live plan = record {
   makes = λ class. true;
@@ -24,7 +25,7 @@ planned_flow live plan = record {
   cycle_words = plan.cycle_words;
 }
 
--- the flow of a plan where blocks are made of these classes alone
+-- the flow of a plan if blocks are made of these classes alone
 abbrev pub flow_for : (ℕ → Bool) → ℕ → Plan → Flow
 flow_for makes live plan = record (planned_flow live plan) { makes = makes }
 
@@ -32,7 +33,7 @@ flow_for makes live plan = record (planned_flow live plan) { makes = makes }
 abbrev pub among : List ℕ → ℕ → Bool
 among used class = list_any (λ k. k == class) used
 
--- the size classes of which blocks are made: these, or all where none are said
+-- the size classes of which blocks are made: these, or all if none is given
 abbrev pub made_of : Option (List ℕ) → ℕ → Bool
 made_of None = λ class. true
 made_of (Some used) = among used
@@ -60,9 +61,9 @@ pub record IsJustPaced (config : Config) (plan : Plan) (v : PacedState) : Type 0
   pub settings : settings_of v.heap ≡ settings_by config
   pub counts : v.counts ≡ first_counts (config.collector_ticks * config.rate) plan
 
--- Events lead from one heap to another with a history, which is empty at first; they keep to the flow, where quanta of the
--- configuration's budget or a greater one count; and if what is live is within the flow wherever one of the events begins a
--- cycle, no reply among them is the refusal for lack of space.
+-- Events lead from one heap to another with a history, which is empty at first. They keep to the flow, and quanta of the
+-- configuration's budget or a greater one count. If live objects are within the flow whenever one of the events begins a cycle,
+-- no reply among them is the refusal for lack of space.
 pub record FindsRoom (config : Config) (flow : Flow) (first now : HeapState) (es : List Event) : Type 0 where
   pub course : Course
   pub heap : course.heap ≡ now

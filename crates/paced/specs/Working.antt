@@ -14,7 +14,7 @@ IsPiece v true Cycle_begun = Unit {0}
 IsPiece v false (Quantum_done budget units phase) = (budget ≡ v.counts.budget) × (v.heap.phase ≢ phases.Idle)
 IsPiece v began e = ⊥
 
--- one piece of work, which is told
+-- one piece of work is done, and the answer says which
 pub record DoesPiece (old : PacedView) (began : Bool) (new : PacedView) : Type 0 where
   pub event : Event
   pub is_piece : IsPiece (state_of old) began event
@@ -22,14 +22,14 @@ pub record DoesPiece (old : PacedView) (began : Bool) (new : PacedView) : Type 0
   pub counts : new.pacer.counts ≡ counted old.pacer.counts event
   pub cycles : new.cycles ≡ cycles_after event old.heap new.heap old.cycles
 
--- How much is left to be done at most before words may be asked for: all of a cycle, where one may have to begin, and
--- the rest of the one that is running.
+-- How much work is left at most before words may be asked for. It is the rest of the running cycle, and a whole cycle if one
+-- may have to begin.
 abbrev pub work_left : PacedState → ℕ
 work_left v =
     (if v.counts.words == 0 then 0 else cycle_limit v.heap + 2)
     + (if in_cycle v.heap.phase then cycle_limit v.heap + 1 - v.heap.units else 0)
 
--- the collector has worked for so many words, in so many quanta and beginnings
+-- the collector has worked for `words` words, by this number of quanta and of beginnings
 pub record HasWorked (words : ℕ) (old now : PacedView) (quanta cycles : ℕ) : Type 0 where
   pub work : List Event
   pub path : Path (WorksFor words) (state_of old) work (state_of now)

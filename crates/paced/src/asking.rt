@@ -8,7 +8,7 @@ ghost use Rattle.fragmentation.specs.Flow.{words_of};
 use graph_heap::Shape;
 use size_classes::{CLASSES, Class, Need, Parts, class_of, parts_of};
 
-/// The words of the blocks that an object with these parts needs.
+/// Returns the words of the blocks that an object with these parts needs.
 fn words_of_parts(parts: &Parts) -> u64
     ensures { result ≡ words_of (blocks_needed parts.now (parts_in parts.now)) }
 {
@@ -21,8 +21,8 @@ fn words_of_parts(parts: &Parts) -> u64
     words
 }
 
-/// The words of the blocks that an object of a shape needs; none where the shape is too large. An object that isn't cut
-/// needs one block, of the class of its words.
+/// Returns the words of the blocks that an object of a shape needs, or 0 if the shape is too large. An object of one part needs
+/// one block, of the class of its words.
 pub fn words_of_shape(shape: &Shape) -> u64
     ensures { result ≡ words_of (λ class. if fits shape.now then needed shape.now class else 0) }
 {

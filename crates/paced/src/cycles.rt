@@ -1,4 +1,4 @@
-//! The cycles of a heap, counted.
+//! Counts the cycles of a heap.
 ghost use Rattle.std.specs.Prelude.{◌≡◌};
 ghost use Rattle.machine.specs.Collecting.{Begins, Spends};
 ghost use Rattle.machine.specs.Recorded.{begin_done, quantum_done};
@@ -7,8 +7,9 @@ ghost use Rattle.paced.specs.Pacing.{KeepsAgreeing};
 
 use machine::{BudgetOutOfRange, Busy, Heap, Spent};
 
-/// A cycle: which one it is, from 1; the quanta that found it running, the units that they spent, and the most that one of them
-/// spent; the free pages when it began, and after the last of these quanta. All zeros are none. It lies as in C.
+/// A cycle: its number, from 1, its quanta, their units, and the most units of one. Quanta count if they found the cycle
+/// running. Free pages are those when it began, and those after the last of its quanta. All zeros stand for no cycle. The
+/// struct is laid out as in C.
 #[repr(C)]
 #[derive(Clone, Copy, Debug, PartialEq, Eq)]
 pub struct Cycle {
@@ -21,7 +22,7 @@ pub struct Cycle {
 }
 
 impl Cycle {
-    /// None.
+    /// Stands for no cycle.
     const NONE: Cycle = Cycle {
         number: 0,
         quanta: 0,
@@ -31,7 +32,7 @@ impl Cycle {
         free_after: 0,
     };
 
-    /// The cycle behind this one, which has just begun.
+    /// Returns the next cycle, which has just begun.
     fn next(&self, heap: &Heap) -> Cycle
         ensures { result ≡ next_cycle self.now heap.now }
     {
@@ -44,7 +45,7 @@ impl Cycle {
         }
     }
 
-    /// The cycle after one more quantum, which spent so many units.
+    /// Returns the cycle after one more quantum, which spent this many units.
     fn one_quantum_on(&self, units: u32, heap: &Heap) -> Cycle
         ensures { result ≡ one_quantum_on self.now units heap.now }
     {
@@ -58,7 +59,7 @@ impl Cycle {
     }
 }
 
-/// The cycle that began last, as far as it has gone, and the last one that ended.
+/// The cycle that began last, as far as it has gone, and the last cycle that ended.
 #[derive(Clone, Copy, Debug, PartialEq, Eq)]
 pub struct Cycles {
     pub begun: Cycle,
@@ -83,7 +84,7 @@ impl Cycles {
         Ok(())
     }
 
-    /// Spends units of a budget on the cycle that is running in a heap, and counts the quantum, where there is one.
+    /// Spends units of a budget on the cycle that is running in a heap, if one is, and counts the quantum.
     pub fn quantum(&mut self, heap: &mut Heap, budget: u32) -> Result<Spent, BudgetOutOfRange>
         ensures spends { Spends heap.old budget heap.new result }
         ensures ends { EndsOrSpends budget result }
@@ -99,7 +100,7 @@ impl Cycles {
         Ok(spent)
     }
 
-    /// The cycle that began last has come so far. Where none is running any more it has ended.
+    /// Stores the cycle that began last. It has also ended if none is running any more.
     fn come_to(&mut self, cycle: Cycle, heap: &Heap)
         ensures { self.new ≡ come_to self.old cycle heap.now }
     {

@@ -1,9 +1,9 @@
-//! What a pacer's collector did.
+//! Figures of the collector's work for a pacer.
 ghost use Rattle.std.specs.Prelude.{◌≡◌, ◌+◌, max};
 ghost use Rattle.paced.specs.Cycles.{saturated};
 
-/// What the collector did because a pacer wanted it, since the pacer was made: what a program had it do besides isn't
-/// counted. A figure that has come to the most that it can hold stays there.
+/// The work that the collector did because a pacer required it, since the pacer was made. Work that a program asked for itself
+/// isn't counted. A figure that has reached the most that it can hold stays there.
 #[derive(Clone, Copy, Debug, PartialEq, Eq)]
 pub struct Figures {
     /// Quanta that were spent.
@@ -15,14 +15,14 @@ pub struct Figures {
 }
 
 impl Figures {
-    /// No work yet.
+    /// The figures before any work is done.
     pub(crate) const NONE: Figures = Figures {
         quanta: 0,
         cycles: 0,
         most_quanta: 0,
     };
 
-    /// These, with so many quanta and beginnings before one more command.
+    /// Returns the figures with this many quanta and beginnings before one more command.
     pub(crate) fn with_work(&self, quanta: u64, cycles: u64) -> Figures
         ensures { result ≡ record {
           quanta = saturated (self.now.quanta + quanta);

@@ -23,4 +23,7 @@ pub use laws::{
 pub use log::{Log, NoLog};
 pub use logged::Logged;
 pub use pacer::{AbovePlan, Pacer};
-pub use plan::{Plan, classes_in, cycle_quanta, flow_fits, lasts, least_pages, moves_all, planned};
+pub use plan::{
+    Plan, classes_in, cycle_quanta, flow_fits, lasts, least_pages, least_pages_for, moves_all,
+    planned, planned_for,
+};

@@ -1,19 +1,19 @@
-//! What is kept of the events of a heap.
+//! Logs of the events of a heap.
 ghost use Rattle.heap_model.specs.Event.{Event};
 ghost use Rattle.paced.specs.Logged.{event_of};
 
 use crate::logged::Logged;
 
-/// What is kept of the events of a heap, or of none.
+/// A log of the events of a heap.
 pub trait Log {
     ghost enters: { Self → Event → Self → Type 0 };
 
-    /// An event was done.
+    /// Enters an event that was done.
     fn enter(&mut self, event: Logged)
         ensures { enters self.old (event_of event) self.new };
 }
 
-/// Nothing is kept.
+/// A log that keeps nothing.
 #[derive(Drop)]
 pub struct NoLog;
 

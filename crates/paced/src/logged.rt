@@ -1,4 +1,4 @@
-//! The events of a heap, as a log keeps them.
+//! Events of a heap, as a log keeps them.
 ghost use Rattle.std.specs.Prelude.{◌≡◌};
 ghost use Rattle.machine.specs.Recorded.{begin_done, quantum_done};
 ghost use Rattle.paced.specs.Logged.{event_of};
@@ -28,7 +28,7 @@ pub enum Logged {
 }
 
 impl Logged {
-    /// What came of beginning a cycle.
+    /// Returns the event of a call that begins a cycle.
     #[inline(always)]
     pub fn from_begin(told: Result<(), Busy>) -> Logged
         ensures { event_of result ≡ begin_done told }
@@ -39,7 +39,7 @@ impl Logged {
         }
     }
 
-    /// What came of a quantum of a budget.
+    /// Returns the event of a call that spends a quantum of a budget.
     #[inline(always)]
     pub fn from_quantum(budget: u32, told: Result<Spent, BudgetOutOfRange>) -> Logged
         ensures { event_of result ≡ quantum_done budget told }

@@ -1,4 +1,4 @@
-//! What paces a heap that its caller lends.
+//! A pacer of a heap that its caller lends.
 ghost use Rattle.std.specs.Prelude.{◌≡◌, ◌⊎◌, ℕ, ◌+◌, ◌<◌, ◌*◌, ◌≤◌, true, false, max};
 ghost use Rattle.heap_model.specs.declared.phase.Phase.{Phase};
 ghost use Rattle.heap_model.specs.Event.{Cycle_begun, Quantum_done};
@@ -30,9 +30,9 @@ use thiserror::Error;
 #[error("object above the words of a cycle")]
 pub struct AbovePlan;
 
-/// A plan, and what is counted for it. It paces one heap, which its caller lends to each call with the heap's cycles: all that
-/// makes objects, begins cycles and spends quanta on that heap goes through the pacer. It takes no memory. Contracts see the
-/// plan, the budget of a quantum, what is counted, and the figures.
+/// A plan, and the counts that it needs. It paces one heap, which its caller lends to each call with the heap's cycles. Each
+/// call that makes an object, begins a cycle or spends a quantum on that heap must go through the pacer. It takes no memory.
+/// Contracts see the plan, the budget of a quantum, the counts and the figures.
 #[derive(Drop)]
 pub struct Pacer {
     plan: Plan,
@@ -60,8 +60,8 @@ impl Model for Pacer {
 }
 
 impl Pacer {
-    /// A pacer for a heap of a configuration that was just made, with quanta of the configuration's budget. That the plan
-    /// fits is for the caller to see (`flow_fits`): with one that doesn't, objects may be refused for lack of space.
+    /// Returns a pacer for a heap of a configuration that was just made. Its quanta have the configuration's budget. The caller
+    /// must check that the plan fits (`flow_fits`): if it doesn't, objects may be refused for lack of space.
     pub fn new(config: &Config, plan: Plan) -> Pacer
         ensures { result ≡ first_pacer (config.now.collector_ticks * config.now.rate) plan }
     {
@@ -74,14 +74,14 @@ impl Pacer {
         }
     }
 
-    /// What the collector did because the pacer wanted it.
+    /// Returns the work that the collector did because the pacer required it.
     pub fn figures(&self) -> Figures
         ensures { result ≡ self.now.figures }
     {
         self.figures
     }
 
-    /// Whether this many words may be asked for now.
+    /// Returns whether this many words may be asked for now.
     fn allows(&self, heap: &Heap, words: u64) -> bool
         ensures yes { result ≡ true → MayAsk (state_by self.now heap.now) words }
         ensures no { result ≡ false → MayAsk (state_by self.now heap.now) words → ⊥ }
@@ -104,7 +104,7 @@ impl Pacer {
         after <= due
     }
 
-    /// A cycle has begun.
+    /// Counts that a cycle has begun.
     fn count_begin(&mut self)
         ensures { Counted self.old Cycle_begun self.new }
     {
@@ -112,7 +112,7 @@ impl Pacer {
         self.quanta = 0;
     }
 
-    /// A quantum of this budget was done.
+    /// Counts that a quantum of this budget was done.
     fn count_quantum(&mut self, budget: u32)
         ensures { (units : ℕ) (phase : Phase) → Counted self.old (Quantum_done budget units phase) self.new }
     {
@@ -121,7 +121,7 @@ impl Pacer {
         }
     }
 
-    /// Begins a cycle, or spends a quantum on the one that is running; and whether it began one.
+    /// Begins a cycle, or spends a quantum on the cycle that is running. Returns whether it began one.
     fn work<L: Log>(&mut self, heap: &mut Heap, cycles: &mut Cycles, log: &mut L) -> bool
         requires { heap.old.units ≤ cycle_limit heap.old }
         ensures piece { (p : DoesPiece (paced_by self.old heap.old cycles.old) result
@@ -147,8 +147,8 @@ impl Pacer {
         }
     }
 
-    /// Has the collector work until this many words may be asked for, and counts them. Where they are more than a whole
-    /// cycle has, nothing is done.
+    /// Makes the collector work until this many words may be asked for, and counts them. If they are more than a whole cycle
+    /// has, nothing is done.
     fn pay<L: Log>(
         &mut self,
         heap: &mut Heap,
@@ -174,9 +174,9 @@ impl Pacer {
         Ok(())
     }
 
-    /// Has the collector work as much as the plan wants for a new object of this shape, and no more, and counts its words:
-    /// its caller makes the object on the heap then. The log gets the events of this work. Where the object has more words than
-    /// a whole cycle has, nothing is done.
+    /// Makes the collector work as much as the plan requires for a new object of this shape, and no more. It counts the
+    /// object's words, and the caller then makes the object on the heap. The log gets the events of this work. If the object
+    /// has more words than a whole cycle has, nothing is done.
     pub fn pay_for<L: Log>(
         &mut self,
         heap: &mut Heap,
@@ -217,10 +217,10 @@ impl Pacer {
         self.pieces_left(heap, words).max(1)
     }
 
-    /// Does one piece of the work that the plan wants for this many words, if any is due: it begins a cycle or spends one quantum.
-    /// Returns how many pieces are left at most, if the plan lasts and leaves room for the words. If none is left, objects of no
-    /// more words in all are then made without work, until the program itself begins a cycle. It counts no words. If the words
-    /// are more than a whole cycle has, it does nothing, and returns `AbovePlan`.
+    /// Does one piece of the work that the plan requires for this many words, if any is due: it begins a cycle or spends one
+    /// quantum. Returns how many pieces are left at most, if the plan lasts and leaves room for the words. If none is left,
+    /// objects of no more words in all are then made without work, until the program itself begins a cycle. It counts no words.
+    /// If the words are more than a whole cycle has, it does nothing, and returns `AbovePlan`.
     pub fn prepare<L: Log>(
         &mut self,
         heap: &mut Heap,
@@ -243,8 +243,8 @@ impl Pacer {
         Ok(self.left(heap, words))
     }
 
-    /// Begins a cycle, sooner than the plan wants it: what is live is then to be within the flow. Refused while one is
-    /// running, and then nothing changes.
+    /// Begins a cycle, sooner than the plan requires it. Live objects must then be within the flow. It is refused while a cycle
+    /// is running, and then nothing changes.
     pub fn begin(&mut self, heap: &mut Heap, cycles: &mut Cycles) -> Result<(), Busy>
         ensures begins { Begins heap.old heap.new result }
         ensures agrees { KeepsAgreeing heap.old heap.new }
@@ -257,8 +257,8 @@ impl Pacer {
         Ok(())
     }
 
-    /// Spends units of a budget on the cycle that is running, besides what the plan wants. Words may be asked for it if
-    /// the budget is the plan's or greater. Refused outside `LEAST_BUDGET` to `MOST_BUDGET`, and then nothing changes.
+    /// Spends units of a budget on the cycle that is running, besides the plan's own quanta. It pays for words if its budget is
+    /// the plan's or greater. It is refused outside `LEAST_BUDGET` to `MOST_BUDGET`, and then nothing changes.
     pub fn quantum(
         &mut self,
         heap: &mut Heap,

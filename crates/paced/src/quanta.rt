@@ -1,4 +1,4 @@
-//! How many quanta a cycle takes at most where a plan is kept.
+//! How many quanta a cycle takes at most if a plan is kept.
 ghost use Rattle.std.specs.Prelude.{◌≡◌, ℕ, ◌+◌, ◌*◌, ◌/◌, ◌^◌, ◌<◌, ◌≤◌, Bool};
 ghost use Rattle.size_classes.specs.declared.config.TheConstants.{MOST_HEAP_PAGES};
 ghost use Rattle.size_classes.specs.declared.class.TheConstants.{PAGE_WORDS};
@@ -14,7 +14,7 @@ use crate::plan::Plan;
 use fragmentation::LEAST_PAGE_FILL;
 use size_classes::{CLASSES, Config, LEAST_BUDGET, MOST_BLOCKS, PAGE_WORDS};
 
-/// The words of pages.
+/// Returns the words of pages.
 fn arena_words(pages: u32) -> u128
     requires { pages ≤ MOST_HEAP_PAGES }
     ensures words { result ≡ PAGE_WORDS * pages }
@@ -23,8 +23,8 @@ fn arena_words(pages: u32) -> u128
     u128::from(PAGE_WORDS) * u128::from(pages)
 }
 
-/// The words that the blocks of live objects have at most where a cycle begins: all of the whole pages that they may take,
-/// and of one more.
+/// Returns the most words that the blocks of live objects have when a cycle begins. They may take all words of whole pages, and
+/// of one more.
 fn live_most(live_words: u64) -> u128
     ensures words { result ≡ PAGE_WORDS * (live_words / LEAST_PAGE_FILL + 1) }
     ensures within { result < 2 ^ 100 }
@@ -32,7 +32,7 @@ fn live_most(live_words: u64) -> u128
     u128::from(PAGE_WORDS) * (u128::from(live_words / LEAST_PAGE_FILL) + 1)
 }
 
-/// The units that roots, marking and sweeping spend at most on so many pages, where marking spends so many.
+/// Returns the units that roots, marking and sweeping spend at most on a number of pages, if marking spends `marking` units.
 fn sweep_units(config: &Config, pages: u32, marking: u128) -> u128
     requires pages { pages ≤ MOST_HEAP_PAGES }
     requires marking { marking < 2 ^ 101 }
@@ -44,9 +44,9 @@ fn sweep_units(config: &Config, pages: u32, marking: u128) -> u128
     roots + marking + looks + u128::from(MOST_BLOCKS + 4)
 }
 
-/// The quanta of the schedule's budget that a cycle takes at most up to its sweep's end on so many pages, where so many
-/// words are live when it begins, and so many are asked for at each quantum: marking takes the words of all pages, or of
-/// what is live and what is asked for by then.
+/// Returns the quanta of the schedule's budget that a cycle takes at most up to its sweep's end. When it begins, `live_words`
+/// words are live, and at each quantum `quantum_words` are asked for. Marking takes the words of all pages, or those that are
+/// live and those asked for by then.
 pub(crate) fn sweep_quanta(config: &Config, pages: u32, live_words: u64, quantum_words: u64) -> u64
     requires { pages ≤ MOST_HEAP_PAGES }
     ensures quanta { (makes : ℕ → Bool) (plan : PlanView) → plan.quantum_words ≡ quantum_words
@@ -64,9 +64,9 @@ pub(crate) fn sweep_quanta(config: &Config, pages: u32, live_words: u64, quantum
     full.min(marked) as u64
 }
 
-/// The units that moving spends at most on so many pages, where so many words are live when it begins, and a plan is kept:
-/// a look at every page for each class, and once more; and for each page either as many looks, or the words that are moved
-/// to it.
+/// Returns the units that moving spends at most on a number of pages if a plan is kept and `live_words` words are live when it
+/// begins. It looks at every page for each class, and once more. For each page it also takes one look at every page, or the
+/// words that are moved to it.
 fn moving_units(pages: u32, live_words: u64, cycle_words: u64) -> u64
     requires { pages ≤ MOST_HEAP_PAGES }
     ensures units { (makes : ℕ → Bool) (plan : PlanView) → plan.cycle_words ≡ cycle_words
@@ -79,8 +79,8 @@ fn moving_units(pages: u32, live_words: u64, cycle_words: u64) -> u64
     looks + share + 1
 }
 
-/// The quanta of the schedule's budget that a whole cycle takes at most: those up to its sweep's end, and those that end in
-/// moving, each of which may leave 255 units.
+/// Returns the quanta of the schedule's budget that a whole cycle takes at most. Quanta that end in moving may each leave 255
+/// units.
 pub(crate) fn quanta_on(config: &Config, pages: u32, live_words: u64, plan: &Plan) -> u64
     requires { pages ≤ MOST_HEAP_PAGES }
     ensures quanta { (makes : ℕ → Bool) → result ≡ quanta_on config.now (flow_for makes live_words plan.now) pages }

@@ -70,11 +70,11 @@ module _ (makes : ℕ → Bool) (c : Config) (live : ℕ) (numbers : List ℕ) w
   all_rows above text so none = record { lines = so.lines; each = all_items (IsRow makes c live) numbers above so.lines so.each none; told = so.told }
 
 -- the fastest plan has a word for each quantum
-pub fastest_words : (makes : ℕ → Bool) (c : Config) (live : ℕ) (plan : Option Plan) → IsFastestFor makes c live plan → IfSome plan (λ p. 1 ≤ p.quantum_words)
+pub fastest_words : (makes : ℕ → Bool) (c : Config) (live : ℕ) (plan : Option Plan) → IsFastestFor makes c live 0 plan → IfSome plan (λ p. 1 ≤ p.quantum_words)
 fastest_words makes c live None is = tt
 fastest_words makes c live (Some plan) is = is.0.some
 
 -- the least number of pages is one that a heap may have
-pub least_within : (makes : ℕ → Bool) (c : Config) (live : ℕ) (least : Option ℕ) → IsLeastPagesFor makes c live least → IfSome least (λ pages. pages ≤ MOST_HEAP_PAGES)
+pub least_within : (makes : ℕ → Bool) (c : Config) (live : ℕ) (least : Option ℕ) → IsLeastPagesFor makes c live 0 least → IfSome least (λ pages. pages ≤ MOST_HEAP_PAGES)
 least_within makes c live None is = tt
 least_within makes c live (Some pages) is = is.1

@@ -31,7 +31,7 @@ AreBars makes c live = OneForEach (IsBar makes c live)
 -- If size classes are given, blocks are made of these alone
 pub record ArePlanBars (classes : Option (List ℕ)) (c : Config) (live : ℕ) (bars : List PlanBar) : Type 0 where
   pub least : Option ℕ
-  pub is_least : IsLeastPagesFor (made_of classes) c live least
+  pub is_least : IsLeastPagesFor (made_of classes) c live 0 least
   pub each : AreBars (made_of classes) c live (numbers_told c least) bars
 
 -- the figures of a plan behind the number of pages, or that there is none

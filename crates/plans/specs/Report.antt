@@ -49,7 +49,7 @@ pub record FastestOn (makes : ℕ → Bool) (c : Config) (live pages : ℕ) : Ty
   pub on : Config
   pub is_on : IsOnPages c pages true on
   pub plan : Option Plan
-  pub fastest : IsFastestFor makes on live plan
+  pub fastest : IsFastestFor makes on live 0 plan
 
 -- the line of a number of pages, of the fastest plan on as many
 abbrev pub IsRow : (ℕ → Bool) → Config → ℕ → ℕ → List ℕ → Type 0
@@ -69,12 +69,12 @@ numbers_told c (Some few) = c.pages ∷ few ∷ (few + few / 4) ∷ (few + few /
 -- the report of the plans for this many live words; if size classes are given, blocks are made of these alone
 pub record IsPlansReport (classes : Option (List ℕ)) (c : Config) (live : ℕ) (text : List ℕ) : Type 0 where
   pub least : Option ℕ
-  pub is_least : IsLeastPagesFor (made_of classes) c live least
+  pub is_least : IsLeastPagesFor (made_of classes) c live 0 least
   pub rows : List ℕ
   pub table : IsTable (made_of classes) c live (numbers_told c least) rows
   pub told : text ≡ live_line c live classes ++ (fewest_line least ++ rows)
 
 -- the number of these size classes, and the fewest pages with a plan if blocks are made of them alone
 abbrev pub IsClassesLine : Config → ℕ → List ℕ → List ℕ → Type 0
-IsClassesLine c live used line = (least : Option ℕ) × IsLeastPagesFor (among used) c live least
+IsClassesLine c live used line = (least : Option ℕ) × IsLeastPagesFor (among used) c live 0 least
     × (line ≡ codes "classes " ++ (decimal (classes_made (among used)) ++ (codes ": " ++ fewest_line least)))

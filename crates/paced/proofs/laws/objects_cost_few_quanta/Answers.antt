@@ -1,4 +1,4 @@
-use Rattle.paced.proofs.Single.{one_bounded, small_one}
+use Rattle.paced.proofs.Single.{one_bounded, small_one, each_short}
 use Rattle.paced.proofs.laws.objects_cost_few_quanta.Goals as goal
 
 pub returns-clause-bound : goal.returns-clause-bound
@@ -6,3 +6,6 @@ returns-clause-bound c = λ config plan live largest words old mid before es wor
 
 pub returns-clause-small : goal.returns-clause-small
 returns-clause-small c = small_one
+
+pub returns-clause-each : goal.returns-clause-each
+returns-clause-each c = λ config plan live largest old mid new es stretch lasts made path done lives. each_short config plan live largest old made lasts stretch es mid new path done lives

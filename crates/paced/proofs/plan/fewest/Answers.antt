@@ -10,11 +10,11 @@ loop-pages-init c = record { none = λ makes made pages one less fits. omega (ar
 pub loop-pages-preserved : goal.loop-pages-preserved
 loop-pages-preserved c = record { none = λ makes made pages one less fits. by_size makes made pages one less fits (cases_lt pages c.loop-pages.pages) }
   where
-    by_size : (makes : ℕ → Bool) → classes_made makes ≡ c.args.classes → (pages : ℕ) → 1 ≤ pages → pages < c.loop-pages.pages + 1 → HasPlanOn makes c.args.config.now c.args.live_words pages → (pages < c.loop-pages.pages) ⊎ (c.loop-pages.pages ≤ pages) → ⊥
+    by_size : (makes : ℕ → Bool) → classes_made makes ≡ c.args.classes → (pages : ℕ) → 1 ≤ pages → pages < c.loop-pages.pages + 1 → HasPlanOn makes c.args.config.now c.args.live_words c.args.largest pages → (pages < c.loop-pages.pages) ⊎ (c.loop-pages.pages ≤ pages) → ⊥
     by_size makes made pages one less fits (inl low) = c.loop-pages.invariant.none makes made pages one low fits
     by_size makes made pages one less fits (inr high) =
         let e : pages ≡ c.loop-pages.pages = omega (arith, less, high) in
-        let t : c.has_plan_on.result ≡ true = (c.has_plan_on.ensures makes made).1 (subst (λ n. HasPlanOn makes c.args.config.now c.args.live_words n) e fits) in
+        let t : c.has_plan_on.result ≡ true = (c.has_plan_on.ensures makes made).1 (subst (λ n. HasPlanOn makes c.args.config.now c.args.live_words c.args.largest n) e fits) in
         let f : c.has_plan_on.result ≡ false = c.if-has_plan_on.false in
         let z : true ≡ false = sym t ∙ f in cc
 

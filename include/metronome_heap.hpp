@@ -138,10 +138,16 @@ public:
         return metronome_pace(handle(), &pacing, words);
     }
 
-    // Makes the heap keep a plan, and reads the work done for it. Returns NO_PLAN if the heap was used already or the plan doesn't
-    // fit it, or from try_kept if the heap keeps no plan.
+    // Makes the heap keep a plan, and reads the work done for it. try_keep returns NO_PLAN if the heap was used already, or the
+    // plan doesn't fit it or doesn't last. try_kept returns NO_PLAN if the heap keeps no plan.
     std::uint32_t try_keep(const metronome_flow &flow) noexcept { return metronome_keep(handle(), &flow); }
     std::uint32_t try_kept(metronome_work &work) noexcept { return metronome_kept(handle(), &work); }
+
+    // Works ahead for new objects of this many words of blocks in all, by one quantum at most. Stores how many more calls are
+    // needed at most. Returns NO_PLAN if the heap keeps no plan, or ABOVE_PLAN if a cycle has fewer words.
+    std::uint32_t try_prepare(std::uint64_t words, std::uint64_t &left) noexcept {
+        return metronome_prepare(handle(), words, &left);
+    }
 
     std::uint32_t try_phase(std::uint32_t &phase) noexcept { return metronome_phase(handle(), &phase); }
     std::uint32_t try_units(std::uint64_t &units) noexcept { return metronome_units(handle(), &units); }
@@ -184,6 +190,14 @@ public:
         metronome_work work{};
         detail::need(try_kept(work));
         return work;
+    }
+
+    // Works ahead by one quantum at most, and returns how many more calls are needed at most. If none is, new objects of this
+    // many words of blocks in all wait for no quantum, until the program begins a cycle.
+    std::uint64_t prepare(std::uint64_t words) {
+        std::uint64_t left = 0;
+        detail::need(try_prepare(words, left));
+        return left;
     }
 
     std::uint32_t phase() {
@@ -235,16 +249,32 @@ inline std::uint32_t try_cycle_limit(const metronome_settings &settings, metrono
     return metronome_cycle_limit(&settings, &limit);
 }
 
-// Stores the plan for a heap of these settings: the one with the most words for each quantum, of those whose words for a cycle
-// last until the cycle's end.
+// Stores the plan for a heap of these settings. It has the most words for each quantum, of those whose words for a cycle last
+// until the cycle's end.
 inline std::uint32_t try_plan(const metronome_settings &settings, std::uint64_t live_words, metronome_flow &flow) noexcept {
     return metronome_plan(&settings, live_words, &flow);
+}
+
+// Stores the same of the plans that leave room for an object of largest_words words of blocks.
+inline std::uint32_t try_plan_for(const metronome_settings &settings, std::uint64_t live_words, std::uint64_t largest_words,
+                                  metronome_flow &flow) noexcept {
+    return metronome_plan_for(&settings, live_words, largest_words, &flow);
+}
+
+// Returns the words of the blocks that an object of a shape takes, or 0 if it is too large.
+inline std::uint64_t block_words(const metronome_shape &shape) noexcept {
+    return metronome_block_words(shape.kind, shape.refs, shape.words);
 }
 
 #ifdef __cpp_exceptions
 inline metronome_flow plan(const metronome_settings &settings, std::uint64_t live_words) {
     metronome_flow flow{};
     detail::need(try_plan(settings, live_words, flow));
+    return flow;
+}
+inline metronome_flow plan_for(const metronome_settings &settings, std::uint64_t live_words, std::uint64_t largest_words) {
+    metronome_flow flow{};
+    detail::need(try_plan_for(settings, live_words, largest_words, flow));
     return flow;
 }
 inline metronome_limit cycle_limit(const metronome_settings &settings) {

@@ -8,6 +8,10 @@
  *     metronome_flow plan;
  *     if (metronome_plan(&settings, 183200, &plan) != METRONOME_OK) return 1;
  *     if (metronome_create(&heap, &settings) != METRONOME_OK || metronome_keep(&heap, &plan) != METRONOME_OK) return 1;
+ *
+ * If it makes arrays of 1000 cells too, it asks for a plan with room for them:
+ *
+ *     if (metronome_plan_for(&settings, 183200, METRONOME_ARRAY_WORDS(1000), &plan) != METRONOME_OK) return 1;
  */
 #ifndef METRONOME_KEEP_H
 #define METRONOME_KEEP_H
@@ -26,8 +30,8 @@ extern "C" {
 /* A plan: how many words of blocks may be made while the collector works.
  *
  * Words are counted by blocks. A block holds a part of an object, with its header of four words, and is at most an
- * eighth larger than both. So a plain object of n cells takes at most 9 / 8 * (n + 4) words. An array takes at most 9
- * / 8 of n + 4 words, of 4 more for each 252 of its cells, and of its spines (docs/MANUAL.md). */
+ * eighth larger than both. METRONOME_PLAIN_WORDS, METRONOME_ARRAY_WORDS and metronome_block_words calculate the words
+ * of an object. */
 typedef struct metronome_flow {
     uint64_t live_words;    /* The program must keep live objects within this many words whenever a cycle begins */
     uint64_t quantum_words; /* At most this many words are made for each quantum of a cycle */
@@ -56,6 +60,41 @@ typedef struct metronome_work {
  *   * BAD_SETTING plus the place of the first setting that is out of its range. *flow stays as it was. */
 uint32_t metronome_plan(const metronome_settings *settings, uint64_t live_words, metronome_flow *flow) METRONOME_NONNULL;
 
+/* Calculates a plan as metronome_plan does, of those that leave room for an object of largest_words words of blocks.
+ * Under it a new object of w words, at most largest_words, waits for at most ceil(w / quantum_words) quanta. In
+ * exchange it may have fewer words for a quantum.
+ *
+ * Returns OK, with the plan in *flow, or the other statuses of metronome_plan. If it is NO_PLAN, least_pages is the
+ * fewest pages that have a plan with this room. */
+uint32_t metronome_plan_for(const metronome_settings *settings, uint64_t live_words, uint64_t largest_words,
+                            metronome_flow *flow) METRONOME_NONNULL;
+
+/* Returns the words of the blocks that an object takes, with its headers, as a plan counts them. The kind is
+ * METRONOME_PLAIN, METRONOME_REF_ARRAY or METRONOME_WORD_ARRAY. An array of references has no words, and an array of
+ * words no references: the other number is ignored. Returns 0 if no object has the shape, since it is too large or
+ * there is no such kind. No heap is needed. */
+uint64_t metronome_block_words(uint32_t kind, uint32_t refs, uint32_t words);
+
+/* The same as constants. A plain object of n cells, references and words together, takes METRONOME_PLAIN_WORDS(n)
+ * words, for n of at most 252. For example, METRONOME_PLAIN_WORDS(2) is 6. An array of n cells takes
+ * METRONOME_ARRAY_WORDS(n) words, for n of at most 4000000. These macros evaluate n several times. */
+#define METRONOME_PLAIN_WORDS(n) METRONOME_BLOCK_OF((n) + 4)
+#define METRONOME_ARRAY_WORDS(n) \
+    (METRONOME_RUN_WORDS(n) + ((n) > 252 ? METRONOME_SPINE_WORDS(((n) + 251) / 252) : 0))
+
+/* Parts of these macros. A block for n words has the least of the 38 sizes that is large enough. A run of n cells lies
+ * in blocks of 252 cells each, and in one for the rest. The spines of n pieces have a cell for each. */
+#define METRONOME_RUN_WORDS(n) \
+    (256 * ((n) / 252) + ((n) % 252 > 0 || (n) == 0 ? METRONOME_BLOCK_OF((n) % 252 + 4) : 0))
+#define METRONOME_SPINE_WORDS(n) \
+    (METRONOME_RUN_WORDS(n) + ((n) > 252 ? METRONOME_BLOCK_OF(((n) + 251) / 252 + 4) : 0))
+#define METRONOME_BLOCK_OF(n) \
+    ((n) <= 4 ? 4 : (n) <= 16 ? (n) : (n) <= 18 ? 18 : (n) <= 20 ? 20 : (n) <= 22 ? 22 : (n) <= 24 ? 24 \
+    : (n) <= 27 ? 27 : (n) <= 30 ? 30 : (n) <= 33 ? 33 : (n) <= 37 ? 37 : (n) <= 41 ? 41 : (n) <= 46 ? 46 \
+    : (n) <= 51 ? 51 : (n) <= 57 ? 57 : (n) <= 64 ? 64 : (n) <= 72 ? 72 : (n) <= 81 ? 81 : (n) <= 91 ? 91 \
+    : (n) <= 102 ? 102 : (n) <= 114 ? 114 : (n) <= 128 ? 128 : (n) <= 144 ? 144 : (n) <= 162 ? 162 \
+    : (n) <= 182 ? 182 : (n) <= 204 ? 204 : (n) <= 229 ? 229 : 256)
+
 /* Makes the heap keep a plan from here on. Before each new object the collector begins a cycle or spends quanta of the
  * plan's budget. It does as much as the plan requires for that object, and no more.
  *
@@ -63,12 +102,16 @@ uint32_t metronome_plan(const metronome_settings *settings, uint64_t live_words,
  * space. This is proved for all commands, lists of commands, begins and quanta that follow, if the heap was just made,
  * or made and touched. It isn't proved if mutators joined before.
  *
- * PAUSES. If the plan lasts, as each plan of metronome_plan does, and live objects keep to it, an object of at most
- * quantum_words words waits for at most one quantum. An object of w words waits for at most
- * 2 * ceil(w / quantum_words) - 1 quanta. These are laws of a paced heap; no contract of C cites them yet. A plan that
- * fits and doesn't last is kept too: one object may then pay for the rest of a cycle. The collector also works before
- * an object that is then refused for another reason. An object of more than cycle_words words is refused as
- * ABOVE_PLAN, and nothing is done.
+ * PAUSES. If live objects keep within live_words whenever a cycle begins, a call waits for few quanta. This is proved
+ * for the same calls, all callers of the handle together:
+ *   * A new object of at most quantum_words words waits for at most one quantum.
+ *   * A new object of w words waits for at most 2 * ceil(w / quantum_words) - 1 quanta. If the plan has room for it
+ *     (metronome_plan_for), it waits for at most ceil(w / quantum_words).
+ *   * If objects of w words in all are made, they wait for at most ceil(w / quantum_words) quanta together, if the plan
+ *     has room for the largest of them.
+ *   * A call that makes no object waits for no quantum, except metronome_quantum and metronome_prepare, for one.
+ * The collector also works before an object that is then refused for another reason. An object of more than
+ * cycle_words words is refused as ABOVE_PLAN, and nothing is done.
  *
  * OTHER CALLS. The program may still call metronome_begin and metronome_quantum. A quantum of the plan's budget or
  * more counts for the plan. If the program begins a cycle, live objects must keep within live_words there too.
@@ -78,7 +121,8 @@ uint32_t metronome_plan(const metronome_settings *settings, uint64_t live_words,
  * been touched and mutators may have joined, but no page may have been used and no cycle begun.
  *
  * Returns OK, or changes nothing and returns one of these:
- *   * NO_PLAN: The heap isn't such a heap, or the plan doesn't fit in it.
+ *   * NO_PLAN: The heap isn't such a heap, or the plan doesn't fit in it, or doesn't last. It lasts if a cycle has
+ *     quantum_words words for each quantum that it takes at most. Plans of metronome_plan and metronome_plan_for last.
  *   * NO_HEAP: The handle is closed. */
 uint32_t metronome_keep(metronome *heap, const metronome_flow *flow) METRONOME_NONNULL;
 
@@ -87,6 +131,28 @@ uint32_t metronome_keep(metronome *heap, const metronome_flow *flow) METRONOME_N
  * Returns OK. Returns NO_PLAN if the heap keeps none, or NO_HEAP if the handle is closed; *work then stays as it
  * was. */
 uint32_t metronome_kept(metronome *heap, metronome_work *work) METRONOME_NONNULL;
+
+/* Makes the collector work ahead, for new objects that take `words` words of blocks in all. A call does at most one
+ * piece of the work that they require: it begins a cycle, or spends one quantum of the plan's budget. It stores in
+ * *left how many more such calls are needed at most.
+ *
+ * PROMISE. If *left is 0, then new objects of at most `words` words in all wait for no quantum, until the program
+ * begins a cycle. It begins one by metronome_begin, or by a later metronome_prepare. If the plan has room for `words`
+ * (metronome_plan_for), and live objects keep within live_words whenever a cycle begins, then *left more calls in a row
+ * suffice. Both are proved for the calls for which metronome_keep promises room.
+ *
+ * For example, a control loop prepares in its idle time for the objects of its next period:
+ *
+ *     uint64_t left = 1;
+ *     while (left > 0 && is_idle() && metronome_prepare(&heap, PERIOD_WORDS, &left) == METRONOME_OK) {}
+ *
+ * metronome_kept counts this work too.
+ *
+ * Returns OK, or changes nothing and returns one of these; *left then stays as it was:
+ *   * ABOVE_PLAN: `words` is more than cycle_words.
+ *   * NO_PLAN: The heap keeps no plan.
+ *   * NO_HEAP: The handle is closed. */
+uint32_t metronome_prepare(metronome *heap, uint64_t words, uint64_t *left) METRONOME_NONNULL;
 
 #ifdef __cplusplus
 }

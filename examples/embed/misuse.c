@@ -41,7 +41,7 @@ static int refused_commands(metronome *h, uint32_t status, struct told *told) {
     return refused;
 }
 
-/* Returns how many of the other 14 calls return a status. */
+/* Returns how many of the other 15 calls return a status. */
 static int refused_calls(metronome *h, uint32_t status, struct told *told) {
     metronome_pacing pacing = METRONOME_PACING(1, 1, 256);
     metronome_row row = METRONOME_ROW(0, 1, 2);
@@ -52,6 +52,7 @@ static int refused_calls(metronome *h, uint32_t status, struct told *told) {
         + (metronome_page(h, 0, &told->page) == status) + (metronome_block(h, 0, 0, &told->block) == status)
         + (metronome_check_slot(h, 0, 0) == status) + (metronome_last_cycle(h, &told->cycle) == status)
         + (metronome_keep(h, &flow) == status) + (metronome_kept(h, &told->work) == status)
+        + (metronome_prepare(h, 1, &told->number) == status)
         + (metronome_pace(h, &pacing, 1) == status && metronome_whole_cycle(h, 256) == status
            && metronome_close_frame(h, &row, 0) == status);
 }
@@ -64,7 +65,7 @@ static void nothing_is_done(metronome *h, uint32_t status) {
     memset(&told, 7, sizeof told);
     memset(&stood, 7, sizeof stood);
     check(refused_commands(h, status, &told) == 18, __LINE__);
-    check(refused_calls(h, status, &told) == 14, __LINE__);
+    check(refused_calls(h, status, &told) == 15, __LINE__);
     check(memcmp(&told, &stood, sizeof told) == 0, __LINE__);
     metronome_destroy(h);
     check(memcmp(&before, h, sizeof before) == 0, __LINE__);
@@ -185,6 +186,7 @@ static void plans_are_told(void) {
     IS(METRONOME_BAD_SCHEDULE, metronome_plan(&settings, 2000, &flow));
     settings.slots = 257;
     IS(METRONOME_BAD_SETTING + 2, metronome_plan(&settings, 2000, &flow));
+    IS(METRONOME_BAD_SETTING + 2, metronome_plan_for(&settings, 2000, 1, &flow));
     check(flow.live_words == 7 && flow.quantum_words == 7 && flow.least_pages == 7 && flow.budget == 7, __LINE__);
     settings.slots = 8;
     settings.rate = 100;
@@ -221,6 +223,9 @@ static void plans_are_kept_by_new_heaps(void) {
     IS(METRONOME_NO_PLAN, metronome_keep(&h, &larger));
     larger = flow;
     larger.cycle_words *= 2;
+    IS(METRONOME_NO_PLAN, metronome_keep(&h, &larger));
+    larger = flow;
+    larger.cycle_words = 10 * flow.quantum_words; /* it fits, and doesn't last */
     IS(METRONOME_NO_PLAN, metronome_keep(&h, &larger));
     IS(METRONOME_OK, metronome_touch(&h, SIZE_MAX));
     check(metronome_join(&h, 1).kind == METRONOME_DONE, __LINE__);

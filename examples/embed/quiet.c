@@ -89,6 +89,7 @@ static void figures(void) {
     metronome_block_view block;
     metronome_limit limit;
     metronome_work work;
+    const uint32_t planned = plan.budget == 0 ? METRONOME_NO_PLAN : METRONOME_OK;
     ENDED(metronome_phase(&heap, &phase));
     ENDED(metronome_units(&heap, &number));
     ENDED(metronome_free_pages(&heap, &number));
@@ -97,7 +98,9 @@ static void figures(void) {
     ENDED(metronome_page(&heap, 0, &page));
     ENDED(metronome_block(&heap, 0, 0, &block));
     ENDED(metronome_check_slot(&heap, 0, 1));
-    IS(metronome_kept(&heap, &work) == (plan.budget == 0 ? METRONOME_NO_PLAN : METRONOME_OK));
+    IS(metronome_kept(&heap, &work) == planned);
+    IS(metronome_prepare(&heap, 100, &number) == planned);
+    IS(metronome_block_words(METRONOME_WORD_ARRAY, 0, 1000) == METRONOME_ARRAY_WORDS(1000));
     ENDED(metronome_cycle_limit(&settings, &limit));
     IS(metronome_text(METRONOME_NO_SPACE, text, sizeof text) > 0);
     IS(metronome_version() == METRONOME_VERSION);
@@ -153,6 +156,7 @@ static bool makes_many(void) {
 
 static void on_plan(void) {
     ENDED(metronome_plan(&settings, LIVE, &plan));
+    ENDED(metronome_plan_for(&settings, LIVE, 300, &plan));
     ENDED(metronome_keep(&heap, &plan));
     COMMANDS(metronome, heap);
     IS(makes_many());

@@ -249,10 +249,16 @@ static void check_throwing() {
     CHECK(cycle_limit(SETTINGS).quanta == 34);
     const metronome_settings moving = METRONOME_SETTINGS_MOVING(200, 1, 4);
     Heap kept(moving);
-    kept.keep(plan(moving, 2000));
+    const std::uint64_t words = block_words({ METRONOME_WORD_ARRAY, 0, 1000 });
+    CHECK(words == METRONOME_ARRAY_WORDS(1000) && plan_for(moving, 2000, words).quantum_words > 0);
+    kept.keep(plan_for(moving, 2000, words));
     Mutator pushing(kept, 0);
     for (int i = 0; i < 5000; i++) pushing.new_words(1000);
     CHECK(kept.kept().cycles > 0 && kept.kept().quanta >= kept.kept().most_quanta);
+    while (kept.prepare(words) > 0) {}
+    const std::uint64_t before = kept.kept().quanta;
+    pushing.new_words(1000);
+    CHECK(kept.kept().quanta == before && plan(moving, 2000).quantum_words >= plan_for(moving, 2000, words).quantum_words);
 }
 
 // A whole cycle frees the pages that moving emptied, even if a cycle is already running: three objects of 24 are live, one on

@@ -129,6 +129,7 @@ static void of_no_heap(void) {
     ASK(cycle_limit, &settings, &limit);
     ASK(text_into, METRONOME_NO_SPACE, text, sizeof text);
     ASK(version);
+    ASK(block_words, METRONOME_WORD_ARRAY, 0, ARRAY);
     if (pages_of_heap > SPARE) return;
     metronome other = METRONOME_CLOSED;
     ASK(create_for, &other, &settings, METRONOME_VERSION);
@@ -141,7 +142,9 @@ static void of_a_plan(void) {
     metronome other = METRONOME_CLOSED;
     metronome_flow flow;
     metronome_work work;
+    uint64_t left;
     metronome_settings settings = METRONOME_SETTINGS_MOVING(300, (int)mutator + 1, SLOTS);
+    ASK(plan_for, &settings, 2000, 1000, &flow);
     ASK(plan, &settings, 2000, &flow);
     need(metronome_create(&other, &settings) == METRONOME_OK, "no heap");
     metronome_touch(&other, SIZE_MAX);
@@ -149,6 +152,7 @@ static void of_a_plan(void) {
     need(metronome_new_plain(&other, mutator, NEW, 0, 0).kind == METRONOME_MADE, "no object");
     COUNT("kept_new", where, metronome_new_plain(&other, mutator, NEW, 1, 2));
     ASK(kept, &other, &work);
+    ASK(prepare, &other, 100, &left);
     metronome_destroy(&other);
 }
 

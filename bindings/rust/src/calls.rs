@@ -322,8 +322,12 @@ extern "C" {
     pub(crate) fn metronome_block(heap: *mut Handle, page: usize, number: usize, block: *mut BlockTold) -> u32;
     pub(crate) fn metronome_cycle_limit(settings: *const Settings, limit: *mut CycleLimit) -> u32;
     pub(crate) fn metronome_plan(settings: *const Settings, live_words: u64, flow: *mut Flow) -> u32;
+    pub(crate) fn metronome_plan_for(settings: *const Settings, live_words: u64, largest_words: u64, flow: *mut Flow)
+        -> u32;
+    pub(crate) fn metronome_block_words(kind: u32, refs: u32, words: u32) -> u64;
     pub(crate) fn metronome_keep(heap: *mut Handle, flow: *const Flow) -> u32;
     pub(crate) fn metronome_kept(heap: *mut Handle, work: *mut Work) -> u32;
+    pub(crate) fn metronome_prepare(heap: *mut Handle, words: u64, left: *mut u64) -> u32;
     pub(crate) fn metronome_text_into(status: u32, text: *mut c_char, length: usize) -> usize;
     pub(crate) fn metronome_version() -> u32;
 }

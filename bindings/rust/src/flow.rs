@@ -44,9 +44,22 @@ impl Settings {
     /// whole cycle has ended. If there is no plan, it has no words for a quantum, and says how many pages have one.
     /// Refused: `BadSetting`, `BadSchedule`.
     pub fn plan(&self, live_words: u64) -> Result<Flow> {
-        let mut flow = Flow::default();
         // SAFETY: both live through the call.
-        match done(unsafe { calls::metronome_plan(self, live_words, &mut flow) }) {
+        Settings::told(|flow| unsafe { calls::metronome_plan(self, live_words, flow) })
+    }
+
+    /// Returns the same of the plans that leave room for an object of `largest_words` words of blocks
+    /// ([`Shape::block_words`](crate::Shape::block_words)). Under it an object of w words, at most these, waits for at most
+    /// w / `quantum_words` quanta, rounded up.
+    pub fn plan_for(&self, live_words: u64, largest_words: u64) -> Result<Flow> {
+        // SAFETY: both live through the call.
+        Settings::told(|flow| unsafe { calls::metronome_plan_for(self, live_words, largest_words, flow) })
+    }
+
+    /// Returns the plan that a call stores. Where there is none, it stores how many pages have one.
+    fn told(call: impl FnOnce(&mut Flow) -> u32) -> Result<Flow> {
+        let mut flow = Flow::default();
+        match done(call(&mut flow)) {
             Err(Refusal::NoPlan) | Ok(()) => Ok(flow),
             Err(why) => Err(why),
         }

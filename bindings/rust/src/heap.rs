@@ -166,7 +166,7 @@ impl Heap {
 
     /// Makes the heap keep a plan from here on: before each new object the collector works as much as the plan
     /// requires. As long as live objects keep to `live_words`, no object is refused for lack of space. Refused:
-    /// `NoPlan` if the heap was used already, or the plan doesn't fit in it.
+    /// `NoPlan` if the heap was used already, or the plan doesn't fit in it, or doesn't last.
     pub fn keep(&self, flow: &Flow) -> Result<()> {
         // SAFETY: the heap is open, and both live through the call.
         done(unsafe { calls::metronome_keep(self.handle(), flow) })
@@ -178,6 +178,17 @@ impl Heap {
         // SAFETY: the heap is open, and both live through the call.
         done(unsafe { calls::metronome_kept(self.handle(), &mut work) })?;
         Ok(work)
+    }
+
+    /// Works ahead for new objects that take `words` words of blocks in all: it begins a cycle, or spends one quantum, if
+    /// that is required. Returns how many more such calls are needed at most. If none is, these objects wait for no
+    /// quantum, until the program begins a cycle. Refused: `AbovePlan` if a cycle has fewer words, `NoPlan` if no plan is
+    /// kept.
+    pub fn prepare(&self, words: u64) -> Result<u64> {
+        let mut left = 0;
+        // SAFETY: the heap is open, and both live through the call.
+        done(unsafe { calls::metronome_prepare(self.handle(), words, &mut left) })?;
+        Ok(left)
     }
 
     /// Begins a cycle. Returns whether one began: none was running.

@@ -56,6 +56,18 @@ impl Shape {
             _ => Shape::Words(told.words),
         }
     }
+
+    /// Returns the words of the blocks that an object of this shape takes, with its headers, as a plan counts them. They are
+    /// 0 if the shape is too large.
+    pub fn block_words(self) -> u64 {
+        let (kind, refs, words) = match self {
+            Shape::Plain { refs, words } => (0, refs, words),
+            Shape::Refs(refs) => (1, refs, 0),
+            Shape::Words(words) => (2, 0, words),
+        };
+        // SAFETY: the call reads only these numbers.
+        unsafe { calls::metronome_block_words(kind, refs, words) }
+    }
 }
 
 /// The identity and the shape of an object.

@@ -193,6 +193,33 @@ fn a_plan_is_kept() -> Result<()> {
     Ok(())
 }
 
+/// A plan has room for an object, words are prepared for, and then the object waits for nothing.
+#[test]
+fn words_are_prepared_for() -> Result<()> {
+    let settings = Settings::moving(200, 1, 4);
+    let words = Shape::Words(1000).block_words();
+    assert_eq!(
+        (words, Shape::Plain { refs: 1, words: 1 }.block_words(), Shape::Refs(4_000_001).block_words()),
+        (1032, 6, 0)
+    );
+    let flow = settings.plan_for(2000, words)?;
+    assert!(flow.quantum_words <= settings.plan(2000)?.quantum_words && words <= flow.cycle_words);
+    assert_eq!(settings.plan_for(2000, u64::MAX)?.quantum_words, 0);
+    let heap = Heap::new(&settings)?;
+    assert_eq!(heap.prepare(words).err(), Some(Refusal::NoPlan));
+    heap.keep(&flow)?;
+    assert_eq!(heap.prepare(flow.cycle_words + 1).err(), Some(Refusal::AbovePlan));
+    let mutator = heap.mutator(0)?;
+    for _ in 0..1000 {
+        while heap.prepare(words)? > 0 {}
+        let before = heap.kept()?;
+        mutator.new_words(1000)?;
+        assert_eq!(heap.kept()?, before);
+    }
+    assert!(heap.kept()?.cycles > 1);
+    Ok(())
+}
+
 /// Puts a cell of a word before those that a root holds.
 fn push<'m>(list: &Root<'m>, cell: Root<'m>, word: u64) -> Result<Root<'m>> {
     cell.put(0, word)?;

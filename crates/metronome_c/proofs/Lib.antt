@@ -11,11 +11,14 @@ pub mod Making
 pub mod Beginning
 pub mod TouchedPages
 pub mod Kept
+pub mod Preparations
 pub mod Paying
 pub mod Outcomes
 pub mod Calling
 pub mod Checks
 pub mod KeptCalling
+pub mod Costing
+pub mod Soon
 pub mod Fitting
 pub mod SeatPlans
 pub mod Limits

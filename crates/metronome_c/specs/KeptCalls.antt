@@ -1,5 +1,5 @@
 -- The calls of a program on a handle whose heap keeps a plan.
-use Rattle.std.specs.Prelude.{◌≡◌, ◌⊎◌, ℕ, List, [], ◌∷◌, ◌++◌, length, Result, Ok, Err}
+use Rattle.std.specs.Prelude.{◌≡◌, ◌⊎◌, ℕ, ◌≤◌, List, [], ◌∷◌, ◌++◌, length, Result, Ok, Err}
 use Rattle.graph_heap.specs.declared.command.Command.{Command}
 use Rattle.graph_heap.specs.declared.command.Command.TheVariants as commands
 use Rattle.graph_heap.specs.declared.command.Reply.{Reply}
@@ -20,12 +20,15 @@ use Rattle.metronome_c.specs.Answer.{refused}
 use Rattle.metronome_c.specs.BulkCalls.{progress_told, DoesList, MakesList}
 use Rattle.metronome_c.specs.Calls.{Call, Command_called, DoesCall, TellsEvent}
 use Rattle.metronome_c.specs.Planning.{flow_of}
+use Rattle.metronome_c.specs.Preparing.{PreparesOpen}
 
 -- A call that may change the heap: one as without a plan; or one that does a list of commands of a mutator, with how far it
--- was done.
+-- was done; or one that prepares for a number of words, with the number of calls left that the program had before and after, and
+-- the status.
 pub data KeptCall : Type 0 where
   Called : Call → KeptCall
   List_called : ℕ → List Command → MetronomeProgress → KeptCall
+  Prepare_called : ℕ → ℕ → ℕ → ℕ → KeptCall
 
 -- no command of a list makes an object
 abbrev pub MakeNothing : List Command → Type 0
@@ -42,6 +45,7 @@ DoesCommands old m cs new told = MakeNothing cs × DoesList old m cs new told
 abbrev pub DoesKept : Result Held Status → KeptCall → Result Held Status → Type 0
 DoesKept old (Called call) new = DoesCall old call new
 DoesKept old (List_called m cs told) new = DoesCommands old m cs new told
+DoesKept old (Prepare_called words before after status) new = PreparesOpen old words new before after status
 
 -- such calls one after the other
 abbrev pub KeptCalls : Result Held Status → List KeptCall → Result Held Status → Type 0
@@ -77,10 +81,15 @@ WasList es m cs told = ((es ≡ []) × (told ≡ progress_told (Err AbovePlan)))
     ⊎ ((work : List Event) × (rs : List Reply) × (p : Progress) × (es ≡ work ++ events_of m cs (with_refusal rs p.refused))
     × AreWork work × (p.done ≡ length rs) × (told ≡ progress_told (Ok p)))
 
+-- A call that prepares was these events: the collector's own work, one piece at most.
+abbrev pub WasPiece : List Event → Type 0
+WasPiece es = AreWork es × (length es ≤ 1)
+
 -- a call was these events, whichever it was
 abbrev pub WasEvents : List Event → KeptCall → Type 0
 WasEvents es (Called call) = WasOne es call
 WasEvents es (List_called m cs told) = WasList es m cs told
+WasEvents es (Prepare_called words before after status) = WasPiece es
 
 -- the calls were these events, one call after the other
 abbrev pub WereEvents : List Event → List KeptCall → Type 0

@@ -8,8 +8,10 @@ pub mod Figures
 pub mod Held
 pub mod Keeping
 pub mod KeptCalls
+pub mod Costs
 pub mod Opened
 pub mod Planning
+pub mod Preparing
 pub mod Ring
 pub mod Kept
 pub mod Lending
@@ -20,3 +22,4 @@ pub mod Status
 pub mod Steps
 pub mod Text
 pub mod Touching
+pub mod Words

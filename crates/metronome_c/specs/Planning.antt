@@ -8,6 +8,7 @@ use Rattle.size_classes.specs.Config.{fault_of, IsOf}
 use Rattle.fragmentation.specs.Flow.{Flow}
 use Rattle.fragmentation.specs.Configured.{MovesAll, FlowFitsIn}
 use Rattle.paced.specs.declared.plan.Plan.{Plan}
+use Rattle.paced.specs.Bounds.{LastsWith}
 use Rattle.paced.specs.Planning.{IsFastest, IsLeastPages}
 use Rattle.paced.specs.Rooms.{planned_flow}
 use Rattle.metronome_c.specs.declared.planning.MetronomeFlow.{MetronomeFlow}
@@ -24,11 +25,12 @@ abbrev pub flow_of : MetronomeFlow → Flow
 flow_of f = planned_flow f.live_words (plan_in f)
 
 -- A flow suits a configuration if its quanta have the configuration's budget, each cycle moves and may empty all pages, and the
--- flow fits.
+-- flow fits. The words of a cycle last until it has ended.
 pub record Suits (c : Config) (flow : MetronomeFlow) : Type 0 where
   pub budget : flow.budget ≡ c.collector_ticks * c.rate
   pub moves : MovesAll c
   pub fits : FlowFitsIn c (flow_of flow)
+  pub lasts : LastsWith c (plan_in flow) flow.live_words 0
 
 -- a flow suits settings if it suits their configuration, or they have a fault
 abbrev pub SuitsSettings : Settings → MetronomeFlow → Type 0
@@ -54,23 +56,25 @@ flow_told c live least plan = record {
   budget = c.collector_ticks * c.rate;
 }
 
--- the plan of the most words for each quantum that fits in a heap of a configuration, where it moves all
-abbrev pub IsPlanned : Config → ℕ → Option Plan → Type 0
-IsPlanned c live None = MovesAll c → IsFastest c live None
-IsPlanned c live (Some plan) = MovesAll c × IsFastest c live (Some plan)
+-- the plan of the most words for each quantum that fits in a heap of a configuration, if the heap moves all, and leaves room for an
+-- object of `largest` words
+abbrev pub IsPlanned : Config → ℕ → ℕ → Option Plan → Type 0
+IsPlanned c live largest None = MovesAll c → IsFastest c live largest None
+IsPlanned c live largest (Some plan) = MovesAll c × IsFastest c live largest (Some plan)
 
 -- the status of a call that tells a plan
 abbrev pub plan_status : Option Plan → Status
 plan_status (Some plan) = Done
 plan_status None = NoPlan
 
--- C is told the plan, and the least number of pages, where the settings have no fault
-abbrev pub PlansUnless : Option ConfigFault → Settings → ℕ → MetronomeFlow → MetronomeFlow → ℕ → Type 0
-PlansUnless (Some fault) s live before after status = (after ≡ before) × (status ≡ status_number (fault_status fault))
-PlansUnless None s live before after status = (c : Config) × (least : Option ℕ) × (plan : Option Plan) × IsOf s c
-    × IsLeastPages c live least × IsPlanned c live plan × (after ≡ flow_told c live least plan)
+-- C is told the plan, and the least number of pages, if the settings have no fault
+abbrev pub PlansUnless : Option ConfigFault → Settings → ℕ → ℕ → MetronomeFlow → MetronomeFlow → ℕ → Type 0
+PlansUnless (Some fault) s live largest before after status =
+    (after ≡ before) × (status ≡ status_number (fault_status fault))
+PlansUnless None s live largest before after status = (c : Config) × (least : Option ℕ) × (plan : Option Plan) × IsOf s c
+    × IsLeastPages c live largest least × IsPlanned c live largest plan × (after ≡ flow_told c live least plan)
     × (status ≡ status_number (plan_status plan))
 
 -- the plan of the settings that C gives, or their first fault
-abbrev pub TellsPlan : Settings → ℕ → MetronomeFlow → MetronomeFlow → ℕ → Type 0
-TellsPlan s live before after status = PlansUnless (fault_of Library s) s live before after status
+abbrev pub TellsPlan : Settings → ℕ → ℕ → MetronomeFlow → MetronomeFlow → ℕ → Type 0
+TellsPlan s live largest before after status = PlansUnless (fault_of Library s) s live largest before after status

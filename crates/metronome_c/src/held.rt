@@ -5,8 +5,10 @@ ghost use Rattle.paced.specs.Pacing.{shape_words};
 ghost use Rattle.metronome_c.specs.Held.{PaysHeld};
 ghost use Rattle.metronome_c.specs.Collecting.{BeginsHeld, SpendsHeld};
 ghost use Rattle.metronome_c.specs.Keeping.{IsUnused, KeepsHeld};
+ghost use Rattle.metronome_c.specs.Preparing.{PreparesHeld};
 
 use crate::planning::MetronomeFlow;
+use crate::status::Status;
 use graph_heap::Shape;
 use machine::{BudgetOutOfRange, Busy, Heap, Spent};
 use paced::{Cycles, Figures, NoLog, Pacer};
@@ -55,6 +57,20 @@ impl Held {
                 .pay_for(&mut self.heap, &mut self.cycles, &mut NoLog, shape)
                 .is_ok(),
             None => true,
+        }
+    }
+
+    /// Does one piece at most of the work that the plan requires for `words` words, and returns how many are left. Returns why nothing
+    /// was done if no plan is kept, or if the words are more than the plan has for a whole cycle.
+    pub(crate) fn prepare(&mut self, words: u64) -> Result<u64, Status>
+        ensures { PreparesHeld self.old words result self.new }
+    {
+        let Some(pacer) = &mut self.pacer else {
+            return Err(Status::NoPlan);
+        };
+        match pacer.prepare(&mut self.heap, &mut self.cycles, &mut NoLog, words) {
+            Ok(left) => Ok(left),
+            Err(_above) => Err(Status::AbovePlan),
         }
     }
 

@@ -1,5 +1,5 @@
 //! The laws of the library. Each function does nothing: its contract is the law.
-ghost use Rattle.std.specs.Prelude.{◌≡◌, ◌*◌, ℕ, List, [], ◌∷◌, Result, Ok, Err};
+ghost use Rattle.std.specs.Prelude.{◌≡◌, ◌*◌, ◌≤◌, ℕ, List, [], ◌∷◌, length, Result, Ok, Err};
 ghost use Rattle.graph_heap.specs.declared.command.Refusal.TheVariants as refusals;
 ghost use Rattle.size_classes.specs.declared.config.Config.{Config};
 ghost use Rattle.size_classes.specs.declared.key.Key.TheVariants as keys;
@@ -9,12 +9,15 @@ ghost use Rattle.heap_model.specs.Opening.{IsOpening};
 ghost use Rattle.heap_model.specs.Settings.{settings_of, settings_by};
 ghost use Rattle.heap_model.specs.Spent.{cycle_limit};
 ghost use Rattle.heap_model.specs.State.{HeapState};
+ghost use Rattle.paced.specs.Bounds.{LastsWith};
 ghost use Rattle.metronome_c.specs.Calls.{Call, Calls, AreEvents, IsPromised};
+ghost use Rattle.metronome_c.specs.Costs.{KeepsCosts, AreFree, PrepareFor, EndsSoon};
 ghost use Rattle.metronome_c.specs.Lifetime.{IsMadeOf, Creates};
 ghost use Rattle.metronome_c.specs.Keeping.{CanKeep, Keeps};
 ghost use Rattle.metronome_c.specs.KeptCalls.{KeptCall, KeptCalls, KeepsRoom};
 ghost use Rattle.metronome_c.specs.Limit.{limit_of};
-ghost use Rattle.metronome_c.specs.Planning.{TellsPlan};
+ghost use Rattle.metronome_c.specs.Planning.{plan_in, TellsPlan};
+ghost use Rattle.metronome_c.specs.Preparing.{PreparesOpen};
 ghost use Rattle.metronome_c.specs.Status.{all_statuses, status_number};
 ghost use Rattle.metronome_c.specs.Touching.{touched_heap, touched_held};
 ghost use Rattle.metronome_c.specs.declared.held.Held.{Held};
@@ -53,11 +56,63 @@ pub fn kept_heaps_find_room()
         → KeepsRoom (touched_held h pages) flow calls new }
 {}
 
-/// A plan that C was told for settings is kept by a heap that was just made of them.
+/// Where a heap that was just made of a closed handle keeps a plan, and a program calls the library as it likes, the calls of any stretch
+/// cost few quanta, all its callers together. The collector works before new objects alone. If the plan leaves room for the largest
+/// object of the stretch, it spends at most one quantum for every `quantum_words` of the words that the stretch asks for, rounded up.
+/// In any case one object of w words costs at most `2 * ceil(w / quantum_words) - 1` quanta, and at most one if it has no more than
+/// `quantum_words`. This holds as long as live objects keep to the plan whenever a cycle begins. So it is where the program touched
+/// pages of the heap first.
+pub fn kept_heaps_cost_few_quanta()
+    ensures kept { (s : Settings) (h k : Held) (made status : ℕ) (flow : MetronomeFlow) (before stretch : List KeptCall)
+        (mid new : Result Held Status) → Creates IsMadeOf (Err Closed) s (Ok h) made → Keeps (Ok h) flow (Ok k) status
+        → status ≡ status_number Done → KeptCalls (Ok k) before mid → KeptCalls mid stretch new
+        → KeepsCosts h flow before stretch }
+    ensures touched { (s : Settings) (h k : Held) (made status pages : ℕ) (flow : MetronomeFlow)
+        (before stretch : List KeptCall) (mid new : Result Held Status) → Creates IsMadeOf (Err Closed) s (Ok h) made
+        → Keeps (Ok (touched_held h pages)) flow (Ok k) status → status ≡ status_number Done
+        → KeptCalls (Ok k) before mid → KeptCalls mid stretch new
+        → KeepsCosts (touched_held h pages) flow before stretch }
+{}
+
+/// Where such a heap keeps a plan, and a call that prepares for words told that none is left, the calls of any stretch are free that
+/// asks for no more words in all, until the program itself begins a cycle. As many more calls that prepare as were told suffice, if the
+/// plan leaves room for the words and live objects keep to it whenever a cycle begins.
+pub fn prepared_words_are_free()
+    ensures free { (s : Settings) (h k : Held) (made status : ℕ) (flow : MetronomeFlow) (before stretch : List KeptCall)
+        (mid ready new : Result Held Status) (words was left told : ℕ) → Creates IsMadeOf (Err Closed) s (Ok h) made
+        → Keeps (Ok h) flow (Ok k) status → status ≡ status_number Done → KeptCalls (Ok k) before mid
+        → PreparesOpen mid words ready was left told → told ≡ status_number Done → left ≡ 0
+        → KeptCalls ready stretch new → AreFree words stretch }
+    ensures soon { (s : Settings) (h k : Held) (made status : ℕ) (flow : MetronomeFlow) (before row : List KeptCall)
+        (mid ready new : Result Held Status) (words was left told : ℕ) → Creates IsMadeOf (Err Closed) s (Ok h) made
+        → Keeps (Ok h) flow (Ok k) status → status ≡ status_number Done → KeptCalls (Ok k) before mid
+        → PreparesOpen mid words ready was left told → told ≡ status_number Done → PrepareFor words row
+        → left ≤ length row → KeptCalls ready row new → EndsSoon h flow before words left row }
+    ensures free_touched { (s : Settings) (h k : Held) (made status pages : ℕ) (flow : MetronomeFlow)
+        (before stretch : List KeptCall) (mid ready new : Result Held Status) (words was left told : ℕ)
+        → Creates IsMadeOf (Err Closed) s (Ok h) made → Keeps (Ok (touched_held h pages)) flow (Ok k) status
+        → status ≡ status_number Done → KeptCalls (Ok k) before mid → PreparesOpen mid words ready was left told
+        → told ≡ status_number Done → left ≡ 0 → KeptCalls ready stretch new → AreFree words stretch }
+    ensures soon_touched { (s : Settings) (h k : Held) (made status pages : ℕ) (flow : MetronomeFlow)
+        (before row : List KeptCall) (mid ready new : Result Held Status) (words was left told : ℕ)
+        → Creates IsMadeOf (Err Closed) s (Ok h) made → Keeps (Ok (touched_held h pages)) flow (Ok k) status
+        → status ≡ status_number Done → KeptCalls (Ok k) before mid → PreparesOpen mid words ready was left told
+        → told ≡ status_number Done → PrepareFor words row → left ≤ length row → KeptCalls ready row new
+        → EndsSoon (touched_held h pages) flow before words left row }
+{}
+
+/// A plan that C was told for settings is kept by a heap that was just made of them, and by one that was touched since. The plan lasts
+/// there with room for the object for which the program asked.
 pub fn plans_are_kept()
-    ensures { (s : Settings) (h : Held) (made told : ℕ) (live : ℕ) (before flow : MetronomeFlow)
-        → TellsPlan s live before flow told → told ≡ status_number Done → Creates IsMadeOf (Err Closed) s (Ok h) made
-        → CanKeep h flow }
+    ensures kept { (s : Settings) (h : Held) (made told : ℕ) (live largest : ℕ) (before flow : MetronomeFlow)
+        → TellsPlan s live largest before flow told → told ≡ status_number Done
+        → Creates IsMadeOf (Err Closed) s (Ok h) made → CanKeep h flow }
+    ensures lasts { (s : Settings) (h : Held) (made told : ℕ) (live largest : ℕ) (before flow : MetronomeFlow)
+        → TellsPlan s live largest before flow told → told ≡ status_number Done
+        → Creates IsMadeOf (Err Closed) s (Ok h) made → LastsWith h.config (plan_in flow) flow.live_words largest }
+    ensures touched { (s : Settings) (h : Held) (made told pages : ℕ) (live largest : ℕ) (before flow : MetronomeFlow)
+        → TellsPlan s live largest before flow told → told ≡ status_number Done
+        → Creates IsMadeOf (Err Closed) s (Ok h) made → CanKeep (touched_held h pages) flow }
 {}
 
 /// The limit that C is told of a configuration is that of a heap that was made of it: the units of a cycle are within

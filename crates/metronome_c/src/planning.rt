@@ -4,7 +4,7 @@ ghost use Rattle.paced.specs.Planning.{IsLeastPages};
 ghost use Rattle.metronome_c.specs.Planning.{plan_in, Suits, SuitsSettings, flow_told, IsPlanned, TellsPlan};
 
 use crate::status::Status;
-use paced::{Plan, flow_fits, least_pages, moves_all, planned};
+use paced::{Plan, flow_fits, lasts, least_pages_for, moves_all, planned_for};
 use size_classes::{Config, Settings};
 
 /// A plan, for what is live at most: how many words of blocks are made at most for each quantum of a budget, and in a whole
@@ -20,12 +20,13 @@ pub struct MetronomeFlow {
 }
 
 impl MetronomeFlow {
-    /// What C is told of a plan of a configuration, or of there being none: then its words are none.
-    fn of_plan(config: &Config, live_words: u64, plan: Option<Plan>) -> MetronomeFlow
-        ensures { (least : Option ℕ) × IsLeastPages config.now live_words least
+    /// Returns the words of a plan of a configuration, or none if there is no plan; and the fewest pages that have a plan with room
+    /// for an object of `largest` words.
+    fn of_plan(config: &Config, live_words: u64, largest: u64, plan: Option<Plan>) -> MetronomeFlow
+        ensures { (least : Option ℕ) × IsLeastPages config.now live_words largest least
             × (result ≡ flow_told config.now live_words least plan) }
     {
-        let least = match least_pages(config, live_words, None) {
+        let least = match least_pages_for(config, live_words, largest, None) {
             Some(pages) => u64::from(pages),
             None => 0,
         };
@@ -42,8 +43,8 @@ impl MetronomeFlow {
         }
     }
 
-    /// Returns whether the plan suits a configuration: its quanta have the budget of the configuration, each cycle moves and may
-    /// empty all pages, and its flow fits.
+    /// Returns whether the plan suits a configuration. Its quanta have the budget of the configuration, each cycle moves and may
+    /// empty all pages, its flow fits, and the words of a cycle last until it has ended.
     pub(crate) fn suits(&self, config: &Config) -> bool
         ensures yes { result ≡ true → Suits config.now self.now }
         ensures no { result ≡ false → Suits config.now self.now → ⊥ }
@@ -51,6 +52,7 @@ impl MetronomeFlow {
         self.budget == config.budget()
             && moves_all(config)
             && flow_fits(config, self.live_words, &self.plan(), None)
+            && lasts(config, self.live_words, &self.plan(), 0)
     }
 
     /// Returns whether the plan suits the configuration of settings, or these have a fault.
@@ -64,7 +66,7 @@ impl MetronomeFlow {
         }
     }
 
-    /// Its plan.
+    /// Returns its plan.
     pub(crate) fn plan(&self) -> Plan
         ensures { result ≡ plan_in self.now }
     {
@@ -75,37 +77,57 @@ impl MetronomeFlow {
     }
 }
 
-/// The plan that `paced` finds for a heap of a configuration (`paced::planned`); none where the heap doesn't move all.
-fn planned_in(config: &Config, live_words: u64) -> Option<Plan>
-    ensures { IsPlanned config.now live_words result }
+/// Returns the plan that `paced` finds for a heap of a configuration (`paced::planned_for`), or None if the heap doesn't move all.
+fn planned_in(config: &Config, live_words: u64, largest: u64) -> Option<Plan>
+    ensures { IsPlanned config.now live_words largest result }
 {
     if moves_all(config) {
-        planned(config, live_words, None)
+        planned_for(config, live_words, largest, None)
     } else {
         None
     }
 }
 
-/// Tells a plan for a heap of these settings, where the blocks of live objects have at most so many words whenever a cycle
-/// begins, or that there is none: it has as many words for a cycle as fit, and the most for a quantum with which they last
-/// until a whole cycle has ended. No heap is made. It takes time by the pages.
+/// Stores the plan for a heap of these settings that leaves room for an object of `largest` words, or none if there is no such plan.
+fn tell_plan(settings: &Settings, live_words: u64, largest: u64, flow: &mut MetronomeFlow) -> u32
+    ensures { TellsPlan settings.now live_words largest flow.old flow.new result }
+{
+    let config = match Config::check_for_library(settings) {
+        Ok(config) => config,
+        Err(fault) => return Status::of_fault(fault).number(),
+    };
+    let plan = planned_in(&config, live_words, largest);
+    *flow = MetronomeFlow::of_plan(&config, live_words, largest, plan);
+    let status = match plan {
+        Some(_) => Status::Done,
+        None => Status::NoPlan,
+    };
+    status.number()
+}
+
+/// Stores a plan for a heap of these settings, in which live objects take at most `live_words` words of blocks whenever a cycle
+/// begins. The plan has as many words for a cycle as fit, and the most for a quantum with which they last until a whole cycle has
+/// ended. No heap is made. Time grows with the pages.
 #[unsafe(no_mangle)]
 pub extern "C" fn metronome_plan(
     settings: &Settings,
     live_words: u64,
     flow: &mut MetronomeFlow,
 ) -> u32
-    ensures { TellsPlan settings.now live_words flow.old flow.new result }
+    ensures { TellsPlan settings.now live_words 0 flow.old flow.new result }
 {
-    let config = match Config::check_for_library(settings) {
-        Ok(config) => config,
-        Err(fault) => return Status::of_fault(fault).number(),
-    };
-    let plan = planned_in(&config, live_words);
-    *flow = MetronomeFlow::of_plan(&config, live_words, plan);
-    let status = match plan {
-        Some(_) => Status::Done,
-        None => Status::NoPlan,
-    };
-    status.number()
+    tell_plan(settings, live_words, 0, flow)
+}
+
+/// Stores the same of the plans that leave room for an object of `largest_words` words of blocks.
+#[unsafe(no_mangle)]
+pub extern "C" fn metronome_plan_for(
+    settings: &Settings,
+    live_words: u64,
+    largest_words: u64,
+    flow: &mut MetronomeFlow,
+) -> u32
+    ensures { TellsPlan settings.now live_words largest_words flow.old flow.new result }
+{
+    tell_plan(settings, live_words, largest_words, flow)
 }

@@ -74,13 +74,6 @@ paced_none v = ([], refl)
 pub paced_then : (old mid new : PacedState) → Paced old mid → Paced mid new → Paced old new
 paced_then old mid new p q = (p.0 ++ q.0, path_then KeepsPlan p.0 q.0 old mid new p.1 q.1)
 
--- words are paid for, and then a command is done that asks for them, and more events
-pub paid_path : (old mid : PacedView) (m : ℕ) (c : Command) (reply : Reply) (after : HeapState) (es : List Event) (new : PacedState) (w : Pays old (words_of (asks c)) mid) → Steps mid.heap m c reply after
-    → Path KeepsPlan (record { heap = after; counts = mid.pacer.counts }) es new → Path KeepsPlan (state_of old) (w.work ++ Command_done m c reply ∷ es) new
-paid_path old mid m c reply after es new w steps rest =
-    let before : PacedState = record { heap = mid.heap; counts = w.before } in
-    path_then KeepsPlan w.work (Command_done m c reply ∷ es) (state_of old) before new (work_paces _ w.work (state_of old) before w.works) (record { heap = after; counts = mid.pacer.counts }, w.may, steps, w.counts, rest)
-
 -- a command that is done after the work that pays for it
 pub call_path : (old new : PacedView) (m : ℕ) (c : Command) (reply : Reply) (w : Calls old m c (Ok reply) new) → Path KeepsPlan (state_of old) (w.2.work ++ Command_done m c reply ∷ []) (state_of new)
 call_path old new m c reply w =

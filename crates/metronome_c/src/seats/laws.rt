@@ -53,7 +53,8 @@ pub fn seats_stay_at_their_heap()
 
 /// A plan that C was told for settings suits them: a heap of seats that is made of them keeps it.
 pub fn plans_suit_seats()
-    ensures { (s : Settings) (live told : ℕ) (before flow : MetronomeFlow) → TellsPlan s live before flow told
+    ensures { (s : Settings) (live largest told : ℕ) (before flow : MetronomeFlow)
+        → TellsPlan s live largest before flow told
         → told ≡ status_number Done → SuitsSettings s flow }
 {}
 

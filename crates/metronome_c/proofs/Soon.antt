@@ -119,7 +119,7 @@ module _ (s : Settings) (h : Held) (made : IsMadeOf s h) (flow : MetronomeFlow) 
       by_left more (suc n) some =
           let told = p.told (omega (arith, some)) in
           let a = pieces_fewer h.config (plan_in flow) flow.live_words words first (just_paced s h made flow can) lasts (es ++ p.work) (state_of w) (state_of g.view) g.work led g.works
-              (subst Lives (sym (append_assoc es p.work g.work)) lives) (g.none more) in
+          (subst Lives (sym (append_assoc es p.work g.work)) lives) (g.none more) in
           let b = g.some more in
           omega (arith, told, a, b, few)
 

@@ -46,12 +46,12 @@ shape_of (Plain refs words) = sized 0 refs words
 shape_of (RefArray refs) = sized 1 refs 0
 shape_of (WordArray words) = sized 2 0 words
 
--- the shape that a reply tells, or the one from before where it tells none
+-- the shape that a reply tells, or the one from before if it tells none
 abbrev pub shape_in : MetronomeShape → Reply → MetronomeShape
 shape_in before (replies.Described id shape) = shape_of shape
 shape_in before _ = before
 
--- the shape that a reply tells, or the one from before, where it tells none or there is no reply
+-- the shape that a reply tells, or the one from before, if it tells none or there is no reply
 abbrev pub shape_told : MetronomeShape → Result Reply Status → MetronomeShape
 shape_told before (Ok reply) = shape_in before reply
 shape_told before (Err why) = before

@@ -1,4 +1,4 @@
--- What is asked of what C holds: a heap, or a seat.
+-- Calls of a heap or a seat that C holds.
 use Rattle.std.specs.Prelude.{◌≡◌, ℕ, Result, Ok, Err}
 use Rattle.graph_heap.specs.declared.command.Reply.{Reply}
 use Rattle.heap_model.specs.State.{HeapState}
@@ -9,7 +9,7 @@ use Rattle.metronome_c.specs.declared.status.Status.{Status}
 use Rattle.metronome_c.specs.Answer.{answered, shape_told}
 use Rattle.metronome_c.specs.Held.{OnHeap, AfterPaying}
 
--- A call of what is held gives its answer, and what the call left is held. Where nothing is held the answer is why.
+-- A call of what is held gives its answer, and what the call left is held. If nothing is held, the answer says why.
 abbrev pub Asks : {S A : Type 0} → (S → A → S → Type 0) → Result S Status → Result A Status → Result S Status → Type 0
 Asks call (Err why) answer new = (answer ≡ Err why) × (new ≡ Err why)
 Asks {S} {A} call (Ok s) answer new = (a : A) × (k : S) × (answer ≡ Ok a) × (new ≡ Ok k) × call s a k
@@ -19,7 +19,7 @@ abbrev pub AsksHeap : {A : Type 0} → (HeapState → A → HeapState → Type 0
     → Result Held Status → Type 0
 AsksHeap call old answer new = Asks (OnHeap call) old answer new
 
--- The heap is asked once so many words were paid for, where a plan is kept. Where nothing is held the answer is why.
+-- The heap is asked once `words` words were paid for, if a plan is kept. If nothing is held, the answer says why.
 abbrev pub AsksPaying : {A : Type 0} → ℕ → (HeapState → A → HeapState → Type 0) → Result Held Status → Result A Status
     → Result Held Status → Type 0
 AsksPaying words call (Err why) answer new = (answer ≡ Err why) × (new ≡ Err why)

@@ -1,4 +1,4 @@
--- What C is told of calls that do a list of commands.
+-- Calls that do a list of commands, as C sees them.
 use Rattle.std.specs.Prelude.{◌≡◌, ℕ, List, take, drop, Option, Some, None, Result, Ok, Err}
 use Rattle.graph_heap.specs.declared.command.Command.{Command}
 use Rattle.graph_heap.specs.declared.command.Refusal.{Refusal}
@@ -26,20 +26,20 @@ progress_told (Err why) = record { done = 0; status = status_number why }
 abbrev pub too_many : MetronomeProgress
 too_many = progress_told (Err (Refused TooLarge))
 
--- A list of commands of mutator m is done in order by the heap that is held, up to the first that is refused, and C is told
--- how far. Without a heap none is.
+-- A list of commands of mutator m is done in order by the heap that is held, up to the first that is refused. C is told how far
+-- it was done. Without a heap none is.
 abbrev pub DoesList : Result Held Status → ℕ → List Command → Result Held Status → MetronomeProgress → Type 0
 DoesList old m cs new told = (p : Result Progress Status) × AsksHeap (λ h p k. DoesFront h m cs p k) old p new
     × (told ≡ progress_told p)
 
--- A list that makes an object is done so once so many words were paid for, where a plan is kept. Where they are more than the
--- plan has none is done.
+-- A list that makes an object is done so once `words` words were paid for, if a plan is kept. If they are more than the plan
+-- has, none is done.
 abbrev pub MakesList : Result Held Status → ℕ → ℕ → List Command → Result Held Status → MetronomeProgress → Type 0
 MakesList old words m cs new told = (p : Result Progress Status)
     × AsksPaying words (λ h p k. DoesFront h m cs p k) old p new × (told ≡ progress_told p)
 
--- A list of commands that read words is done so by the heap that is held, and the words that were replied stand in front of
--- those that C gave, of which the others stay.
+-- A list of commands that read words is done so by the heap that is held. The words that were replied stand in front of those
+-- that C gave. The others stay.
 abbrev pub ReadsList : Result Held Status → ℕ → List Command → Result Held Status → List ℕ × List ℕ
     → MetronomeProgress → Type 0
 ReadsList old m cs new words told = (p : Result Progress Status)

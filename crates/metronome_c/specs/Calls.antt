@@ -21,9 +21,8 @@ use Rattle.metronome_c.specs.Collecting.{phase_number, BeginsOpen, SpendsOpen}
 use Rattle.metronome_c.specs.Status.{status_number}
 use Rattle.metronome_c.specs.Steps.{DoesCommand}
 
--- A call that may change a heap, and its outcome: a command of a mutator, with its answer; a cycle to be begun,
--- with the status; a budget to be spent, with what stood in the record for the quantum before and after, and the
--- status.
+-- A call that may change a heap, and its outcome. A command of a mutator has its answer, and a beginning of a cycle its status.
+-- A quantum has a budget, the record for its outcome before and after, and the status.
 pub data Call : Type 0 where
   Command_called : ℕ → Command → Answer → Call
   Begin_called : ℕ → Call
@@ -40,7 +39,7 @@ abbrev pub Calls : Result Held Status → List Call → Result Held Status → T
 Calls old [] new = new ≡ old
 Calls old (call ∷ calls) new = (next : Result Held Status) × DoesCall old call next × Calls next calls new
 
--- the call told the program the outcome of the event
+-- the program is told the outcome of the event by the call
 abbrev pub TellsEvent : Event → Call → Type 0
 TellsEvent (Command_done m c reply) call = call ≡ Command_called m c (answer_of reply)
 TellsEvent Cycle_begun call = call ≡ Begin_called (status_number Done)
@@ -56,9 +55,8 @@ AllTellEvents [] calls = calls ≡ []
 AllTellEvents (e ∷ es) [] = ⊥
 AllTellEvents (e ∷ es) (call ∷ calls) = TellsEvent e call × AllTellEvents es calls
 
--- The calls are events, which lead from the heap that was made to the one that the handle holds, with the history of
--- the commands, and to the cycles that it has; each told the program its outcome; and all that is promised of a heap with its
--- history holds there.
+-- The calls are events. They lead from the heap that was made to the one that the handle holds, with the history of the
+-- commands, and to its cycles. Each told the program its outcome. All that is promised of a heap with its history holds there.
 pub record AreEvents (h : Held) (calls : List Call) (new : Result Held Status) : Type 0 where
   pub events : List Event
   pub course : Course
@@ -69,8 +67,8 @@ pub record AreEvents (h : Held) (calls : List Call) (new : Result Held Status) :
   pub left : new ≡ Ok (record h { heap = course.heap; cycles = cycles })
   pub holds : Holds course
 
--- A heap of a configuration with the numbers of these settings was just made: whatever comes, what is promised of a
--- heap with its history holds, and no reply is the refusal for lack of space where that is promised.
+-- A heap of a configuration with the numbers of these settings was just made. All that is promised of a heap with its history
+-- holds, whatever comes. No reply is the refusal for lack of space if that is promised.
 pub record IsPromised (s : Settings) (h : HeapState) : Type 0 where
   pub config : Config
   pub of : IsOf s config

@@ -23,8 +23,8 @@ abbrev pub reply_status : Reply → Status
 reply_status (replies.Refused refusal) = Refused refusal
 reply_status _ = Done
 
--- The status of a slot of a mutator: that of the reply to the command which clears it, but where there is no such mutator
--- the status says so.
+-- The status of a slot of a mutator: that of the reply to the command which clears it. If there is no such mutator, the status
+-- says so.
 abbrev pub slot_status : HeapState → Graph → ℕ → ℕ → Status
 slot_status h g m slot =
     if nat_lt m g.limits.mutators then reply_status (reply_to h g m (commands.Clear slot)) else NoMutator

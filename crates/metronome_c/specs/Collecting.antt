@@ -1,4 +1,4 @@
--- What the collector does to what C holds, and what C is told.
+-- The collector of the heap that C holds, and its outcomes as C sees them.
 use Rattle.std.specs.Prelude.{◌≡◌, ℕ, Option, Some, None, Result, Ok, Err}
 use Rattle.heap_model.specs.declared.phase.Phase.{Phase}
 use Rattle.heap_model.specs.declared.phase.Phase.TheVariants as phases
@@ -17,7 +17,7 @@ use Rattle.metronome_c.specs.declared.status.Status.{Status}
 use Rattle.metronome_c.specs.declared.status.Status.TheVariants.{Done, Busy, BudgetOutOfRange}
 use Rattle.metronome_c.specs.Status.{status_number}
 
--- the number of a phase
+-- each phase has a number
 abbrev pub phase_number : Phase → ℕ
 phase_number phases.Idle = 0
 phase_number (phases.Roots next) = 1
@@ -25,12 +25,12 @@ phase_number (phases.Marking part cell) = 2
 phase_number (phases.Sweeping page block) = 3
 phase_number (phases.Moving place) = 4
 
--- a pacer, where there is one, has counted an event
+-- a pacer, if there is one, has counted an event
 abbrev pub counted_by : Event → Option PacerView → Option PacerView
 counted_by e (Some p) = Some (record p { counts = counted p.counts e })
 counted_by e None = None
 
--- what C holds after an event that left its heap so: it counts for the cycles, and a pacer counts it, where there is one
+-- what C holds after an event that left its heap so: it counts for the cycles, and a pacer counts it, if there is one
 abbrev pub held_after : Held → Event → HeapState → Held
 held_after old e after = record old {
   heap = after;
@@ -60,7 +60,7 @@ abbrev pub quantum_status : Result Spent Refused → ℕ
 quantum_status (Ok spent) = status_number Done
 quantum_status (Err refused) = status_number BudgetOutOfRange
 
--- what C is told of a quantum; of one that is refused, what stood there before
+-- the record for a quantum after it; if the quantum is refused, it is as before
 abbrev pub spent_of : QuantumSpent → Result Spent Refused → QuantumSpent
 spent_of before (Ok spent) = record { units = spent.units; phase = phase_number spent.phase }
 spent_of before (Err refused) = before

@@ -1,4 +1,4 @@
--- What the calls of a program cost on a handle whose heap keeps a plan.
+-- The cost of calls of a program on a handle whose heap keeps a plan.
 use Rattle.std.specs.Prelude.{◌≡◌, ◌⊎◌, ℕ, ◌≤◌, List, [], ◌∷◌, ◌++◌, length, Ok, Err}
 use Rattle.std.specs.List.{AllByRecursion}
 use Rattle.graph_heap.specs.declared.command.Command.{Command}
@@ -21,14 +21,14 @@ abbrev pub paid_first : List Event → List Event → List Deed
 paid_first work [] = without_work work
 paid_first work (e ∷ es) = record { work = work; event = e } ∷ without_work es
 
--- A call was these deeds: one, of which it told the outcome, with the collector's own work before it; or none, if it asked for an
--- object above the plan.
+-- A call was these deeds. It was one, of which it told the outcome, with the collector's own work before it. It was none if it
+-- asked for an object above the plan.
 abbrev pub WasDeed : List Deed → Call → Type 0
 WasDeed ds call = ((ds ≡ []) × IsRefusedAbove call)
     ⊎ ((d : Deed) × (ds ≡ d ∷ []) × AreWork d.work × TellsEvent d.event call)
 
--- A list of commands of mutator m was these deeds: its commands, as far as it told, the first with the collector's own work before it;
--- or none, if its object was above the plan.
+-- A list of commands of mutator m was these deeds: its commands, as far as it told. The first has the collector's own work
+-- before it. It was none if its object was above the plan.
 abbrev pub WasDeedList : List Deed → ℕ → List Command → MetronomeProgress → Type 0
 WasDeedList ds m cs told = ((ds ≡ []) × (told ≡ progress_told (Err AbovePlan)))
     ⊎ ((work : List Event) × (rs : List Reply) × (p : Progress)
@@ -55,8 +55,8 @@ WorksForWords d = words_in d.event ≡ 0 → d.work ≡ []
 abbrev pub IsCheap : MetronomeFlow → Deed → Type 0
 IsCheap flow d = words_in d.event ≤ flow.quantum_words → quanta_in d.work ≤ 1
 
--- What was live keeps to the plan whenever a cycle began, before or in the stretch. Then the collector's work keeps to the words of the
--- stretch, if the plan leaves room for the largest object. Each object costs few quanta, whether it does or not.
+-- Live objects keep to the plan whenever a cycle began, before or in the stretch. Then the collector's work keeps to the words
+-- of the stretch, if the plan leaves room for the largest object. Each object costs few quanta, whether it does or not.
 pub record CostsFew (h : Held) (flow : MetronomeFlow) (earlier : List Event) (ds : List Deed) : Type 0 where
   pub keeps : (largest : ℕ) → LastsWith h.config (plan_in flow) flow.live_words largest
       → AllByRecursion (AsksWithin largest) ds
@@ -95,8 +95,8 @@ last_left left [] = left
 last_left left (Prepare_called n before after status ∷ calls) = last_left after calls
 last_left left (call ∷ calls) = last_left left calls
 
--- The calls before were events, and those that prepare were the collector's own work. None is left at last, if the plan leaves room for
--- the words, and what was live keeps to the plan whenever a cycle began.
+-- The calls before were events, and those that prepare were the collector's own work. None is left at last, if the plan leaves
+-- room for the words, and live objects keep to the plan whenever a cycle began.
 pub record EndsSoon (h : Held) (flow : MetronomeFlow) (before : List KeptCall) (words left : ℕ) (row : List KeptCall)
     : Type 0 where
   pub earlier : List Event

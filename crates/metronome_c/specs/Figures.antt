@@ -1,4 +1,4 @@
--- What C is told of a heap as a whole.
+-- Figures of a heap as a whole, as C sees them.
 use Rattle.std.specs.Prelude.{◌≡◌, ℕ, if◌then◌else◌, length, Option, Some, None, Result, Ok, Err}
 use Rattle.graph_heap.specs.Graph.{Graph}
 use Rattle.size_classes.specs.Sizes.{size_of}
@@ -26,7 +26,7 @@ abbrev pub IsTold : {A : Type 0} → Result A Status → A → A → ℕ → Typ
 IsTold (Err why) before after status = (after ≡ before) × (status ≡ status_number why)
 IsTold (Ok a) before after status = (after ≡ a) × (status ≡ status_number Done)
 
--- C is told something of a heap, which stays as it is. Of a handle that holds none it is only told why.
+-- C is told something of a heap, which stays as it is. If the handle holds none, C is only told why.
 abbrev pub Tells : {A : Type 0} → (HeapState → A) → Result Held Status → Result Held Status → A → A → ℕ
     → Type 0
 Tells tell (Err why) new before after status = (new ≡ Err why) × (after ≡ before) × (status ≡ status_number why)
@@ -58,8 +58,8 @@ counts_of h = record {
   old_copies = (copies_in h.store).old;
 }
 
--- A page in use: how many words each of its blocks has, how many of these are held, and its marks, as 1 or 0. Of a free
--- page each number is 0.
+-- A page in use: the words of each of its blocks, how many of these are held, and its marks, as 1 or 0. If the page is free,
+-- each number is 0.
 abbrev pub page_told : Option PageView → MetronomePage
 page_told None = record { size = 0; held = 0; leaving = 0; receiving = 0 }
 page_told (Some v) = record {
@@ -69,12 +69,12 @@ page_told (Some v) = record {
   receiving = if v.is_target then 1 else 0;
 }
 
--- the page of this number, where there is one: else it is given as a free one
+-- the page of this number, or a free one if there is none
 abbrev pub page_of : ℕ → HeapState → MetronomePage
 page_of number h = page_told (view_of (page_at h.store.pages number))
 
--- A block that holds a part: that part's number, the identity and the shape of its object, and whether it was moved to another
--- block, as 1 or 0. Of one that holds none each number is 0.
+-- A block that holds a part: that part's number, and the identity and the shape of its object. As 1 or 0 it says whether the
+-- part was moved to another block. If it holds none, each number is 0.
 abbrev pub block_told : Option BlockView → MetronomeBlock
 block_told None = record { identity = 0; shape = sized 0 0 0; part = 0; held = 0; old = 0 }
 block_told (Some v) = record {
@@ -85,6 +85,6 @@ block_told (Some v) = record {
   old = if v.is_old then 1 else 0;
 }
 
--- the block of a number on the page of a number, where there is one: else it is given as one that holds nothing
+-- the block of a number on the page of a number, or one that holds nothing if there is none
 abbrev pub block_of : ℕ → ℕ → HeapState → MetronomeBlock
 block_of page number h = block_told (block_view h.store page number)

@@ -1,5 +1,4 @@
--- What the box of a handle holds, and what is done with it: a `Held` is a heap, the configuration that it was made of, its
--- pacer, where a plan is kept, and its cycles.
+-- The box of a handle: a `Held` is a heap, the configuration that it was made of, its pacer if a plan is kept, and its cycles.
 use Rattle.std.specs.Prelude.{◌≡◌, ℕ, ◌<◌, ◌≤◌, Bool, true, false, Option, Some, None, is_some, Result, Ok, Err}
 use Rattle.heap_model.specs.State.{HeapState}
 use Rattle.paced.specs.Pacing.{PacerView, paced_by, Pays}
@@ -11,7 +10,7 @@ use Rattle.metronome_c.specs.declared.status.Status.TheVariants.{AbovePlan}
 abbrev pub OnHeap : {A : Type 0} → (HeapState → A → HeapState → Type 0) → Held → A → Held → Type 0
 OnHeap call h a k = (k ≡ record h { heap = k.heap }) × call h.heap a k.heap
 
--- words are paid for by a pacer, where there is one: the collector works as much as its plan wants
+-- words are paid for by a pacer, if there is one: the collector works as much as its plan requires
 abbrev pub PaysBy : Option PacerView → Held → ℕ → Held → Type 0
 PaysBy None old words new = new ≡ old
 PaysBy (Some p) old words new = (q : PacerView)
@@ -33,7 +32,7 @@ abbrev pub is_kept : Result Held Status → Bool
 is_kept (Ok h) = is_some h.pacer
 is_kept (Err why) = false
 
--- something is done by the heap once words were paid for; where they can't be, that is told, and nothing is done
+-- something is done by the heap once words were paid for; if they can't be, that is told, and nothing is done
 abbrev pub AfterPaying : {A : Type 0} → ℕ → (HeapState → A → HeapState → Type 0) → Held → Result A Status → Held
     → Type 0
 AfterPaying words call old (Err why) new = (why ≡ AbovePlan) × PaysHeld old words false new

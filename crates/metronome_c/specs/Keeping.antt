@@ -29,7 +29,7 @@ pub record CanKeep (h : Held) (flow : MetronomeFlow) : Type 0 where
 abbrev pub kept : Held → MetronomeFlow → Held
 kept h flow = record h { pacer = Some (first_pacer flow.budget (plan_in flow)) }
 
--- A flow is kept exactly where it can be; else nothing is done.
+-- A flow is kept exactly if it can be; else nothing is done.
 abbrev pub KeepsHeld : Held → MetronomeFlow → Bool → Held → Type 0
 KeepsHeld old flow true new = CanKeep old flow × (new ≡ kept old flow)
 KeepsHeld old flow false new = (CanKeep old flow → ⊥) × (new ≡ old)
@@ -48,12 +48,12 @@ Keeps (Ok h) flow new status = (k : Held) × (is : Bool) × (new ≡ Ok k) × Ke
 abbrev pub work_told : Figures → MetronomeWork
 work_told f = record { quanta = f.quanta; cycles = f.cycles; most_quanta = f.most_quanta }
 
--- the figures of what keeps a plan; there are none where none is kept
+-- the figures of the pacer of a plan; there are none if none is kept
 abbrev pub work_by : Option PacerView → Result MetronomeWork Status
 work_by (Some p) = Ok (work_told p.figures)
 work_by None = Err NoPlan
 
--- what the collector of the heap that C holds did for its plan
+-- the work of the collector of the heap that C holds for its plan
 abbrev pub work_in : Result Held Status → Result MetronomeWork Status
 work_in (Ok h) = work_by h.pacer
 work_in (Err why) = Err why

@@ -22,8 +22,8 @@ use Rattle.metronome_c.specs.Calls.{Call, Command_called, DoesCall, TellsEvent}
 use Rattle.metronome_c.specs.Planning.{flow_of}
 use Rattle.metronome_c.specs.Preparing.{PreparesOpen}
 
--- A call that may change the heap: one as without a plan; or one that does a list of commands of a mutator, with how far it
--- was done; or one that prepares for a number of words, with the number of calls left that the program had before and after, and
+-- A call that may change the heap. It is one as without a plan, or one that does a list of commands of a mutator, with how far
+-- it was done. Or it prepares for a number of words, with the number of calls left that the program had before and after, and
 -- the status.
 pub data KeptCall : Type 0 where
   Called : Call → KeptCall
@@ -68,14 +68,14 @@ abbrev pub IsRefusedAbove : Call → Type 0
 IsRefusedAbove call = (m : ℕ) × (dst : ℕ) × (shape : Shape)
     × (call ≡ Command_called m (commands.New dst shape) (refused AbovePlan))
 
--- A call was these events: one, of which it told the outcome, with the collector's own work before it; or none, where it
+-- A call was these events. It was one, of which it told the outcome, with the collector's own work before it. It was none if it
 -- asked for an object above the plan.
 abbrev pub WasOne : List Event → Call → Type 0
 WasOne es call = ((es ≡ []) × IsRefusedAbove call)
     ⊎ ((work : List Event) × (e : Event) × (es ≡ work ++ e ∷ []) × AreWork work × TellsEvent e call)
 
--- A list of commands of mutator m was these events: its commands, as far as it told, with the collector's own work before
--- them; or none, where its object was above the plan.
+-- A list of commands of mutator m was these events: its commands, as far as it told, with the collector's own work before them.
+-- It was none if its object was above the plan.
 abbrev pub WasList : List Event → ℕ → List Command → MetronomeProgress → Type 0
 WasList es m cs told = ((es ≡ []) × (told ≡ progress_told (Err AbovePlan)))
     ⊎ ((work : List Event) × (rs : List Reply) × (p : Progress) × (es ≡ work ++ events_of m cs (with_refusal rs p.refused))
@@ -97,9 +97,9 @@ WereEvents es [] = es ≡ []
 WereEvents es (call ∷ calls) = (first : List Event) × (rest : List Event) × (es ≡ first ++ rest) × WasEvents first call
     × WereEvents rest calls
 
--- The calls were events, which lead from the heap that keeps a plan to the one that the handle holds, and to the cycles that it
--- has: if what is live is within the plan wherever one of them begins a cycle, no reply is the refusal for lack of space. And
--- all that is promised of a heap with its history holds there.
+-- The calls were events, which lead from the heap that keeps a plan to the one that the handle holds, and to its cycles. If
+-- live objects are within the plan whenever one of them begins a cycle, no reply is the refusal for lack of space. All that is
+-- promised of a heap with its history holds there.
 pub record KeepsRoom (h : Held) (flow : MetronomeFlow) (calls : List KeptCall) (new : Result Held Status) : Type 0 where
   pub events : List Event
   pub left : Held

@@ -1,4 +1,4 @@
--- What a handle holds is lent out of it.
+-- A handle lends its content.
 use Rattle.std.specs.Prelude.{Some}
 use Rattle.std.specs.Borrow.{Fml, Lends, MutBor}
 use Rattle.metronome_c.specs.contracts.held.Held as held

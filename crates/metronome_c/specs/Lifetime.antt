@@ -23,12 +23,12 @@ abbrev pub IsMade : {S : Type 0} → (S → Type 0) → Result S Status → ℕ 
 IsMade Such (Ok made) status = (status ≡ status_number Done) × Such made
 IsMade Such (Err why) status = (why ≡ Closed) × (status ≡ status_number NoMemory)
 
--- it is made where the settings have no fault
+-- it is made if the settings have no fault
 abbrev pub MakesUnless : {S : Type 0} → Option ConfigFault → (S → Type 0) → Result S Status → ℕ → Type 0
 MakesUnless (Some fault) Such new status = (new ≡ Err Closed) × (status ≡ status_number (fault_status fault))
 MakesUnless None Such new status = IsMade Such new status
 
--- What is so of these settings is made where the settings have no fault and the handle is closed; another handle stays
+-- Something that is so of these settings is made, if the settings have no fault and the handle is closed. Another handle stays
 -- as it is.
 abbrev pub Creates : {S : Type 0} → (Settings → S → Type 0) → Result S Status → Settings → Result S Status → ℕ → Type 0
 Creates IsSo (Ok held) s new status = (new ≡ Ok held) × (status ≡ status_number Open)

@@ -1,4 +1,4 @@
--- What a cycle takes at most.
+-- The most that a cycle takes.
 use Rattle.std.specs.Prelude.{◌≡◌, ℕ, ◌*◌, Option, Some, None}
 use Rattle.size_classes.specs.declared.settings.Settings.{Settings}
 use Rattle.size_classes.specs.declared.config.Config.{Config}
@@ -18,7 +18,7 @@ quanta_of c = quanta_for (cycle_limit_of c) (c.collector_ticks * c.rate)
 abbrev pub limit_of : Config → CycleLimit
 limit_of c = record { units = cycle_limit_of c; quanta = quanta_of c }
 
--- C is told them where the settings have no fault
+-- C is told them if the settings have no fault
 abbrev pub LimitsUnless : Option ConfigFault → Settings → CycleLimit → CycleLimit → ℕ → Type 0
 LimitsUnless (Some fault) s before after status = (after ≡ before) × (status ≡ status_number (fault_status fault))
 LimitsUnless None s before after status =

@@ -1,4 +1,4 @@
--- What a handle holds.
+-- The content of a handle, if it has any.
 use Rattle.std.specs.Prelude.{ℕ, ◌==◌, Bool, true, false, Option, Some, None, Result, Ok, Err}
 use Rattle.heap_shared.specs.Members.{MemberView}
 use Rattle.metronome_c.specs.declared.held.Held.{Held}
@@ -7,17 +7,17 @@ use Rattle.metronome_c.specs.declared.seats.seat.MetronomeSeat.{MetronomeSeat}
 use Rattle.metronome_c.specs.declared.status.Status.{Status}
 use Rattle.metronome_c.specs.declared.status.Status.TheVariants.{Closed, BadHandle}
 
--- why a handle holds nothing: it is closed, where its check word is 0, or it is none
+-- why a handle holds nothing: it is closed, if its check word is 0, or it is none
 abbrev pub absence : Bool → Status
 absence true = Closed
 absence false = BadHandle
 
--- what a handle holds, where there is something; else the check word tells why there is nothing
+-- what a handle holds, if there is something; else the check word tells why there is nothing
 abbrev pub held_by : {S : Type 0} → ℕ → Option S → Result S Status
 held_by check (Some s) = Ok s
 held_by check None = Err (absence (check == 0))
 
--- what a handle holds: a heap, with its pacer where a plan is kept, or the status that says why it holds none
+-- what a handle holds: a heap, with its pacer if a plan is kept, or the status that says why it holds none
 abbrev pub held_in : Metronome → Result Held Status
 held_in m = held_by m.check m.handle.value
 

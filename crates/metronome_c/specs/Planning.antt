@@ -46,7 +46,7 @@ abbrev pub pages_told : Option ℕ → ℕ
 pages_told (Some pages) = pages
 pages_told None = 0
 
--- what C is told of a plan of a configuration, or of there being none
+-- what the struct for C has of a plan of a configuration, or of none
 abbrev pub flow_told : Config → ℕ → Option ℕ → Option Plan → MetronomeFlow
 flow_told c live least plan = record {
   live_words = live;
@@ -56,8 +56,8 @@ flow_told c live least plan = record {
   budget = c.collector_ticks * c.rate;
 }
 
--- the plan of the most words for each quantum that fits in a heap of a configuration, if the heap moves all, and leaves room for an
--- object of `largest` words
+-- The plan of the most words for each quantum that fits in a heap of a configuration, if the heap moves all. It leaves room for
+-- an object of `largest` words.
 abbrev pub IsPlanned : Config → ℕ → ℕ → Option Plan → Type 0
 IsPlanned c live largest None = MovesAll c → IsFastest c live largest None
 IsPlanned c live largest (Some plan) = MovesAll c × IsFastest c live largest (Some plan)

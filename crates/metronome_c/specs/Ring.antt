@@ -72,7 +72,7 @@ entry_of Begin_refused = collected 16 [] (Err Busy)
 entry_of (Quantum_done budget units phase) = collected 17 (budget ∷ units ∷ phase_number phase ∷ []) (Ok Done)
 entry_of (Quantum_refused budget) = collected 17 (budget ∷ []) (Err BudgetOutOfRange)
 
--- no event: all numbers are 0, but for the kind
+-- no event: all numbers are 0, except the kind
 abbrev none_there : ℕ → MetronomeEntry
 none_there k = record {
   kind = k;

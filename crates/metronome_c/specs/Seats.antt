@@ -1,4 +1,4 @@
--- What is asked of the seat that C holds, and what C is told.
+-- Calls of the seat that C holds, and their outcomes as C sees them.
 use Rattle.std.specs.Prelude.{◌≡◌, ◌⊎◌, ℕ, ◌*◌, Bool, true, false, [], Option, Some, None, Result, Ok, Err}
 use Rattle.graph_heap.specs.declared.command.Command.{Command}
 use Rattle.graph_heap.specs.declared.command.Reply.{Reply}
@@ -31,8 +31,8 @@ use Rattle.metronome_c.specs.Lifetime.{Creates}
 use Rattle.metronome_c.specs.Planning.{plan_in, flow_of, SuitsSettings}
 use Rattle.metronome_c.specs.Status.{status_number, not_done_status, no_member_status}
 
--- A call of the seat that a handle holds, and what is told of its answer: a value, or a status. Where the handle holds
--- no seat it is told why.
+-- A call of the seat that a handle holds, and its answer as C sees it: a value, or a status. If the handle holds no seat, the
+-- status says why.
 abbrev pub AsksSeat : {A B : Type 0} → (MemberView → A → MemberView → Type 0) → (A → Result B Status)
     → Result MemberView Status → Result MemberView Status → (Result B Status → Type 0) → Type 0
 AsksSeat call told (Err why) new Says = (new ≡ Err why) × Says (Err why)
@@ -81,8 +81,8 @@ abbrev pub TellsInTurn : {A : Type 0} → (HeapState → A) → Result MemberVie
 TellsInTurn figure old new before after status =
     AsksSeat (Finds (λ h a. a ≡ figure h)) (told_or Outside) old new (λ found. IsTold found before after status)
 
--- A command of one of the seat's mutators is one event of the heap with its history, in the turn of the seat; else it
--- is told why nothing is done.
+-- A command of one of the seat's mutators is one event of the heap with its history, in the turn of the seat. Else C is told
+-- why nothing is done.
 abbrev pub DoesSeat : Result MemberView Status → ℕ → Command → Result MemberView Status
     → (Result Reply Status → Type 0) → Type 0
 DoesSeat old m c new Says = AsksSeat (λ s reply k. Calls s m c reply k) (told_by not_done_status) old new Says
@@ -97,9 +97,8 @@ abbrev pub ShapesSeat : Result MemberView Status → ℕ → Command → Result 
 ShapesSeat old m c new before told =
     DoesSeat old m c new (λ outcome. (told.0 ≡ answered outcome) × (told.1 ≡ shape_told before outcome))
 
--- A seat at a new heap of these settings, which keeps this many of its last entries, and a plan or none. The seat calls for all
--- mutators and has all numbers. It has seen an empty log, which is all that was done, as no one else has a number. It doesn't have
--- the turn.
+-- A seat at a new heap of these settings, which keeps its last `ring` entries. It calls for all mutators, and has all numbers.
+-- It has seen an empty log, which is all that was done, as no one else has a number. It doesn't have the turn.
 pub record IsNewSeat (ring : ℕ) (plan : Option Plan) (s : Settings) (m : MemberView) : Type 0 where
   pub config : Config
   pub of : IsOf s config

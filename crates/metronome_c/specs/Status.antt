@@ -50,7 +50,7 @@ status_number statuses.OtherMutator = 50
 abbrev pub all_statuses : List Status
 all_statuses = (BEFORE_SETTINGS ++ map statuses.SettingOutOfRange ALL) ++ BEHIND_SETTINGS
 
--- the first of them with a number
+-- the status that is the first of them with a number
 abbrev pub status_numbered : ℕ → Option Status
 status_numbered number = find (λ s. status_number s == number) all_statuses
 

@@ -1,4 +1,4 @@
--- What a command does to what C holds.
+-- Commands on the heap that C holds.
 use Rattle.std.specs.Prelude.{◌≡◌, ℕ, Result, Ok, Err}
 use Rattle.graph_heap.specs.Graph.{Graph}
 use Rattle.graph_heap.specs.declared.command.Command.{Command}
@@ -23,8 +23,8 @@ use Rattle.metronome_c.specs.Asking.{AsksTold, AsksPaying}
 abbrev pub Steps : Result Held Status → ℕ → Command → Result Held Status → Answer → Type 0
 Steps old m c new a = AsksTold (λ h r k. calls.Steps h m c r k) old new a
 
--- A command that makes an object is such a step once its words were paid for, where a plan is kept. Where they are more than
--- the plan has for a whole cycle the answer says so, and nothing is done.
+-- A command that makes an object is such a step once its words were paid for, if a plan is kept. If they are more than the plan
+-- has for a whole cycle, the answer says so, and nothing is done.
 abbrev pub Makes : Result Held Status → ℕ → Command → Result Held Status → Answer → Type 0
 Makes old m c new a = (reply : Result Reply Status)
     × AsksPaying (words_of (asks c)) (λ h r k. calls.Steps h m c r k) old reply new × (a ≡ answered reply)
@@ -38,7 +38,7 @@ DoesCommand old m c new a = Steps old m c new a
 abbrev pub reply_to : HeapState → Graph → ℕ → Command → Reply
 reply_to h g m c = reply_of (room_for h c) g m c
 
--- The shape that Describe tells, or the one from before where it is refused.
+-- The shape that Describe tells, or the one from before if it is refused.
 abbrev pub TellsShape : Result Held Status → ℕ → Command → MetronomeShape → MetronomeShape → Type 0
 TellsShape (Err why) m c before after = after ≡ before
 TellsShape (Ok h) m c before after = (g : Graph) → Agrees h.heap g → after ≡ shape_in before (reply_to h.heap g m c)

@@ -5,7 +5,7 @@ ghost use Rattle.metronome_c.specs.Answer.{answer_of, answered, refused, shape_o
 use crate::status::Status;
 use graph_heap::{Reply, Shape};
 
-/// A reply: what kind it is, and its number.
+/// A reply: its kind and its number.
 #[repr(C)]
 #[derive(Clone, Copy, Debug, PartialEq, Eq)]
 pub struct Answer {
@@ -13,7 +13,7 @@ pub struct Answer {
     pub number: u64,
 }
 
-/// The shape of an object: what kind it is, and how many cells of each kind it has.
+/// The shape of an object: its kind, and the numbers of its cells of each kind.
 #[repr(C)]
 #[derive(Clone, Copy, Debug, PartialEq, Eq)]
 pub struct MetronomeShape {
@@ -23,7 +23,7 @@ pub struct MetronomeShape {
 }
 
 impl Answer {
-    /// The answer that tells a reply.
+    /// Returns the answer that tells a reply.
     #[inline(always)]
     fn from_reply(reply: Reply) -> Answer
         ensures { result ≡ answer_of reply }
@@ -43,7 +43,7 @@ impl Answer {
         Answer { kind, number }
     }
 
-    /// The answer that tells a reply, or why the handle holds no heap.
+    /// Returns the answer that tells a reply, or why the handle holds no heap.
     #[inline(always)]
     pub(crate) fn from_outcome(reply: Result<Reply, Status>) -> Answer
         ensures { result ≡ answered reply }
@@ -54,7 +54,7 @@ impl Answer {
         }
     }
 
-    /// The answer of a handle that holds no heap.
+    /// Returns the answer of a handle that holds no heap.
     #[cold]
     #[inline(never)]
     fn refused(why: Status) -> Answer
@@ -68,7 +68,7 @@ impl Answer {
 }
 
 impl MetronomeShape {
-    /// The shape, as C sees it.
+    /// Returns the shape, as C sees it.
     pub(crate) fn from_shape(shape: Shape) -> MetronomeShape
         ensures { result ≡ shape_of shape }
     {
@@ -80,7 +80,7 @@ impl MetronomeShape {
         MetronomeShape { kind, refs, words }
     }
 
-    /// The shape that a reply tells, or this one where there is none, or none that tells one.
+    /// Returns the shape that a reply tells, or this one if there is no reply, or it tells none.
     pub(crate) fn told_by(self, reply: Result<Reply, Status>) -> MetronomeShape
         ensures { result ≡ shape_told self reply }
     {

@@ -8,8 +8,8 @@ use crate::figures::tell;
 use crate::metronome::Metronome;
 use machine::Heap;
 
-/// A block: the part of an object that it holds, the object's identity and shape, and as 1 or 0 whether it holds one, and
-/// whether that was moved to another block. Of one that holds none each number is 0.
+/// A block: the part of an object that it holds, and the object's identity and shape. As 1 or 0 it also says whether it holds a
+/// part, and whether the part was moved to another block. If it holds none, each number is 0.
 #[repr(C)]
 #[derive(Clone, Copy, Debug, PartialEq, Eq)]
 pub struct MetronomeBlock {
@@ -21,7 +21,7 @@ pub struct MetronomeBlock {
 }
 
 impl MetronomeBlock {
-    /// The block of a number on a page; one that holds nothing, where there is none.
+    /// Returns the block of a number on a page, or one that holds nothing if there is none.
     fn from_heap(heap: &Heap, page: usize, number: usize) -> MetronomeBlock
         ensures { result ≡ block_of page number heap.now }
     {
@@ -48,7 +48,7 @@ impl MetronomeBlock {
     }
 }
 
-/// Tells the block of a number, from 0, on a page of a number, from 0.
+/// Stores the block of a number, from 0, on a page of a number, from 0.
 #[unsafe(no_mangle)]
 pub extern "C" fn metronome_block(
     heap: &mut Metronome,

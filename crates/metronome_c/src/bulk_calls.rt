@@ -12,8 +12,8 @@ use crate::status::Status;
 use bulk::Progress;
 use graph_heap::{PLAIN_CELLS, Refusal, Shape};
 
-/// How far a list of commands was done: how many were, and the status of the next one, which was refused. Where all were
-/// done that is the status of success.
+/// How far a list of commands was done: the number of commands that were done, and the status of the next one, which was
+/// refused. If all were done, it is the status of success.
 #[repr(C)]
 #[derive(Clone, Copy, Debug, PartialEq, Eq)]
 pub struct MetronomeProgress {
@@ -22,7 +22,7 @@ pub struct MetronomeProgress {
 }
 
 impl MetronomeProgress {
-    /// What C is told of how far a list was done, or of why none of it was.
+    /// Returns how far a list was done, or why none of it was, as C sees it.
     #[inline(always)]
     pub(crate) fn from_outcome(progress: Result<Progress, Status>) -> MetronomeProgress
         ensures { result ≡ progress_told progress }
@@ -40,7 +40,7 @@ impl MetronomeProgress {
         }
     }
 
-    /// What C is told where more than 252 cells are named.
+    /// Returns the answer to a call that names more than 252 cells.
     #[cold]
     fn too_many() -> MetronomeProgress
         ensures { result ≡ too_many }
@@ -49,7 +49,7 @@ impl MetronomeProgress {
     }
 }
 
-/// Null into each of `count` slots, from the first on.
+/// Sets each of `count` slots to null, from the first on.
 #[unsafe(no_mangle)]
 pub extern "C" fn metronome_clear_slots(
     heap: &mut Metronome,
@@ -64,7 +64,7 @@ pub extern "C" fn metronome_clear_slots(
     )))
 }
 
-/// What slot src holds into slot dst, and then null into src, unless it is dst.
+/// Copies slot src to slot dst, and then sets src to null, unless it is dst.
 #[unsafe(no_mangle)]
 pub extern "C" fn metronome_move(
     heap: &mut Metronome,
@@ -77,7 +77,7 @@ pub extern "C" fn metronome_move(
     MetronomeProgress::from_outcome(heap.ask(|inner| bulk::move_slot(inner, mutator, dst, src)))
 }
 
-/// Writes at most 252 words into as many word cells of an object, from the first on. Of more none is written.
+/// Writes at most 252 words into as many word cells of an object, from the first on. If there are more, none is written.
 #[unsafe(no_mangle)]
 pub extern "C" fn metronome_put_words_from(
     heap: &mut Metronome,
@@ -98,8 +98,8 @@ pub extern "C" fn metronome_put_words_from(
     )))
 }
 
-/// Reads as many word cells of an object as there is room for, at most 252, from the first on. Where there is room for more
-/// none is read.
+/// Reads as many word cells of an object as there is room for, at most 252, from the first on. If there is room for more, none
+/// is read.
 #[unsafe(no_mangle)]
 pub extern "C" fn metronome_get_words_into(
     heap: &mut Metronome,
@@ -120,8 +120,8 @@ pub extern "C" fn metronome_get_words_into(
     MetronomeProgress::from_outcome(heap.read_words(mutator, obj, first, words))
 }
 
-/// What reference cells of an object hold, at most 252, from the first on, into as many of another one, or of the same: each
-/// is loaded into slot `through`, and stored from there. Of more none is copied.
+/// Copies at most 252 reference cells of an object, from the first on, to as many of another one or of the same. Each is loaded
+/// into slot `through`, and stored from there. If there are more, none is copied.
 #[unsafe(no_mangle)]
 pub extern "C" fn metronome_copy_refs(
     heap: &mut Metronome,
@@ -147,8 +147,8 @@ pub extern "C" fn metronome_copy_refs(
     }))
 }
 
-/// A new object of reference cells and word cells, into slot dst; then what slots hold into its first reference cells, and
-/// words into its first word cells, at most 252 together. Of more nothing is done.
+/// Makes an object of reference cells and word cells in slot dst. Then it stores what slots hold in its first reference cells,
+/// and words in its first word cells, at most 252 together. If there are more, nothing is done.
 #[unsafe(no_mangle)]
 pub extern "C" fn metronome_new_from(
     heap: &mut Metronome,

@@ -6,7 +6,7 @@ use crate::metronome::Metronome;
 use crate::phase::phase_number;
 use crate::status::Status;
 
-/// What a quantum did: the units that it spent, and the phase in which it ended.
+/// The outcome of a quantum: the units that it spent, and the phase in which it ended.
 #[repr(C)]
 #[derive(Clone, Copy, Debug, PartialEq, Eq)]
 pub struct QuantumSpent {

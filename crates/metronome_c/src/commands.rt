@@ -8,7 +8,7 @@ use crate::answer::{Answer, MetronomeShape};
 use crate::metronome::Metronome;
 use graph_heap::Shape;
 
-/// A new object of reference cells and word cells, into slot dst.
+/// Makes an object of reference cells and word cells in slot dst.
 #[unsafe(no_mangle)]
 pub extern "C" fn metronome_new_plain(
     heap: &mut Metronome,
@@ -22,7 +22,7 @@ pub extern "C" fn metronome_new_plain(
     heap.make(mutator, dst, Shape::Plain { refs, words })
 }
 
-/// A new array of reference cells, into slot dst.
+/// Makes an array of reference cells in slot dst.
 #[unsafe(no_mangle)]
 pub extern "C" fn metronome_new_refs(
     heap: &mut Metronome,
@@ -35,7 +35,7 @@ pub extern "C" fn metronome_new_refs(
     heap.make(mutator, dst, Shape::RefArray(refs))
 }
 
-/// A new array of word cells, into slot dst.
+/// Makes an array of word cells in slot dst.
 #[unsafe(no_mangle)]
 pub extern "C" fn metronome_new_words(
     heap: &mut Metronome,
@@ -48,7 +48,7 @@ pub extern "C" fn metronome_new_words(
     heap.make(mutator, dst, Shape::WordArray(words))
 }
 
-/// What a reference cell holds into slot dst.
+/// Loads a reference cell into slot dst.
 #[unsafe(no_mangle)]
 pub extern "C" fn metronome_load(
     heap: &mut Metronome,
@@ -62,7 +62,7 @@ pub extern "C" fn metronome_load(
     heap.answer(|inner| inner.load(mutator, dst, obj, i))
 }
 
-/// What slot src holds into a reference cell.
+/// Stores slot src in a reference cell.
 #[unsafe(no_mangle)]
 pub extern "C" fn metronome_store(
     heap: &mut Metronome,
@@ -76,7 +76,7 @@ pub extern "C" fn metronome_store(
     heap.answer(|inner| inner.store(mutator, obj, i, src))
 }
 
-/// What slot new holds into a reference cell, if that holds what slot expect does.
+/// Stores slot new in a reference cell, if the cell holds the object of slot expect.
 #[unsafe(no_mangle)]
 pub extern "C" fn metronome_compare_store(
     heap: &mut Metronome,
@@ -128,7 +128,7 @@ pub extern "C" fn metronome_compare_put(
     heap.answer(|inner| inner.compare_put(mutator, obj, i, old, new))
 }
 
-/// What slot src holds into slot dst.
+/// Copies slot src to slot dst.
 #[unsafe(no_mangle)]
 pub extern "C" fn metronome_copy(heap: &mut Metronome, mutator: u32, dst: u32, src: u32) -> Answer
     ensures { Steps (held_in heap.old) mutator (commands.Copy dst src) (held_in heap.new) result }
@@ -136,7 +136,7 @@ pub extern "C" fn metronome_copy(heap: &mut Metronome, mutator: u32, dst: u32, s
     heap.answer(|inner| inner.copy(mutator, dst, src))
 }
 
-/// Null into slot dst.
+/// Sets slot dst to null.
 #[unsafe(no_mangle)]
 pub extern "C" fn metronome_clear(heap: &mut Metronome, mutator: u32, dst: u32) -> Answer
     ensures { Steps (held_in heap.old) mutator (commands.Clear dst) (held_in heap.new) result }
@@ -144,7 +144,7 @@ pub extern "C" fn metronome_clear(heap: &mut Metronome, mutator: u32, dst: u32) 
     heap.answer(|inner| inner.clear(mutator, dst))
 }
 
-/// What static k holds into slot dst.
+/// Loads static k into slot dst.
 #[unsafe(no_mangle)]
 pub extern "C" fn metronome_load_static(
     heap: &mut Metronome,
@@ -157,7 +157,7 @@ pub extern "C" fn metronome_load_static(
     heap.answer(|inner| inner.load_static(mutator, dst, k))
 }
 
-/// What slot src holds into static k.
+/// Stores slot src in static k.
 #[unsafe(no_mangle)]
 pub extern "C" fn metronome_store_static(
     heap: &mut Metronome,
@@ -170,7 +170,7 @@ pub extern "C" fn metronome_store_static(
     heap.answer(|inner| inner.store_static(mutator, k, src))
 }
 
-/// What slot new holds into static k, if that holds what slot expect does.
+/// Stores slot new in static k, if the static holds the object of slot expect.
 #[unsafe(no_mangle)]
 pub extern "C" fn metronome_compare_static(
     heap: &mut Metronome,
@@ -184,7 +184,7 @@ pub extern "C" fn metronome_compare_static(
     heap.answer(|inner| inner.compare_static(mutator, k, expect, new))
 }
 
-/// Whether slots a and b hold the same object, or both null.
+/// Returns whether slots a and b hold the same object, or both null.
 #[unsafe(no_mangle)]
 pub extern "C" fn metronome_same(heap: &mut Metronome, mutator: u32, a: u32, b: u32) -> Answer
     ensures { Steps (held_in heap.old) mutator (commands.Same a b) (held_in heap.new) result }
@@ -192,7 +192,7 @@ pub extern "C" fn metronome_same(heap: &mut Metronome, mutator: u32, a: u32, b: 
     heap.answer(|inner| inner.same(mutator, a, b))
 }
 
-/// The identity of slot a's object, and its shape.
+/// Returns the identity of slot a's object, and stores its shape.
 #[unsafe(no_mangle)]
 pub extern "C" fn metronome_describe(
     heap: &mut Metronome,
@@ -206,7 +206,7 @@ pub extern "C" fn metronome_describe(
     heap.told_with_shape(shape, |inner| inner.describe(mutator, a))
 }
 
-/// The mutator becomes live.
+/// Makes the mutator live.
 #[unsafe(no_mangle)]
 pub extern "C" fn metronome_join(heap: &mut Metronome, mutator: u32) -> Answer
     ensures { Steps (held_in heap.old) mutator commands.Join (held_in heap.new) result }
@@ -214,7 +214,7 @@ pub extern "C" fn metronome_join(heap: &mut Metronome, mutator: u32) -> Answer
     heap.answer(|inner| inner.join(mutator))
 }
 
-/// Null into each slot of the mutator, which is live no more.
+/// Sets each slot of the mutator to null. It is then no longer live.
 #[unsafe(no_mangle)]
 pub extern "C" fn metronome_leave(heap: &mut Metronome, mutator: u32) -> Answer
     ensures { Steps (held_in heap.old) mutator commands.Leave (held_in heap.new) result }

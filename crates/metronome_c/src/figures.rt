@@ -1,4 +1,4 @@
-//! What C is told of a heap as a whole.
+//! Figures of a heap as a whole.
 ghost use Rattle.std.specs.Prelude.{◌≡◌, ◌≤◌, IfOk};
 ghost use Rattle.heap_model.specs.Pages as pages;
 ghost use Rattle.metronome_c.specs.Collecting as collecting;
@@ -29,7 +29,7 @@ pub struct Counts {
 }
 
 impl Counts {
-    /// The counts of a heap. It looks at each block.
+    /// Returns the counts of a heap. It looks at each block.
     pub(crate) fn from_heap(heap: &Heap) -> Counts
         ensures { result ≡ counts_of heap.now }
     {
@@ -46,7 +46,7 @@ impl Counts {
     }
 }
 
-/// Tells what was found of a heap, or why there is none.
+/// Stores what was found of a heap, or returns why there is none.
 pub(crate) fn tell<T: Copy>(told: &mut T, found: Result<T, Status>) -> u32
     ensures { IsTold found told.old told.new result }
 {
@@ -59,7 +59,7 @@ pub(crate) fn tell<T: Copy>(told: &mut T, found: Result<T, Status>) -> u32
     }
 }
 
-/// Tells the phase. A heap always represents some graph heap at present, and one when the last cycle began.
+/// Stores the phase. A heap always represents some graph heap at present, and one when the last cycle began.
 #[unsafe(no_mangle)]
 pub extern "C" fn metronome_phase(heap: &mut Metronome, phase: &mut u32) -> u32
     ensures phase { Tells (λ h. collecting.phase_number h.phase) (held_in heap.old)
@@ -70,7 +70,7 @@ pub extern "C" fn metronome_phase(heap: &mut Metronome, phase: &mut u32) -> u32
     tell(phase, heap.ask(|inner| phase_number(inner.phase())))
 }
 
-/// Tells the units that were spent since the last cycle began: no more than a cycle may spend.
+/// Stores the units that were spent since the last cycle began: no more than a cycle may spend.
 #[unsafe(no_mangle)]
 pub extern "C" fn metronome_units(heap: &mut Metronome, units: &mut u64) -> u32
     ensures units { Tells (λ h. h.units) (held_in heap.old) (held_in heap.new) units.old units.new result }
@@ -79,7 +79,7 @@ pub extern "C" fn metronome_units(heap: &mut Metronome, units: &mut u64) -> u32
     tell(units, heap.ask(|inner| inner.units()))
 }
 
-/// Tells how many pages are free.
+/// Stores how many pages are free.
 #[unsafe(no_mangle)]
 pub extern "C" fn metronome_free_pages(heap: &mut Metronome, free_pages: &mut u64) -> u32
     ensures { Tells (λ h. pages.free_pages h.store.pages) (held_in heap.old)
@@ -89,7 +89,7 @@ pub extern "C" fn metronome_free_pages(heap: &mut Metronome, free_pages: &mut u6
     tell(free_pages, heap.ask(|inner| inner.free_pages() as u64))
 }
 
-/// Tells the counts. It looks at each block.
+/// Stores the counts. It looks at each block.
 #[unsafe(no_mangle)]
 pub extern "C" fn metronome_count(heap: &mut Metronome, counts: &mut Counts) -> u32
     ensures { Tells counts_of (held_in heap.old) (held_in heap.new) counts.old counts.new result }
@@ -97,7 +97,7 @@ pub extern "C" fn metronome_count(heap: &mut Metronome, counts: &mut Counts) -> 
     tell(counts, heap.ask(|inner| Counts::from_heap(inner)))
 }
 
-/// Tells the last cycle that ended.
+/// Stores the last cycle that ended.
 #[unsafe(no_mangle)]
 pub extern "C" fn metronome_last_cycle(heap: &mut Metronome, cycle: &mut Cycle) -> u32
     ensures { TellsFound ended_in (held_in heap.old) (held_in heap.new) cycle.old cycle.new result }

@@ -1,4 +1,4 @@
-//! What C holds of a heap.
+//! The handle of a heap, which C holds.
 ghost use Rattle.std.specs.Prelude.{◌≡◌, Option, Some, None, IsSome};
 ghost use Rattle.std.specs.Coded.{coded_option};
 ghost use Rattle.std.specs.Borrow.{sem};
@@ -22,7 +22,7 @@ impl<T, A: Allocator> Model for Loose<T, A> {
 }
 
 impl<T: Drop, A: Allocator> Loose<T, A> {
-    /// The box's pointer.
+    /// Returns a box as its pointer.
     pub(crate) fn from_box(value: Box<T, A>) -> Loose<T, A>
         ensures { result.value ≡ value.value }
     {
@@ -30,7 +30,7 @@ impl<T: Drop, A: Allocator> Loose<T, A> {
         Loose { at, alloc }
     }
 
-    /// The box again.
+    /// Returns the box again.
     pub(crate) fn into_box(self) -> Box<T, A>
         ensures { result.value ≡ self.value }
     {
@@ -58,7 +58,7 @@ unsafe impl Send for Handle {}
 impl Handle {
     ghost use Rattle.metronome_c.specs.Lending.{LendsHeap};
 
-    /// No heap.
+    /// Returns a handle that holds no heap.
     pub(crate) fn empty(alloc: Global) -> Handle
         ensures { result.value ≡ None }
     {
@@ -68,7 +68,7 @@ impl Handle {
         }
     }
 
-    /// This heap.
+    /// Returns a handle that holds this heap.
     pub(crate) fn shut(value: Loose<Held, Global>) -> Handle
         ensures { result.value ≡ Some value.value }
     {
@@ -79,7 +79,7 @@ impl Handle {
         }
     }
 
-    /// The heap.
+    /// Returns the heap.
     pub(crate) fn open(self) -> Loose<Held, Global>
         requires { IsSome self.value }
         ensures { self.value ≡ Some result.value }
@@ -91,7 +91,7 @@ impl Handle {
         }
     }
 
-    /// The heap where it is. It is held again once the borrow ends.
+    /// Lends the heap where it is. It is held again once the borrow ends.
     #[inline(always)]
     pub(crate) fn lend(&mut self) -> &mut Held
         requires { IsSome self.old.value }

@@ -1,4 +1,4 @@
-//! What the box of a handle holds.
+//! The box of a handle, which has a heap with its plan.
 ghost use Rattle.std.specs.Prelude.{◌≡◌, ◌↔◌, IsTrue};
 ghost use Rattle.std.specs.Option.{option_map};
 ghost use Rattle.paced.specs.Pacing.{shape_words};
@@ -14,7 +14,7 @@ use machine::{BudgetOutOfRange, Busy, Heap, Spent};
 use paced::{Cycles, Figures, NoLog, Pacer};
 use size_classes::Config;
 
-/// A heap, the configuration that it was made of, its pacer, where the program keeps a plan, and its cycles.
+/// A heap, the configuration that it was made of, its pacer if it keeps a plan, and its cycles.
 pub struct Held {
     pub heap: Heap,
     pub config: Config,
@@ -35,8 +35,8 @@ impl Drop for Held {
 }
 
 impl Held {
-    /// Where a plan is kept the collector works first as much as it wants for a new object of this shape, and the object's
-    /// words are counted. False where they are more than the plan has for a whole cycle: then nothing is done.
+    /// Lets the collector work first as much as the plan requires for a new object of this shape, if one is kept, and counts
+    /// the object's words. Returns false if they are more than the plan has for a whole cycle: then nothing is done.
     #[inline(always)]
     pub(crate) fn pays(&mut self, shape: Shape) -> bool
         ensures { PaysHeld self.old (shape_words shape) result self.new }
@@ -47,7 +47,7 @@ impl Held {
         self.pays_plan(shape)
     }
 
-    /// The same, out of the way of heaps that keep no plan.
+    /// Does the same, out of the way of heaps that keep no plan.
     #[inline(never)]
     fn pays_plan(&mut self, shape: Shape) -> bool
         ensures { PaysHeld self.old (shape_words shape) result self.new }
@@ -60,8 +60,8 @@ impl Held {
         }
     }
 
-    /// Does one piece at most of the work that the plan requires for `words` words, and returns how many are left. Returns why nothing
-    /// was done if no plan is kept, or if the words are more than the plan has for a whole cycle.
+    /// Does at most one piece of the work that the plan requires for `words` words, and returns how many are left. Returns why
+    /// nothing was done if no plan is kept, or if the words are more than the plan has for a whole cycle.
     pub(crate) fn prepare(&mut self, words: u64) -> Result<u64, Status>
         ensures { PreparesHeld self.old words result self.new }
     {
@@ -94,7 +94,7 @@ impl Held {
         }
     }
 
-    /// The figures of the pacer, where there is one.
+    /// Returns the figures of the pacer, if there is one.
     pub(crate) fn figures(&self) -> Option<Figures>
         ensures { result ≡ option_map (λ p. p.figures) self.now.pacer }
     {
@@ -104,7 +104,7 @@ impl Held {
         }
     }
 
-    /// Whether no page of the heap was used yet, and no cycle begun.
+    /// Returns whether no page of the heap was used yet, and no cycle begun.
     fn is_unused(&self) -> bool
         ensures { IsTrue result ↔ IsUnused self.now.heap }
     {
@@ -113,8 +113,8 @@ impl Held {
             && self.heap.free_pages() == self.heap.pages()
     }
 
-    /// Keeps a flow from here on, where it is one of the heap's configuration, and the heap is unused. False where it isn't:
-    /// then nothing is done.
+    /// Keeps a flow from here on, if it suits the heap's configuration and the heap is unused. Else it returns false, and
+    /// nothing is done.
     pub(crate) fn keep(&mut self, flow: &MetronomeFlow) -> bool
         ensures { KeepsHeld self.old flow.now result self.new }
     {

@@ -10,7 +10,7 @@ use crate::planning::MetronomeFlow;
 use crate::status::Status;
 use paced::Figures;
 
-/// What the collector did because the plan wanted it.
+/// The work that the collector did because the plan required it.
 #[repr(C)]
 #[derive(Clone, Copy, Debug, PartialEq, Eq)]
 pub struct MetronomeWork {
@@ -20,7 +20,7 @@ pub struct MetronomeWork {
 }
 
 impl MetronomeWork {
-    /// What C is told of a pacer's figures.
+    /// Returns a pacer's figures, as C sees them.
     pub(crate) fn from_figures(figures: Figures) -> MetronomeWork
         ensures { result ≡ work_told figures }
     {
@@ -32,7 +32,7 @@ impl MetronomeWork {
     }
 }
 
-/// The heap keeps a plan from here on: before each new object the collector works as much as the plan wants.
+/// Makes the heap keep a plan from here on: before each new object the collector works as much as the plan requires.
 #[unsafe(no_mangle)]
 pub extern "C" fn metronome_keep(heap: &mut Metronome, flow: &MetronomeFlow) -> u32
     ensures { Keeps (held_in heap.old) flow.now (held_in heap.new) result }
@@ -45,7 +45,7 @@ pub extern "C" fn metronome_keep(heap: &mut Metronome, flow: &MetronomeFlow) -> 
     status.number()
 }
 
-/// Tells what the collector did because the plan wanted it, since it is kept.
+/// Stores the work that the collector did because the plan required it, since it is kept.
 #[unsafe(no_mangle)]
 pub extern "C" fn metronome_kept(heap: &mut Metronome, work: &mut MetronomeWork) -> u32
     ensures { TellsFound work_in (held_in heap.old) (held_in heap.new) work.old work.new result }

@@ -26,10 +26,10 @@ ghost use Rattle.metronome_c.specs.declared.metronome.TheConstants.{CHECK_WORD};
 ghost use Rattle.metronome_c.specs.declared.status.Status.{Status};
 ghost use Rattle.metronome_c.specs.declared.status.Status.TheVariants.{Done, Refused, NoMemory, Busy, BudgetOutOfRange, Closed, Open, ScheduleOutOfRange, BadHandle, SettingOutOfRange, OtherVersion, Taken, Inside, Outside, NotYours, NoPlan, AbovePlan, NoMutator, SlotsUsed, OtherMutator};
 
-/// Where a heap was just made of a closed handle, and a program calls the library as it likes, the calls are events
-/// that the heap does one after the other, with a history that only grows: each call tells the outcome of its event,
-/// and what is promised of a heap with its history (`machine::Recorded::run`) holds of it, whatever comes. So it is where
-/// the program touched pages of it first.
+/// A program calls the library as it likes on a heap that was just made of a closed handle. Then the calls are events that the
+/// heap does one after the other, with a history that only grows. Each call tells the outcome of its event. All that is
+/// promised of a heap with its history (`machine::Recorded::run`) holds of it. This also holds if the program touched pages of
+/// the heap first.
 pub fn calls_are_events()
     ensures made { (s : Settings) (h : Held) (status : ℕ) → Creates IsMadeOf (Err Closed) s (Ok h) status
         → IsPromised s h.heap }
@@ -42,9 +42,9 @@ pub fn calls_are_events()
         → Calls (Ok (touched_held h pages)) calls new → AreEvents (touched_held h pages) calls new }
 {}
 
-/// Where a heap that was just made of a closed handle keeps a plan, and a program calls the library as it likes: no reply is
-/// the refusal for lack of space, if what is live is within the plan wherever a cycle begins, by the program or by the
-/// plan. So it is where the program touched pages of it first.
+/// A heap that was just made of a closed handle keeps a plan, and a program calls the library as it likes. Then no reply is the
+/// refusal for lack of space, if live objects are within the plan whenever a cycle begins, by the program or by the plan. This
+/// also holds if the program touched pages of the heap first.
 pub fn kept_heaps_find_room()
     ensures kept { (s : Settings) (h k : Held) (made status : ℕ) (flow : MetronomeFlow) (calls : List KeptCall)
         (new : Result Held Status) → Creates IsMadeOf (Err Closed) s (Ok h) made → Keeps (Ok h) flow (Ok k) status
@@ -56,12 +56,12 @@ pub fn kept_heaps_find_room()
         → KeepsRoom (touched_held h pages) flow calls new }
 {}
 
-/// Where a heap that was just made of a closed handle keeps a plan, and a program calls the library as it likes, the calls of any stretch
-/// cost few quanta, all its callers together. The collector works before new objects alone. If the plan leaves room for the largest
-/// object of the stretch, it spends at most one quantum for every `quantum_words` of the words that the stretch asks for, rounded up.
-/// In any case one object of w words costs at most `2 * ceil(w / quantum_words) - 1` quanta, and at most one if it has no more than
-/// `quantum_words`. This holds as long as live objects keep to the plan whenever a cycle begins. So it is where the program touched
-/// pages of the heap first.
+/// A heap that was just made of a closed handle keeps a plan, and a program calls the library as it likes. Then any stretch of
+/// calls costs few quanta, all its callers together, if live objects are within the plan whenever a cycle begins. The collector
+/// works before new objects alone. If the plan leaves room for the largest object of a stretch for W words, the stretch costs
+/// at most W / `quantum_words` quanta, rounded up. In any case one object costs at most 2q - 1 quanta, where q is its words by
+/// `quantum_words`, rounded up. So it costs at most one if it has no more than `quantum_words`. This also holds if the program
+/// touched pages of the heap first.
 pub fn kept_heaps_cost_few_quanta()
     ensures kept { (s : Settings) (h k : Held) (made status : ℕ) (flow : MetronomeFlow) (before stretch : List KeptCall)
         (mid new : Result Held Status) → Creates IsMadeOf (Err Closed) s (Ok h) made → Keeps (Ok h) flow (Ok k) status
@@ -74,9 +74,10 @@ pub fn kept_heaps_cost_few_quanta()
         → KeepsCosts (touched_held h pages) flow before stretch }
 {}
 
-/// Where such a heap keeps a plan, and a call that prepares for words told that none is left, the calls of any stretch are free that
-/// asks for no more words in all, until the program itself begins a cycle. As many more calls that prepare as were told suffice, if the
-/// plan leaves room for the words and live objects keep to it whenever a cycle begins.
+/// A heap keeps a plan as above, and a call that prepares for words told that none is left. Then a stretch of calls that asks
+/// for no more words in all is free, until the program itself begins a cycle. If a call that prepares tells a number, this
+/// number of further calls suffices. The plan must leave room for the words, and live objects must be within it whenever a
+/// cycle begins.
 pub fn prepared_words_are_free()
     ensures free { (s : Settings) (h k : Held) (made status : ℕ) (flow : MetronomeFlow) (before stretch : List KeptCall)
         (mid ready new : Result Held Status) (words was left told : ℕ) → Creates IsMadeOf (Err Closed) s (Ok h) made
@@ -101,8 +102,8 @@ pub fn prepared_words_are_free()
         → EndsSoon (touched_held h pages) flow before words left row }
 {}
 
-/// A plan that C was told for settings is kept by a heap that was just made of them, and by one that was touched since. The plan lasts
-/// there with room for the object for which the program asked.
+/// A plan that C was told for settings is kept by a heap that was just made of them, and by one that was touched since. The
+/// plan lasts there with room for the object for which the program asked.
 pub fn plans_are_kept()
     ensures kept { (s : Settings) (h : Held) (made told : ℕ) (live largest : ℕ) (before flow : MetronomeFlow)
         → TellsPlan s live largest before flow told → told ≡ status_number Done
@@ -115,8 +116,8 @@ pub fn plans_are_kept()
         → Creates IsMadeOf (Err Closed) s (Ok h) made → CanKeep (touched_held h pages) flow }
 {}
 
-/// The limit that C is told of a configuration is that of a heap that was made of it: the units of a cycle are within
-/// it, and one of that many quanta of the schedule ends the cycle.
+/// The limit of a configuration, which C is told, is that of a heap that was made of it. The units of a cycle are within it.
+/// One of this number of quanta of the schedule ends the cycle.
 pub fn limits_are_those_of_heaps()
     ensures units { (c : Config) (h : HeapState) → IsOpening h → settings_of h ≡ settings_by c
         → (limit_of c).units ≡ cycle_limit h }

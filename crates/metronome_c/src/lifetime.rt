@@ -13,8 +13,8 @@ use machine::Heap;
 use paced::Cycles;
 use size_classes::{Config, Settings};
 
-/// Makes a heap of these settings, where the handle is closed and the program was built for this version. Of a program
-/// for another one nothing is read but that version.
+/// Makes a heap of these settings, if the handle is closed and the program was built for this version. If it was built for
+/// another one, only that version is read.
 #[unsafe(no_mangle)]
 pub extern "C" fn metronome_create_for(
     heap: &mut Metronome,
@@ -30,7 +30,7 @@ pub extern "C" fn metronome_create_for(
     create(heap, settings)
 }
 
-/// Makes a heap of these settings, where the handle is closed.
+/// Makes a heap of these settings, if the handle is closed.
 fn create(heap: &mut Metronome, settings: &Settings) -> u32
     ensures { Creates IsMadeOf (held_in heap.old) settings.now (held_in heap.new) result }
 {
@@ -61,7 +61,7 @@ fn create(heap: &mut Metronome, settings: &Settings) -> u32
     Status::Done.number()
 }
 
-/// Gives the memory of a heap back. Where the handle holds none nothing is done.
+/// Gives the memory of a heap back. If the handle holds none, nothing is done.
 #[unsafe(no_mangle)]
 pub extern "C" fn metronome_destroy(heap: &mut Metronome)
     ensures { Destroys (held_in heap.old) (held_in heap.new) }

@@ -1,4 +1,4 @@
-//! What a cycle takes at most.
+//! The most that a cycle takes.
 ghost use Rattle.std.specs.Prelude.{◌≡◌};
 ghost use Rattle.metronome_c.specs.Limit.{limit_of, TellsLimit};
 
@@ -14,7 +14,7 @@ pub struct CycleLimit {
 }
 
 impl CycleLimit {
-    /// The limit of a configuration. Each quantum of its schedule spends all of its budget but 255 units, or more.
+    /// Returns the limit of a configuration. Each quantum of its schedule spends all of its budget except at most 255 units.
     fn from_config(config: &Config) -> CycleLimit
         ensures { result ≡ limit_of config.now }
     {
@@ -27,7 +27,7 @@ impl CycleLimit {
     }
 }
 
-/// Tells what a cycle takes at most in a heap of these settings. It makes none.
+/// Stores the most that a cycle takes in a heap of these settings. It makes none.
 #[unsafe(no_mangle)]
 pub extern "C" fn metronome_cycle_limit(settings: &Settings, limit: &mut CycleLimit) -> u32
     ensures { TellsLimit settings.now limit.old limit.new result }

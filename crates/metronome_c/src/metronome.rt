@@ -1,4 +1,4 @@
-//! What C holds: a heap, or none.
+//! The struct that C holds: a heap, or none.
 ghost use Rattle.std.specs.Prelude.{◌≡◌, ◌==◌, Some, None, IsSome};
 ghost use Rattle.std.specs.Option.{is_some};
 ghost use Rattle.std.specs.Fn.{FnOnceReturnsAtMut};
@@ -26,7 +26,7 @@ use std::mem::replace;
 /// The check word of a handle that holds a heap. That of a closed one is 0, and a struct with another one is no handle.
 const CHECK_WORD: u64 = 5_567_949_226_808_069_965;
 
-/// What C holds: a heap, or none. All zeros hold none.
+/// A heap, or none, as C holds it. All zeros hold none.
 #[repr(C)]
 #[derive(Drop)]
 pub struct Metronome {
@@ -39,7 +39,7 @@ pub struct Metronome {
 impl Metronome {
     ghost use Rattle.metronome_c.specs.Opened.{absence, held_in};
 
-    /// No heap.
+    /// Returns a struct that holds no heap.
     pub(crate) fn closed(alloc: Global) -> Metronome
         ensures value { result.handle.value ≡ None }
         ensures check { result.check ≡ 0 }
@@ -51,7 +51,7 @@ impl Metronome {
         }
     }
 
-    /// Whether it holds a heap.
+    /// Returns whether it holds a heap.
     #[inline(always)]
     pub(crate) fn is_open(&self) -> bool
         ensures { result ≡ is_some self.now.handle.value }
@@ -59,14 +59,14 @@ impl Metronome {
         self.check == CHECK_WORD
     }
 
-    /// Whether its check word is that of a closed handle.
+    /// Returns whether its check word is that of a closed handle.
     pub(crate) fn is_closed(&self) -> bool
         ensures { result ≡ (self.now.check == 0) }
     {
         self.check == 0
     }
 
-    /// Why it holds no heap, where it holds none.
+    /// Returns why it holds no heap, if it holds none.
     fn why_empty(&self) -> Status
         ensures { result ≡ absence (self.now.check == 0) }
     {
@@ -89,7 +89,7 @@ impl Metronome {
         };
     }
 
-    /// The heap. None is left.
+    /// Returns the heap. None is left.
     #[inline(always)]
     pub(crate) fn take(&mut self) -> Box<Held>
         requires { IsSome self.old.handle.value }
@@ -114,7 +114,7 @@ impl Metronome {
         Ok(call(&mut self.handle.lend().heap))
     }
 
-    /// Asks what holds the heap, and its plan, if there is one.
+    /// Asks the holder of the heap, which has its plan too, if there is one.
     pub(crate) fn ask_held<T, F: FnOnce(&mut Held) -> T + Drop>(
         &mut self,
         call: F,
@@ -128,7 +128,7 @@ impl Metronome {
         Ok(call(self.handle.lend()))
     }
 
-    /// Asks the heap, if there is one, for what makes an object of a shape. Where a plan is kept its words are paid for first.
+    /// Asks the heap, if there is one, with a call that makes an object of a shape. If a plan is kept, its words are paid for first.
     #[inline(always)]
     pub(crate) fn ask_paying<T, F: FnOnce(&mut Heap) -> T + Drop>(
         &mut self,
@@ -149,7 +149,7 @@ impl Metronome {
         Ok(call(&mut held.heap))
     }
 
-    /// Whether it holds a heap that keeps a plan.
+    /// Returns whether it holds a heap that keeps a plan.
     #[inline(always)]
     pub(crate) fn keeps_plan(&mut self) -> bool
         ensures keeps { result ≡ is_kept (held_in self.old) }
@@ -161,7 +161,7 @@ impl Metronome {
         self.handle.lend().pacer.is_some()
     }
 
-    /// Makes an object of a shape in the heap, if there is one, once its words were paid for, where a plan is kept. It is out of
+    /// Makes an object of a shape in the heap, if there is one, once its words were paid for, if a plan is kept. It is out of
     /// the way of heaps that keep none.
     #[cold]
     #[inline(never)]
@@ -184,7 +184,7 @@ impl Metronome {
         Answer::from_outcome(Ok(reply))
     }
 
-    /// Makes an object of a shape in the heap, if there is one: once its words were paid for, where a plan is kept.
+    /// Makes an object of a shape in the heap, if there is one. If a plan is kept, its words are paid for first.
     #[inline(always)]
     pub(crate) fn make(&mut self, mutator: u32, dst: u32, shape: Shape) -> Answer
         ensures { Makes (held_in self.old) mutator (commands.New dst shape) (held_in self.new) result }
@@ -204,7 +204,7 @@ impl Metronome {
         Answer::from_outcome(self.ask(call))
     }
 
-    /// The same, and tells the shape that the reply tells.
+    /// Does the same, and stores the shape that the reply tells.
     pub(crate) fn told_with_shape<F: FnOnce(&mut Heap) -> Reply + Drop>(
         &mut self,
         shape: &mut MetronomeShape,

@@ -7,8 +7,8 @@ use crate::figures::tell;
 use crate::metronome::Metronome;
 use machine::Heap;
 
-/// A page: the words of each of its blocks, how many of these are held, and whether it is leaving or receiving, as 1 or
-/// 0. Of a free page each number is 0.
+/// A page: the words of each of its blocks, how many of these are held, and whether it is leaving or receiving, as 1 or 0. If
+/// the page is free, each number is 0.
 #[repr(C)]
 #[derive(Clone, Copy, Debug, PartialEq, Eq)]
 pub struct MetronomePage {
@@ -19,7 +19,7 @@ pub struct MetronomePage {
 }
 
 impl MetronomePage {
-    /// The page of a number; a free one, where there is none.
+    /// Returns the page of a number, or a free one if there is none.
     pub(crate) fn from_heap(heap: &Heap, number: usize) -> MetronomePage
         ensures { result ≡ page_of number heap.now }
     {
@@ -40,7 +40,7 @@ impl MetronomePage {
     }
 }
 
-/// Tells the page of a number, from 0.
+/// Stores the page of a number, from 0.
 #[unsafe(no_mangle)]
 pub extern "C" fn metronome_page(
     heap: &mut Metronome,

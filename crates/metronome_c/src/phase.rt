@@ -4,7 +4,7 @@ ghost use Rattle.metronome_c.specs.Collecting as collecting;
 
 use heap_model::phase::Phase;
 
-/// The number of a phase, without how far it has come.
+/// Returns the number of a phase, without how far it has come.
 pub(crate) fn phase_number(phase: Phase) -> u32
     ensures { result ≡ collecting.phase_number phase }
 {

@@ -1,4 +1,4 @@
-//! Plans: how many words of objects a heap of some settings lets be made while its collector works.
+//! Plans: how many words of objects may be made in a heap of some settings while its collector works.
 ghost use Rattle.std.specs.Prelude.{◌≡◌, ℕ, Option, true, false};
 ghost use Rattle.paced.specs.Planning.{IsLeastPages};
 ghost use Rattle.metronome_c.specs.Planning.{plan_in, Suits, SuitsSettings, flow_told, IsPlanned, TellsPlan};
@@ -7,8 +7,8 @@ use crate::status::Status;
 use paced::{Plan, flow_fits, lasts, least_pages_for, moves_all, planned_for};
 use size_classes::{Config, Settings};
 
-/// A plan, for what is live at most: how many words of blocks are made at most for each quantum of a budget, and in a whole
-/// cycle; and the least number of pages on which there is one, or 0.
+/// A plan for live objects of at most `live_words` words. It says how many words of blocks are made at most for each quantum of
+/// a budget, and in a whole cycle. It also has the fewest pages that have a plan, or 0 if none have one.
 #[repr(C)]
 #[derive(Clone, Copy, Debug, PartialEq, Eq)]
 pub struct MetronomeFlow {
@@ -20,8 +20,8 @@ pub struct MetronomeFlow {
 }
 
 impl MetronomeFlow {
-    /// Returns the words of a plan of a configuration, or none if there is no plan; and the fewest pages that have a plan with room
-    /// for an object of `largest` words.
+    /// Returns the words of a plan of a configuration, or none if there is no plan. It also has the fewest pages that have a
+    /// plan with room for an object of `largest` words.
     fn of_plan(config: &Config, live_words: u64, largest: u64, plan: Option<Plan>) -> MetronomeFlow
         ensures { (least : Option ℕ) × IsLeastPages config.now live_words largest least
             × (result ≡ flow_told config.now live_words least plan) }
@@ -43,8 +43,8 @@ impl MetronomeFlow {
         }
     }
 
-    /// Returns whether the plan suits a configuration. Its quanta have the budget of the configuration, each cycle moves and may
-    /// empty all pages, its flow fits, and the words of a cycle last until it has ended.
+    /// Returns whether the plan suits a configuration. Its quanta have the budget of the configuration. Each cycle moves and
+    /// may empty all pages. Its flow fits, and the words of a cycle last until it has ended.
     pub(crate) fn suits(&self, config: &Config) -> bool
         ensures yes { result ≡ true → Suits config.now self.now }
         ensures no { result ≡ false → Suits config.now self.now → ⊥ }

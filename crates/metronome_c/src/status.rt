@@ -1,4 +1,4 @@
-//! How a call ends, and the number by which C is told.
+//! The outcomes of calls, and their numbers.
 ghost use Rattle.std.specs.Prelude.{◌≡◌};
 ghost use Rattle.metronome_c.specs.Status as statuses;
 ghost use Rattle.metronome_c.specs.Status.{status_number, status_numbered, fault_status};
@@ -24,7 +24,7 @@ pub enum Status {
     Open,
     /// `collector_ticks` times `rate` isn't `LEAST_BUDGET` to `MOST_BUDGET`.
     ScheduleOutOfRange,
-    /// What was given as a handle is none: nothing ever closed it.
+    /// The value that was given as a handle is none: nothing ever closed it.
     BadHandle,
     SettingOutOfRange(Key),
     /// The program was built for another version of this interface.
@@ -33,7 +33,7 @@ pub enum Status {
     Taken,
     /// The seat has the turn already.
     Inside,
-    /// The seat hasn't the turn.
+    /// The seat doesn't have the turn.
     Outside,
     /// The mutator isn't one of the seat's.
     NotYours,
@@ -41,15 +41,15 @@ pub enum Status {
     NoPlan,
     /// The object has more words than the plan has for a whole cycle.
     AbovePlan,
-    /// There is no such mutator: told apart from a slot that isn't there, where a slot is checked.
+    /// There is no such mutator. A call that checks a slot tells it apart from a slot that isn't there.
     NoMutator,
-    /// All slots are used. No call tells it, but what is over the calls does.
+    /// All slots are used. No call returns it, but code over the calls does.
     SlotsUsed,
-    /// The root is one of another mutator. No call tells it, but what is over the calls does.
+    /// The root is one of another mutator. No call returns it, but code over the calls does.
     OtherMutator,
 }
 
-/// The place of a key among the settings, from 0.
+/// Returns the place of a key among the settings, from 0.
 fn key_number(key: Key) -> u32
     ensures { result ≡ statuses.key_number key }
 {
@@ -93,7 +93,7 @@ impl Status {
         Status::OtherMutator,
     ];
 
-    /// The number by which C is told.
+    /// Returns the number by which C is told.
     pub fn number(self) -> u32
         ensures { result ≡ status_number self }
     {
@@ -121,7 +121,7 @@ impl Status {
         }
     }
 
-    /// The status of a number, if it is one of a status.
+    /// Returns the status of a number, if it is one of a status.
     pub fn numbered(number: u32) -> Option<Status>
         ensures { result ≡ status_numbered number }
     {
@@ -134,7 +134,7 @@ impl Status {
             .find(|status| status.number() == number)
     }
 
-    /// The status of a fault of a configuration.
+    /// Returns the status of a fault of a configuration.
     pub fn of_fault(fault: ConfigFault) -> Status
         ensures { result ≡ fault_status fault }
     {
@@ -144,7 +144,7 @@ impl Status {
         }
     }
 
-    /// The status of why a member doesn't get the turn.
+    /// Returns the status of why a member doesn't get the turn.
     pub fn of_no_turn(why: NoTurn) -> Status
         ensures { result ≡ no_turn_status why }
     {
@@ -154,7 +154,7 @@ impl Status {
         }
     }
 
-    /// The status of why a member's command isn't done.
+    /// Returns the status of why a member's command isn't done.
     pub fn of_not_done(why: NotDone) -> Status
         ensures { result ≡ not_done_status why }
     {
@@ -165,7 +165,7 @@ impl Status {
         }
     }
 
-    /// The status of why there is no other member.
+    /// Returns the status of why there is no other member.
     pub fn of_no_member(why: NoMember) -> Status
         ensures { result ≡ no_member_status why }
     {
@@ -176,7 +176,7 @@ impl Status {
         }
     }
 
-    /// What a user is told.
+    /// Returns the text for a user.
     pub fn text(self) -> &'static str
         ensures { result.now ≡ statuses.status_text self }
     {
@@ -214,7 +214,7 @@ impl Status {
     }
 }
 
-/// Which setting is out of its range.
+/// Returns the text for a setting that is out of its range.
 fn setting_text(key: Key) -> &'static str
     ensures { result.now ≡ statuses.setting_text key }
 {

@@ -8,7 +8,7 @@ use crate::status::Status;
 /// The version of this interface. Another number means that programs have to be compiled anew.
 pub(crate) const VERSION: u32 = 2;
 
-/// The text of a number.
+/// Returns the text of a number.
 fn text_of_number(number: u32) -> &'static str
     ensures { result.now ≡ text_of number }
 {
@@ -30,8 +30,7 @@ fn write_text(bytes: &[u8], room: &mut [u8])
     room[n] = 0;
 }
 
-/// Writes the text of a status, as much of it as there is room for, and 0 after it. Tells how many bytes
-/// the whole text has.
+/// Writes the text of a status, as much of it as there is room for, and 0 after it. Returns how many bytes the whole text has.
 #[unsafe(no_mangle)]
 pub extern "C" fn metronome_text_into(status: u32, text: &mut [u8]) -> usize
     ensures whole { result ≡ length (text_of status) }

@@ -18,7 +18,7 @@ use Rattle.paced.specs.declared.cycles.Cycles.{Cycles}
 use Rattle.paced.specs.declared.pacer.AbovePlan.{AbovePlan}
 use Rattle.paced.specs.Cycles.{DoesOn, cycles_after, CountsCycles}
 use Rattle.paced.specs.Logged.{Enters}
-use Rattle.paced.specs.Pacing.{Counts, PacerView, PacedState, PacedView, state_by, state_of, counted, Path, KeepsPlan, MakesNothing, MayAsk, Paced, WorksFor, Pays, Calls, Counted}
+use Rattle.paced.specs.Pacing.{Counts, PacerView, PacedState, PacedView, state_by, state_of, counted, Path, KeepsPlan, MakesNothing, MayAsk, Paced, WorksFor, Calls, Counted}
 
 -- events, and then others
 pub path_then : (Passes : PacedState → Event → Type 0) (es fs : List Event) (old mid new : PacedState) → Path Passes old es mid → Path Passes mid fs new → Path Passes old (es ++ fs) new

@@ -8,7 +8,7 @@ use crate::answer::{Answer, MetronomeShape};
 use crate::seats::seat::MetronomeSeat;
 use graph_heap::{Command, Shape};
 
-/// A new object of reference cells and word cells, into slot dst.
+/// Makes an object of reference cells and word cells in slot dst.
 #[unsafe(no_mangle)]
 pub extern "C" fn metronome_seat_new_plain(
     seat: &mut MetronomeSeat,
@@ -24,7 +24,7 @@ pub extern "C" fn metronome_seat_new_plain(
     seat.make(mutator, dst, shape)
 }
 
-/// A new array of reference cells, into slot dst.
+/// Makes an array of reference cells in slot dst.
 #[unsafe(no_mangle)]
 pub extern "C" fn metronome_seat_new_refs(
     seat: &mut MetronomeSeat,
@@ -39,7 +39,7 @@ pub extern "C" fn metronome_seat_new_refs(
     seat.make(mutator, dst, shape)
 }
 
-/// A new array of word cells, into slot dst.
+/// Makes an array of word cells in slot dst.
 #[unsafe(no_mangle)]
 pub extern "C" fn metronome_seat_new_words(
     seat: &mut MetronomeSeat,
@@ -54,7 +54,7 @@ pub extern "C" fn metronome_seat_new_words(
     seat.make(mutator, dst, shape)
 }
 
-/// What a reference cell holds into slot dst.
+/// Loads a reference cell into slot dst.
 #[unsafe(no_mangle)]
 pub extern "C" fn metronome_seat_load(
     seat: &mut MetronomeSeat,
@@ -69,7 +69,7 @@ pub extern "C" fn metronome_seat_load(
     seat.answer(mutator, command, |heap| heap.load(mutator, dst, obj, i))
 }
 
-/// What slot src holds into a reference cell.
+/// Stores slot src in a reference cell.
 #[unsafe(no_mangle)]
 pub extern "C" fn metronome_seat_store(
     seat: &mut MetronomeSeat,
@@ -84,7 +84,7 @@ pub extern "C" fn metronome_seat_store(
     seat.answer(mutator, command, |heap| heap.store(mutator, obj, i, src))
 }
 
-/// What slot new holds into a reference cell, if that holds what slot expect does.
+/// Stores slot new in a reference cell, if the cell holds the object of slot expect.
 #[unsafe(no_mangle)]
 pub extern "C" fn metronome_seat_compare_store(
     seat: &mut MetronomeSeat,
@@ -159,7 +159,7 @@ pub extern "C" fn metronome_seat_compare_put(
     )
 }
 
-/// What slot src holds into slot dst.
+/// Copies slot src to slot dst.
 #[unsafe(no_mangle)]
 pub extern "C" fn metronome_seat_copy(
     seat: &mut MetronomeSeat,
@@ -173,7 +173,7 @@ pub extern "C" fn metronome_seat_copy(
     seat.answer(mutator, command, |heap| heap.copy(mutator, dst, src))
 }
 
-/// Null into slot dst.
+/// Sets slot dst to null.
 #[unsafe(no_mangle)]
 pub extern "C" fn metronome_seat_clear(seat: &mut MetronomeSeat, mutator: u32, dst: u32) -> Answer
     ensures { AnswersSeat (seat_in seat.old) mutator (commands.Clear dst) (seat_in seat.new) result }
@@ -182,7 +182,7 @@ pub extern "C" fn metronome_seat_clear(seat: &mut MetronomeSeat, mutator: u32, d
     seat.answer(mutator, command, |heap| heap.clear(mutator, dst))
 }
 
-/// What static k holds into slot dst.
+/// Loads static k into slot dst.
 #[unsafe(no_mangle)]
 pub extern "C" fn metronome_seat_load_static(
     seat: &mut MetronomeSeat,
@@ -196,7 +196,7 @@ pub extern "C" fn metronome_seat_load_static(
     seat.answer(mutator, command, |heap| heap.load_static(mutator, dst, k))
 }
 
-/// What slot src holds into static k.
+/// Stores slot src in static k.
 #[unsafe(no_mangle)]
 pub extern "C" fn metronome_seat_store_static(
     seat: &mut MetronomeSeat,
@@ -210,7 +210,7 @@ pub extern "C" fn metronome_seat_store_static(
     seat.answer(mutator, command, |heap| heap.store_static(mutator, k, src))
 }
 
-/// What slot new holds into static k, if that holds what slot expect does.
+/// Stores slot new in static k, if the static holds the object of slot expect.
 #[unsafe(no_mangle)]
 pub extern "C" fn metronome_seat_compare_static(
     seat: &mut MetronomeSeat,
@@ -229,7 +229,7 @@ pub extern "C" fn metronome_seat_compare_static(
     )
 }
 
-/// Whether slots a and b hold the same object, or both null.
+/// Returns whether slots a and b hold the same object, or both null.
 #[unsafe(no_mangle)]
 pub extern "C" fn metronome_seat_same(
     seat: &mut MetronomeSeat,
@@ -243,7 +243,7 @@ pub extern "C" fn metronome_seat_same(
     seat.answer(mutator, command, |heap| heap.same(mutator, a, b))
 }
 
-/// The identity of slot a's object, and its shape.
+/// Returns the identity of slot a's object, and stores its shape.
 #[unsafe(no_mangle)]
 pub extern "C" fn metronome_seat_describe(
     seat: &mut MetronomeSeat,
@@ -257,7 +257,7 @@ pub extern "C" fn metronome_seat_describe(
     seat.describe(mutator, a, shape)
 }
 
-/// The mutator becomes live.
+/// Makes the mutator live.
 #[unsafe(no_mangle)]
 pub extern "C" fn metronome_seat_join(seat: &mut MetronomeSeat, mutator: u32) -> Answer
     ensures { AnswersSeat (seat_in seat.old) mutator commands.Join (seat_in seat.new) result }
@@ -266,7 +266,7 @@ pub extern "C" fn metronome_seat_join(seat: &mut MetronomeSeat, mutator: u32) ->
     seat.answer(mutator, command, |heap| heap.join(mutator))
 }
 
-/// Null into each slot of the mutator, which is live no more.
+/// Sets each slot of the mutator to null. It is then no longer live.
 #[unsafe(no_mangle)]
 pub extern "C" fn metronome_seat_retire(seat: &mut MetronomeSeat, mutator: u32) -> Answer
     ensures { AnswersSeat (seat_in seat.old) mutator commands.Leave (seat_in seat.new) result }

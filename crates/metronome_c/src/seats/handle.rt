@@ -1,4 +1,4 @@
-//! What C holds of a member of a shared heap.
+//! The handle of a member of a shared heap, which C holds.
 ghost use Rattle.std.specs.Prelude.{◌≡◌, Option, Some, None, IsSome, false, MatchResult};
 ghost use Rattle.std.specs.Coded.{coded_option};
 ghost use Rattle.std.specs.Borrow.{sem};
@@ -13,9 +13,9 @@ use std::alloc::{AllocFailed, Global};
 use std::marker::Model;
 use std::mem::ManuallyDrop;
 
-/// A member as C holds it: a pointer to a box that is owned, or nothing. It is `Handle` over again, as no struct that
-/// crosses to C has a type parameter. As a member it can't be let go: it is given up by `into_member`, or by `vanish` if it
-/// holds none.
+/// A member as C holds it: a pointer to a box that is owned, or nothing. It repeats `Handle`, as no struct that crosses to C
+/// has a type parameter. It can't be dropped, as a member can't. It is given up by `into_member`, or by `vanish` if it holds
+/// none.
 #[repr(C)]
 pub struct SeatHandle {
     at: *mut u8,
@@ -33,7 +33,7 @@ unsafe impl Send for SeatHandle {}
 impl SeatHandle {
     ghost use Rattle.metronome_c.specs.Lending.{LendsSeat};
 
-    /// No member.
+    /// Returns a handle that holds no member.
     pub(super) fn empty(alloc: Global) -> SeatHandle
         ensures { result.value ≡ None }
     {
@@ -43,7 +43,7 @@ impl SeatHandle {
         }
     }
 
-    /// This member, in a box of its own. Where there is no memory for that the member comes back.
+    /// Returns a handle that holds this member in a box. If there is no memory for that, the member comes back.
     pub(super) fn holding(alloc: Global, member: Member) -> Result<SeatHandle, Member>
         ensures { MatchResult result (λ h. h.value ≡ Some member) (λ back. back ≡ member) }
     {
@@ -53,7 +53,7 @@ impl SeatHandle {
         }
     }
 
-    /// The member, where it holds one.
+    /// Returns the member, if it holds one.
     pub(super) fn into_member(self) -> Member
         requires { IsSome self.value }
         ensures { self.value ≡ Some result }
@@ -69,7 +69,7 @@ impl SeatHandle {
         let _nothing = unsafe { ManuallyDrop::new_unchecked(self) };
     }
 
-    /// What is in this box.
+    /// Returns a handle that holds this box.
     fn shut(value: Loose<Seated, Global>) -> SeatHandle
         ensures { result.value ≡ Some value.value }
     {
@@ -80,7 +80,7 @@ impl SeatHandle {
         }
     }
 
-    /// The box.
+    /// Returns the box.
     fn open(self) -> Loose<Seated, Global>
         requires { IsSome self.value }
         ensures { self.value ≡ Some result.value }
@@ -92,7 +92,7 @@ impl SeatHandle {
         }
     }
 
-    /// What the box holds, where it is. It is held again once the borrow ends.
+    /// Lends the content of the box where it is. It is held again once the borrow ends.
     #[inline(always)]
     pub(super) fn lend(&mut self) -> &mut Seated
         requires { IsSome self.old.value }

@@ -17,8 +17,8 @@ ghost use Rattle.metronome_c.specs.declared.status.Status.TheVariants.{Done, Clo
 
 use crate::seats::seat::MetronomeSeat;
 
-/// What is promised of a heap with its history holds of the heap that a seat has in its turn, with the events that led
-/// there: those of the log that the seat has seen, of whichever seats, and then its own.
+/// All that is promised of a heap with its history holds of the heap that a seat has in its turn. The events that led there are
+/// those of the log that the seat has seen, by all seats, and then its own.
 pub fn seats_keep_promises(seat: &mut MetronomeSeat)
     ensures same { seat_in seat.new ≡ seat_in seat.old }
     ensures promised { IfOk (seat_in seat.old) (λ s. IfSome s.turn (IsPromised s)) }
@@ -26,9 +26,9 @@ pub fn seats_keep_promises(seat: &mut MetronomeSeat)
     let _asked = seat.ask(|member| member.promise());
 }
 
-/// If a heap of a closed handle was made with a plan, and a seat has the turn, no reply was the refusal for lack of space,
-/// whatever its seats did in whichever threads. Live objects must have been within the plan whenever a cycle began, by whichever
-/// seat.
+/// If a heap of a closed handle was made with a plan, and a seat has the turn, no reply was the refusal for lack of space. Its
+/// seats may have done anything, in any threads. Live objects must have been within the plan whenever a cycle began, by
+/// whichever seat.
 pub fn kept_seats_find_room(seat: &mut MetronomeSeat)
     ensures same { seat_in seat.new ≡ seat_in seat.old }
     ensures room { (s : Settings) (ring status : ℕ) (flow : MetronomeFlow) (first : MemberView)

@@ -13,8 +13,8 @@ use heap_shared::{Member, SharedConfig};
 use paced::Plan;
 use size_classes::{Config, Settings};
 
-/// Makes a heap of these settings and the first seat at it, where the handle is closed and the program was built for
-/// this version. Of a program for another one nothing is read but that version.
+/// Makes a heap of these settings and the first seat at it, if the handle is closed and the program was built for this version.
+/// If it was built for another one, only that version is read.
 #[unsafe(no_mangle)]
 pub extern "C" fn metronome_seat_create_for(
     seat: &mut MetronomeSeat,
@@ -30,8 +30,8 @@ pub extern "C" fn metronome_seat_create_for(
     create(seat, settings, 0, None)
 }
 
-/// Makes a heap of these settings, with a ring of this capacity and a plan, if it is to keep one, and the first seat at it, where
-/// the handle is closed. That the plan fits is for the caller to see.
+/// Makes a heap of these settings, with a ring of this capacity, and the first seat at it, if the handle is closed. The heap
+/// keeps this plan, if one is given. The caller must check that the plan fits.
 pub(super) fn create(
     seat: &mut MetronomeSeat,
     settings: &Settings,
@@ -63,8 +63,8 @@ pub(super) fn create(
     }
 }
 
-/// Makes another seat at the same heap, where its handle is closed: it calls for the seat's mutators from a number on.
-/// The seat keeps those below.
+/// Makes another seat at the same heap, if its handle is closed. It calls for the seat's mutators from a number on, and the
+/// seat keeps those below.
 #[unsafe(no_mangle)]
 pub extern "C" fn metronome_seat_another(
     seat: &mut MetronomeSeat,
@@ -95,8 +95,8 @@ pub extern "C" fn metronome_seat_another(
     }
 }
 
-/// Gives a seat back, and the turn before, if it has it: a member that has it can't be given up. The heap's memory is given
-/// back with its last seat. Where the handle holds none nothing is done.
+/// Gives a seat back, and before it the turn, if the seat has it: a member that has the turn can't be given up. The heap's
+/// memory is given back with its last seat. If the handle holds none, nothing is done.
 #[unsafe(no_mangle)]
 pub extern "C" fn metronome_seat_destroy(seat: &mut MetronomeSeat)
     ensures { Destroys (seat_in seat.old) (seat_in seat.new) }

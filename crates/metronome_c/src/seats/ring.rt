@@ -22,10 +22,9 @@ use heap_shared::NoEntry;
 use paced::Logged;
 use size_classes::Settings;
 
-/// A command: which one it is, by its place among the variants of `graph_heap::Command`, and its numbers and words in
-/// their order there, and 0 where it has no more. Of a shape the numbers are its kind, and how many cells of each kind it
-/// has. Behind these come what the collector is asked to do: to begin, and a quantum, whose numbers are its budget, the units
-/// that it spent, and the phase behind it.
+/// A command: its place among the variants of `graph_heap::Command`, and its numbers and words in their order there, and 0 if
+/// it has no more. The numbers of a shape are its kind, and how many cells of each kind it has. Beginnings and quanta of the
+/// collector come after the variants. The numbers of a quantum are its budget, the units that it spent, and the phase after it.
 #[repr(C)]
 #[derive(Clone, Copy, Debug, PartialEq, Eq)]
 pub struct MetronomeCommand {
@@ -38,9 +37,9 @@ pub struct MetronomeCommand {
     pub second_word: u64,
 }
 
-/// What there is at a place of a log: of kind 1 an event, of kind 0 none any more, of kind 2 none yet. An event says whose
-/// command it was, the command, its answer, and the shape that this tells, or a plain one without cells. Of what the collector
-/// is asked to do the mutator is 0.
+/// The entry at a place of a log. Kind 1 is an event, kind 0 one that is no longer kept, and kind 2 a place that the log hasn't
+/// reached. An event has the mutator, the command, its answer, and the shape that the answer tells, or a plain one without
+/// cells. If the collector is called, the mutator is 0.
 #[repr(C)]
 #[derive(Clone, Copy, Debug, PartialEq, Eq)]
 pub struct MetronomeEntry {
@@ -51,14 +50,14 @@ pub struct MetronomeEntry {
     pub shape: MetronomeShape,
 }
 
-/// A shape without cells.
+/// Stands for a shape without cells.
 const NO_CELLS: MetronomeShape = MetronomeShape {
     kind: 0,
     refs: 0,
     words: 0,
 };
 
-/// No event any more.
+/// Stands for an event that is no longer kept.
 const NO_ENTRY: MetronomeEntry = MetronomeEntry {
     kind: 0,
     mutator: 0,
@@ -76,7 +75,7 @@ const NO_ENTRY: MetronomeEntry = MetronomeEntry {
 };
 
 impl MetronomeCommand {
-    /// A command of this kind, with these numbers and words.
+    /// Returns a command of this kind, with these numbers and words.
     fn of_kind(kind: u32, numbers: [u32; 4], words: [u64; 2]) -> MetronomeCommand
         ensures { result ≡ asked kind numbers words }
     {
@@ -91,7 +90,7 @@ impl MetronomeCommand {
         }
     }
 
-    /// The command, as C sees it.
+    /// Returns the command, as C sees it.
     fn from_command(command: Command) -> MetronomeCommand
         ensures { result ≡ command_of command }
     {
@@ -126,7 +125,7 @@ impl MetronomeCommand {
 }
 
 impl MetronomeEntry {
-    /// What the collector was asked to do, as C sees it.
+    /// Returns a call of the collector, as C sees it.
     fn of_collector(kind: u32, numbers: [u32; 4], told: Result<Reply, Status>) -> MetronomeEntry
         ensures { result ≡ collected kind numbers told }
     {
@@ -139,7 +138,7 @@ impl MetronomeEntry {
         }
     }
 
-    /// An event, as C sees it.
+    /// Returns an event, as C sees it.
     fn from_event(event: Logged) -> MetronomeEntry
         ensures { result ≡ entry_of (event_of event) }
     {
@@ -172,7 +171,7 @@ impl MetronomeEntry {
         }
     }
 
-    /// What there is at a place, as C sees it.
+    /// Returns the entry at a place, as C sees it.
     fn from_found(found: Result<Logged, NoEntry>) -> MetronomeEntry
         ensures { result ≡ entry_found found }
     {
@@ -187,8 +186,8 @@ impl MetronomeEntry {
     }
 }
 
-/// Makes a heap of these settings and the first seat at it, as `metronome_seat_create_for` does, which keeps the last
-/// events of its log, so many. All memory for them is taken here.
+/// Makes a heap of these settings and the first seat at it, as `metronome_seat_create_for` does. The heap keeps the last `ring`
+/// entries of its log. All memory for them is taken here.
 #[unsafe(no_mangle)]
 pub extern "C" fn metronome_seat_create_logged_for(
     seat: &mut MetronomeSeat,
@@ -205,7 +204,7 @@ pub extern "C" fn metronome_seat_create_logged_for(
     create(seat, settings, ring, None)
 }
 
-/// Tells what there is at a place of the log, from 0, as it wraps at 2^63, in the turn of the seat.
+/// Stores the entry at a place of the log, from 0, as it wraps at 2^63, in the turn of the seat.
 #[unsafe(no_mangle)]
 pub extern "C" fn metronome_seat_entry(
     seat: &mut MetronomeSeat,

@@ -1,4 +1,4 @@
-//! What a thread of C holds: a seat at a heap that threads share, or none.
+//! The struct that a thread of C holds: a seat at a heap that threads share, or none.
 ghost use Rattle.std.specs.Prelude.{◌≡◌, ◌==◌, Some, None, IsSome, false, MatchResult};
 ghost use Rattle.std.specs.Option.{is_some};
 ghost use Rattle.std.specs.Fn.{FnOnceReturnsAt, FnOnceReturnsAtMut};
@@ -24,7 +24,7 @@ use std::mem::replace;
 /// handle.
 const SEAT_CHECK_WORD: u64 = 5_567_949_226_874_585_428;
 
-/// What a thread of C holds: a seat at a heap, or none. All zeros hold none.
+/// A seat at a heap, or none, as a thread of C holds it. All zeros hold none.
 #[repr(C)]
 pub struct MetronomeSeat {
     pub handle: SeatHandle,
@@ -36,7 +36,7 @@ pub struct MetronomeSeat {
 impl MetronomeSeat {
     ghost use Rattle.metronome_c.specs.Opened.{absence, seat_in};
 
-    /// No seat.
+    /// Returns a struct that holds no seat.
     pub(super) fn closed(alloc: Global) -> MetronomeSeat
         ensures value { result.handle.value ≡ None }
         ensures check { result.check ≡ 0 }
@@ -48,7 +48,7 @@ impl MetronomeSeat {
         }
     }
 
-    /// Whether it holds a seat.
+    /// Returns whether it holds a seat.
     #[inline(always)]
     pub(super) fn is_open(&self) -> bool
         ensures { result ≡ is_some self.now.handle.value }
@@ -56,14 +56,14 @@ impl MetronomeSeat {
         self.check == SEAT_CHECK_WORD
     }
 
-    /// Whether its check word is that of a closed handle.
+    /// Returns whether its check word is that of a closed handle.
     pub(super) fn is_closed(&self) -> bool
         ensures { result ≡ (self.now.check == 0) }
     {
         self.check == 0
     }
 
-    /// Why it holds no seat, where it holds none.
+    /// Returns why it holds no seat, if it holds none.
     pub(super) fn why_empty(&self) -> Status
         ensures { result ≡ absence (self.now.check == 0) }
     {
@@ -74,7 +74,7 @@ impl MetronomeSeat {
         }
     }
 
-    /// Holds this member, where it holds none. Where there is no memory for that the member comes back, and nothing changes.
+    /// Holds this member, if it holds none. If there is no memory for that, the member comes back, and nothing changes.
     pub(super) fn put(&mut self, member: Member) -> Result<(), Member>
         requires { is_some self.old.handle.value ≡ false }
         ensures { MatchResult result (λ _. self.new.handle.value ≡ Some member)
@@ -89,7 +89,7 @@ impl MetronomeSeat {
         Ok(())
     }
 
-    /// The member. None is left.
+    /// Returns the member. None is left.
     pub(super) fn take(&mut self) -> Member
         requires { IsSome self.old.handle.value }
         ensures value { self.old.handle.value ≡ Some result }
@@ -100,7 +100,7 @@ impl MetronomeSeat {
         replace(self, closed).into_handle().into_member()
     }
 
-    /// The handle of the member.
+    /// Returns the handle of the member.
     fn into_handle(self) -> SeatHandle
         ensures { result ≡ self.handle }
     {
@@ -127,7 +127,7 @@ impl MetronomeSeat {
         Ok(call(self.handle.lend().member()))
     }
 
-    /// What is found of the heap, if there is a seat that has the turn.
+    /// Asks the heap, if there is a seat that has the turn, and returns what was found.
     pub(super) fn inspect<T, F: FnOnce(&Heap) -> T + Drop>(&mut self, look: F) -> Result<T, Status>
         requires { F.IsAlwaysCallable look }
         ensures { AsksSeat (Finds (FnOnceReturnsAt F.FnOnce look)) (told_or Outside) (seat_in self.old)

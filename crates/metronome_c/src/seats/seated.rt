@@ -1,4 +1,4 @@
-//! What the box of a seat's handle holds.
+//! The content of the box of a seat's handle, which is a member.
 ghost use Rattle.std.specs.Prelude.{◌≡◌};
 ghost use Rattle.std.specs.Borrow.{sem};
 
@@ -6,8 +6,8 @@ use heap_shared::Member;
 use std::marker::Model;
 use std::mem::ManuallyDrop;
 
-/// A member in a box. A box becomes a pointer only if its value may be let go, and a member may not: so this holds one that
-/// `into_member` gives back, and it is let go nowhere.
+/// A member in a box. A box becomes a pointer only if its value may be dropped, and a member may not. So this holds one that
+/// `into_member` gives back, and nothing drops it.
 #[derive(Drop)]
 pub struct Seated {
     member: ManuallyDrop<Member>,
@@ -25,7 +25,7 @@ impl Model for Seated {
 impl Seated {
     ghost use Rattle.metronome_c.specs.Lending.{LendsMember};
 
-    /// This member.
+    /// Returns a box's content that holds this member.
     pub(super) fn new(member: Member) -> Seated
         ensures { result ≡ member }
     {
@@ -34,7 +34,7 @@ impl Seated {
         Seated { member }
     }
 
-    /// The member.
+    /// Returns the member.
     pub(super) fn into_member(self) -> Member
         ensures { result ≡ self }
     {
@@ -42,7 +42,7 @@ impl Seated {
         ManuallyDrop::into_inner(member)
     }
 
-    /// The member where it is.
+    /// Lends the member where it is.
     #[inline(always)]
     pub(super) fn member(&mut self) -> &mut Member
         ensures* writes_back { sem 𝓛 (LendsMember self.entry result) }

@@ -10,7 +10,7 @@ use crate::figures::tell;
 use crate::seats::seat::MetronomeSeat;
 use crate::status::Status;
 
-/// Takes the turn, where no other seat has it.
+/// Takes the turn, if no other seat has it.
 #[unsafe(no_mangle)]
 pub extern "C" fn metronome_seat_enter(seat: &mut MetronomeSeat) -> u32
     ensures { TellsStatus Enters (told_by no_turn_status) (seat_in seat.old) (seat_in seat.new) result }
@@ -36,7 +36,7 @@ pub extern "C" fn metronome_seat_leave(seat: &mut MetronomeSeat) -> u32
     status.number()
 }
 
-/// Tells the length of the history, as it wraps at 2^63, while the seat hasn't the turn.
+/// Stores the length of the history, as it wraps at 2^63, while the seat doesn't have the turn.
 #[unsafe(no_mangle)]
 pub extern "C" fn metronome_seat_place(seat: &mut MetronomeSeat, place: &mut u64) -> u32
     ensures { AsksSeat Places (told_or Inside) (seat_in seat.old) (seat_in seat.new)

@@ -36,7 +36,7 @@ IsInRange (Mmu words windows) = (0 < length windows.items) × All IsWindow windo
 IsInRange (Draw words drawing) = IsDrawable drawing
 IsInRange _ = Unit {0}
 
--- the words of a job that every subcommand has
+-- the words of a job that name its files, and its flags
 abbrev pub words_of : Job → Words
 words_of (Play words history) = words
 words_of (Check words) = words
@@ -60,12 +60,12 @@ report_name reports.Pages = codes "page"
 report_name reports.Sizes = codes "size"
 report_name reports.Shapes = codes "shape"
 
--- The drawing has this name. It is the run, with the plans for this many live words; or, after this many event lines,
--- its events, or at most this many objects of its graph.
-abbrev pub IsDrawing : List ℕ → Option ℕ → Option ℕ → Option ℕ → Drawing → Type 0
-IsDrawing name lines objects words (drawings.Run form live) =
+-- The drawing has this name. It is the run, with the plans for this many live words, and compared if another
+-- configuration is named. Or it is, after this many event lines, its events, or at most this many objects of its graph.
+abbrev pub IsDrawing : List ℕ → Option ℕ → Option ℕ → Option ℕ → Option (List ℕ) → Drawing → Type 0
+IsDrawing name lines objects words other (drawings.Run form live) =
     (name ≡ form_name form) × (lines ≡ None) × (objects ≡ None) × (words ≡ live)
-IsDrawing name lines objects words (drawings.Events after) =
-    (name ≡ codes "events") × (lines ≡ after) × (objects ≡ None) × (words ≡ None)
-IsDrawing name lines objects words (drawings.Graph after most) =
-    (name ≡ codes "graph") × (lines ≡ after) × (most ≡ unwrap_or objects 500) × (words ≡ None)
+IsDrawing name lines objects words other (drawings.Events after) =
+    (name ≡ codes "events") × (lines ≡ after) × (objects ≡ None) × (words ≡ None) × (other ≡ None)
+IsDrawing name lines objects words other (drawings.Graph after most) =
+    (name ≡ codes "graph") × (lines ≡ after) × (most ≡ unwrap_or objects 500) × (words ≡ None) × (other ≡ None)

@@ -113,7 +113,7 @@ mmu = on_trace (codes "mmu") (numbers (codes "WINDOW") ∷ [])
 abbrev pub draw : Shape
 draw = on_trace (codes "draw")
     (by_default (codes "page") (word (codes "as")) ∷ figure (codes "after") ∷ figure (codes "most")
-    ∷ long_figure (codes "live") ∷ [])
+    ∷ long_figure (codes "live") ∷ word (codes "compare") ∷ [])
 
 -- prints how many pages suffice
 abbrev pub pages : Shape

@@ -55,7 +55,7 @@ abbrev pub IsDrawn : List Row → Drawing → Type 0
 IsDrawn rows drawing = (after : Option ℕ) × (most : Option ℕ) × (live : Option ℕ)
     × IsNumber 32 (one_of (codes "after") rows) after
     × IsNumber 32 (one_of (codes "most") rows) most × IsNumber 64 (one_of (codes "live") rows) live
-    × IsDrawing (unwrap_or (first_of (codes "as") rows) []) after most live drawing
+    × IsDrawing (unwrap_or (first_of (codes "as") rows) []) after most live (first_of (codes "compare") rows) drawing
 
 -- a subcommand and its arguments ask for a job
 abbrev pub Asks : Text → List Row → Job → Type 0
@@ -92,10 +92,12 @@ NamesFile None rows file = file ≡ None
 NamesFile (Some argument) rows None = ⊥
 NamesFile (Some argument) rows (Some file) = first_of argument rows ≡ Some file.now
 
--- a subcommand and its arguments have these words: they name its files, and set its two flags
+-- a subcommand and its arguments have these words: they name its files, and set its two flags; only `draw` has an argument
+-- that names a second configuration
 pub record AreWords (name : Text) (rows : List Row) (words : Words) : Type 0 where
   pub config : first_of (codes "CONFIG") rows ≡ Some words.config.now
   pub file : NamesFile (file_argument name) rows words.file
+  pub compare : option_map (λ file. file.now) words.compare ≡ first_of (codes "compare") rows
   pub progress : IsFlag (one_of (codes "progress") rows) words.progress
   pub explain : IsFlag (one_of (codes "explain") rows) words.explain
 

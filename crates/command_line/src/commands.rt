@@ -105,6 +105,7 @@ fn draw<'a>(alloc: Global) -> Result<Command<'a>, AllocError>
     let help = "What to write: page, data, events or graph";
     let most = "Draw at most N objects of a graph, 500 if not said";
     let live = "Show the plans for N words of the blocks of live objects";
+    let compare = "Show the run on this configuration, too";
     on_trace(
         alloc,
         "draw",
@@ -113,7 +114,8 @@ fn draw<'a>(alloc: Global) -> Result<Command<'a>, AllocError>
     .arg(by_default(word(alloc, "as", "PICTURE", help), "page"))?
     .arg(after(alloc))?
     .arg(figure(alloc, "most", "N", most))?
-    .arg(long_figure(alloc, "live", "N", live))
+    .arg(long_figure(alloc, "live", "N", live))?
+    .arg(word(alloc, "compare", "CONFIG", compare))
 }
 
 fn pages<'a>(alloc: Global) -> Result<Command<'a>, AllocError>

@@ -46,13 +46,15 @@ pub enum Drawing {
     Graph { after: Option<u32>, most: u32 },
 }
 
-/// The words that every subcommand has: the names of its files, and two flags.
+/// The words that subcommands have: the names of their files, and two flags.
 #[derive(Clone, Copy)]
 pub struct Words<'a> {
     /// The file of the configuration.
     pub config: &'a str,
     /// The other file, if the subcommand has one; `-` is standard input.
     pub file: Option<&'a str>,
+    /// The file of the configuration on which the run is compared, if it is.
+    pub compare: Option<&'a str>,
     /// Whether standard error gets the number of lines that were read.
     pub progress: bool,
     /// Whether standard error gets an explanation of a fault.
@@ -119,7 +121,7 @@ pub enum Job<'a> {
 }
 
 impl<'a> Job<'a> {
-    /// Returns the words that every subcommand has.
+    /// Returns the words that name its files, and its flags.
     pub fn words(&self) -> Words<'a>
         ensures { result ≡ words_of self.now }
     {

@@ -3,6 +3,7 @@
 
 mod classes;
 mod commands;
+mod drawings;
 mod fault;
 mod job;
 mod words;

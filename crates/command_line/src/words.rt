@@ -4,13 +4,14 @@ ghost use Rattle.std.specs.List.{All, Any};
 ghost use Rattle.std.specs.Prelude.{[], Some, codes, map, option_map, unwrap_or};
 ghost use Rattle.std.specs.List.{AllZip};
 ghost use Rattle.clap.specs.Words.{found_of, rows_of, first_of, one_of, kind_of};
-ghost use Rattle.command_line.specs.Job.{IsDrawable, IsDrawing, IsInRange, IsWindow, form_name, report_name, words_of};
-ghost use Rattle.command_line.specs.Words.{AreWords, Asks, AsksFor, IsDrawn, file_argument, NamesFile, IsFlag, IsNumber, IsSizing, IsAskedFor, IsAskedForBy, HelpIsAskedFor, IsHelp};
+ghost use Rattle.command_line.specs.Job.{IsInRange, IsWindow, report_name, words_of};
+ghost use Rattle.command_line.specs.Words.{AreWords, Asks, AsksFor, file_argument, NamesFile, IsFlag, IsNumber, IsSizing, IsAskedFor, IsAskedForBy, HelpIsAskedFor, IsHelp};
 
 use crate::classes::classes_said;
 use crate::commands::program;
+use crate::drawings::drawing;
 use crate::fault::{Refusal, WordsFault};
-use crate::job::{Drawing, Form, Job, Report, Sizing, Words};
+use crate::job::{Job, Report, Sizing, Words};
 use clap::ArgMatches;
 use clap::error::ErrorKind;
 use size_classes::{LEAST_BUDGET, MOST_BUDGET};
@@ -65,13 +66,14 @@ fn file_of<'a>(
     }
 }
 
-/// Returns the words that every subcommand has.
+/// Returns the names of a subcommand's files, and its flags.
 fn words_of<'a>(alloc: Global, name: &str, found: &ArgMatches<'a>) -> Result<Words<'a>, Refusal>
     ensures { IfOk result (AreWords name.now (rows_of (found_of found.now))) }
 {
     Ok(Words {
         config: file(alloc, found, "CONFIG")?,
         file: file_of(alloc, name, found)?,
+        compare: word(found, "compare"),
         progress: flag(found, "progress"),
         explain: flag(found, "explain"),
     })
@@ -215,7 +217,7 @@ fn heap_job<'a>(
 }
 
 /// Returns the choice that a word names, of those that an argument has.
-fn chosen<T: Copy>(
+pub(crate) fn chosen<T: Copy>(
     alloc: Global,
     word: &str,
     choices: &[(&str, T)],
@@ -246,62 +248,6 @@ fn report(alloc: Global, name: &str) -> Result<Report, Refusal>
     chosen(alloc, name, &reports, "--by <PART>", expected)
 }
 
-/// Returns the drawing that the words of `draw` ask for.
-fn drawing(alloc: Global, found: &ArgMatches) -> Result<Drawing, Refusal>
-    ensures range { IfOk result IsDrawable }
-    ensures asked { IfOk result (IsDrawn (rows_of (found_of found.now))) }
-{
-    // (clap gives `as` its default if it isn't named)
-    let name = word(found, "as").unwrap_or("");
-    let (most, live) = (number(found, "most"), long_number(found, "live"));
-    drawing_of(alloc, name, number(found, "after"), most, live)
-}
-
-/// Returns the drawing that has this name. A run is drawn whole; only a run has plans; and only a graph has a number of
-/// objects.
-fn drawing_of(
-    alloc: Global,
-    name: &str,
-    after: Option<u32>,
-    most: Option<u32>,
-    live: Option<u64>,
-) -> Result<Drawing, Refusal>
-    ensures range { IfOk result IsDrawable }
-    ensures named { IfOk result (IsDrawing name.now after most live) }
-{
-    if name == "graph" {
-        without(alloc, live, "--live <N>", name)?;
-        let most = most.unwrap_or(500);
-        within(alloc, "--most <N>", u64::from(most), 1, 4294967295)?;
-        return Ok(Drawing::Graph { after, most });
-    }
-    if name == "events" {
-        without(alloc, live, "--live <N>", name)?;
-        without(alloc, most, "--most <N>", name)?;
-        return Ok(Drawing::Events { after });
-    }
-    let form = form(alloc, name)?;
-    without(alloc, most, "--most <N>", name)?;
-    without(alloc, after, "--after <N>", name)?;
-    Ok(Drawing::Run { form, live })
-}
-
-/// Refuses a number that a drawing doesn't take, as `clap` does.
-fn without<T: Copy>(
-    alloc: Global,
-    number: Option<T>,
-    argument: &str,
-    name: &str,
-) -> Result<(), Refusal>
-    ensures { OnOk result (number ≡ None) }
-{
-    if number.is_none() {
-        return Ok(());
-    }
-    let why = format_args!("the argument '{argument}' cannot be used with '--as {name}'");
-    Err(refused(alloc, why))
-}
-
 /// Returns the base from which the pages are calculated. At most one may be asked for.
 fn sizing(alloc: Global, pace: bool, plan: bool) -> Result<Sizing, Refusal>
     ensures { IfOk result (IsSizing pace plan) }
@@ -312,15 +258,6 @@ fn sizing(alloc: Global, pace: bool, plan: bool) -> Result<Sizing, Refusal>
         (false, true) => Ok(Sizing::Plan),
         (true, true) => Err(refused(alloc, "the argument '--pace' cannot be used with '--plan'")),
     }
-}
-
-/// Returns the form of a run's data that has this name.
-fn form(alloc: Global, name: &str) -> Result<Form, Refusal>
-    ensures { IfOk result (λ form. name.now ≡ form_name form) }
-{
-    let forms = [("page", Form::Page), ("data", Form::Data)];
-    let expected = "none of data, events, graph and page";
-    chosen(alloc, name, &forms, "--as <PICTURE>", expected)
 }
 
 /// Returns the ticks of each window: there is at least one.
@@ -356,7 +293,7 @@ fn file<'a>(alloc: Global, found: &ArgMatches<'a>, name: &str) -> Result<&'a str
 }
 
 /// Returns the first word of an argument.
-fn word<'a>(found: &ArgMatches<'a>, name: &str) -> Option<&'a str>
+pub(crate) fn word<'a>(found: &ArgMatches<'a>, name: &str) -> Option<&'a str>
     ensures { option_map (λ word. word.now) result ≡ first_of name.now (rows_of (found_of found.now)) }
 {
     found.get_str(name)
@@ -370,21 +307,27 @@ fn flag(found: &ArgMatches, name: &str) -> bool
 }
 
 /// Returns the number of an argument.
-fn number(found: &ArgMatches, name: &str) -> Option<u32>
+pub(crate) fn number(found: &ArgMatches, name: &str) -> Option<u32>
     ensures { IsNumber 32 (one_of name.now (rows_of (found_of found.now))) result }
 {
     found.get_one(name)
 }
 
 /// Returns the number of an argument that may be long.
-fn long_number(found: &ArgMatches, name: &str) -> Option<u64>
+pub(crate) fn long_number(found: &ArgMatches, name: &str) -> Option<u64>
     ensures { IsNumber 64 (one_of name.now (rows_of (found_of found.now))) result }
 {
     found.get_one(name)
 }
 
 /// Refuses a number outside its range, as `clap` does.
-fn within(alloc: Global, name: &str, number: u64, least: u64, greatest: u64) -> Result<(), Refusal>
+pub(crate) fn within(
+    alloc: Global,
+    name: &str,
+    number: u64,
+    least: u64,
+    greatest: u64,
+) -> Result<(), Refusal>
     ensures { OnOk result ((least ≤ number) × (number ≤ greatest)) }
 {
     if least <= number && number <= greatest {

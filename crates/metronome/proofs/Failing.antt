@@ -1,5 +1,5 @@
 -- The number of failed reads and writes in a run that ends so.
-use Rattle.std.proofs.Common.{◌≡◌, ℕ, ◌+◌, Bool, true, false, [], inl, inr, refl, sym, subst, ap, ◌∙◌}
+use Rattle.std.proofs.Common.{◌≡◌, ℕ, ◌+◌, Bool, true, false, List, [], inl, inr, refl, sym, subst, ap, ◌∙◌}
 use Rattle.std.specs.Prelude.{Result, Ok, Err}
 use Rattle.std.specs.Result.{IsErrAnd}
 use Rattle.graph_heap.specs.Graph.{Graph, opening}
@@ -26,9 +26,12 @@ use Rattle.sizing.specs.Measuring.{RunMeasured}
 use Rattle.size_classes.specs.declared.fault.ConfigFault.{ConfigFault}
 use Rattle.documents.specs.declared.toml_table.ReadFault.{ReadFault}
 use Rattle.documents.specs.declared.toml_table.ReadFault.TheVariants as settings
+use Rattle.command_line.specs.declared.job.Words.{Words}
 use Rattle.metronome.specs.declared.fault.RunFault.{RunFault}
 use Rattle.metronome.specs.declared.fault.RunFault.TheVariants.{Text}
+use Rattle.metronome.specs.Configs.{IsNotRead, AreNotRead}
 use Rattle.metronome.specs.Faults.{of_settings, IsUnreadable, failed_reads, failed_writes}
+use Rattle.metronome.specs.Files.{KnownFile}
 use Rattle.metronome.specs.Jobs.{finish}
 use Rattle.metronome.specs.declared.answer_job.Answer.{Answer}
 use Rattle.metronome.specs.declared.answer_job.Question.{Question}
@@ -104,8 +107,14 @@ settings_written : (why : ReadFault ConfigFault) → failed_writes {A = Unit {0}
 settings_written (settings.Refused why) = refl
 settings_written settings.NoMemory = refl
 
-pub settings_unwritten : {A : Type 0} (r : Result A RunFault) (why : ReadFault ConfigFault) → IsErrAnd r (λ e. e ≡ of_settings why) → failed_writes r ≡ 0
-settings_unwritten r why h = writes_so r (of_settings why) h ∙ settings_written why
+-- The fault of configurations that weren't read is no failed write.
+pub not_read_unwritten : {A : Type 0} (r : Result A RunFault) (file : KnownFile) (fault : RunFault) → IsErrAnd r (λ e. e ≡ fault) → IsNotRead file fault → failed_writes r ≡ 0
+not_read_unwritten r file fault h (inl (why, read, is)) = writes_so r fault h ∙ ap (λ w. failed_writes {A = Unit {0}} (Err w)) is ∙ settings_written why
+not_read_unwritten r file fault h (inr u) = unreadable_unwritten r file.failed fault h u
+
+pub configs_unwritten : {A : Type 0} (r : Result A RunFault) (named : List ℕ → KnownFile) (words : Words) (fault : RunFault) → IsErrAnd r (λ e. e ≡ fault) → AreNotRead named words fault → failed_writes r ≡ 0
+configs_unwritten r named words fault h (inl none) = not_read_unwritten r (named words.config.now) fault h none
+configs_unwritten r named words fault h (inr (config, read, name, is, none)) = not_read_unwritten r (named name.now) fault h none
 
 -- No line writes, so no write fails while lines are read.
 unwritten : {A : Type 0} (how : Result A PlayFault) → (how ≡ Err texts.Write → ⊥) → writes_failed how ≡ 0

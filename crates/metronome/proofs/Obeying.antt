@@ -5,7 +5,7 @@ use Rattle.std.specs.Io.KnownBytes.{prepend_known}
 use Rattle.std.specs.Str.{bytes_eq}
 use Rattle.std.proofs.Math.Seq.{take-append_seam}
 use Rattle.std.proofs.lemmas.Option.{same_Some}
-use Rattle.std.specs.Prelude.{codes, nat_lt, if◌then◌else◌, ◌||◌, IsTrue, IfSome, IfOk, Result, Ok, Err}
+use Rattle.std.specs.Prelude.{codes, nat_lt, if◌then◌else◌, IsTrue, IfSome, IfOk, Result, Ok, Err}
 use Rattle.size_classes.specs.declared.config.Config.{Config}
 use Rattle.size_classes.specs.declared.fault.ConfigFault.{ConfigFault}
 use Rattle.size_classes.specs.declared.fault.ConfigFault.TheVariants as faults
@@ -15,12 +15,11 @@ use Rattle.command_line.specs.declared.job.Job.{Job}
 use Rattle.documents.specs.declared.toml_table.ReadFault.{ReadFault}
 use Rattle.documents.specs.declared.toml_table.ReadFault.TheVariants.{Refused, NoMemory}
 use Rattle.trace.specs.Streams.{Given, Taken, Stays, Begins, given_by}
+use Rattle.metronome.specs.declared.configs.Configs.{Configs}
 use Rattle.metronome.specs.declared.fault.Ending.{Ending}
 use Rattle.trace.proofs.LinesProcessed.{stays_on}
-use Rattle.trace.specs.declared.fault.PlayFault.TheVariants as texts
 use Rattle.metronome.specs.declared.fault.RunFault.{RunFault}
-use Rattle.metronome.specs.declared.fault.RunFault.TheVariants.{Text}
-use Rattle.metronome.specs.Faults.{failed_reads, IsUnreadable}
+use Rattle.metronome.specs.Faults.{failed_reads}
 use Rattle.metronome.specs.Files.{KnownFile, KnownFiles, no_file, IsOpened, IsFront, document_bytes}
 use Rattle.metronome.specs.Texts.{IsRest}
 use Rattle.metronome.specs.Done.{JobDone}
@@ -106,38 +105,24 @@ known_read (Some all) bytes r e h = read_whole all r (subst (λ b. IsRead b r) e
 pub config_seen : (known : Option (List ℕ)) (bytes seen : List ℕ) (r : Result Config (ReadFault ConfigFault)) → IfSome known (λ all. bytes ≡ document_bytes all) → seen ≡ bytes → IsRead seen r → IfSome known (λ all. IsRead all r)
 config_seen known bytes seen r e same h = known_read known bytes r e (subst (λ b. IsRead b r) same h)
 
--- A file that can't be read stays so, if more is known to have failed.
-pub unreadable_so : (p q : Bool) (fault : RunFault) → (IsTrue p → IsTrue q) → IsUnreadable p fault → IsUnreadable q fault
-unreadable_so p q (Text texts.Read) f u = f u
-unreadable_so p q (Text texts.NoMemory) f u = tt
-unreadable_so p q fault f u = elim u [ ]
-
-pub or_left : (a b : Bool) → IsTrue a → IsTrue (a || b)
-or_left true b t = refl
-or_left false b t = absurd (cc)
-
-pub or_right : (a b : Bool) → IsTrue b → IsTrue (a || b)
-or_right true b t = refl
-or_right false b t = t
-
 -- A job that ends in a failed read has a file of which a read failed.
 pub reads_told : {S : Type 0} (file : KnownFile) (failures : S → ℕ) (old new : S) (how : Result Ending RunFault) → failures old ≡ 0 → ((later : S) → 0 < failures later → IsTrue file.failed) → failures new ≡ failures old + failed_reads how → 0 < failed_reads how
     → IsTrue file.failed
 reads_told file failures old new how none fails counts few = fails new (omega (arith, none, counts, few))
 
 -- A job from a source is a job from the file that the source reads.
-pub job_on : (given : Given) (file : KnownFile) (input : Option (List ℕ)) (job : Job) (config : Config) (taken : Taken) (how : Result Ending RunFault) → given.before ≡ [] → Stays file.bytes input → JobDone job config given taken how → IsGivenOf input given how
-    → (0 < failed_reads how → IsTrue file.failed) → JobDoneOn file job config taken how
-job_on given file input job config taken how first stays done is reads = (given, first, (λ none. begins_on file.bytes input given.after given.ended stays (is none)), done, reads)
+pub job_on : (given : Given) (file : KnownFile) (input : Option (List ℕ)) (job : Job) (configs : Configs) (taken : Taken) (how : Result Ending RunFault) → given.before ≡ [] → Stays file.bytes input → JobDone job configs given taken how → IsGivenOf input given how
+    → (0 < failed_reads how → IsTrue file.failed) → JobDoneOn file job configs taken how
+job_on given file input job configs taken how first stays done is reads = (given, first, (λ none. begins_on file.bytes input given.after given.ended stays (is none)), done, reads)
 
 -- So it is a job from the file that was opened as its source.
-pub job_from : {S : Type 0} (file : KnownFile) (given : S → List ℕ) (ended : S → Bool) (failures : S → ℕ) (input : S → Option (List ℕ)) (old new : S) (job : Job) (config : Config) (taken : Taken) (how : Result Ending RunFault) → IsOpened given failures input file old
-    → JobDone job config (given_by given ended old new) taken how → failures new ≡ failures old + failed_reads how → IsGivenOf (input old) (given_by given ended old new) how → JobDoneOn file job config taken how
-job_from file given ended failures input old new job config taken how opened done counts is =
-    job_on (given_by given ended old new) file (input old) job config taken how opened.0 opened.2 done is (reads_told file failures old new how opened.1 opened.3 counts)
+pub job_from : {S : Type 0} (file : KnownFile) (given : S → List ℕ) (ended : S → Bool) (failures : S → ℕ) (input : S → Option (List ℕ)) (old new : S) (job : Job) (configs : Configs) (taken : Taken) (how : Result Ending RunFault) → IsOpened given failures input file old
+    → JobDone job configs (given_by given ended old new) taken how → failures new ≡ failures old + failed_reads how → IsGivenOf (input old) (given_by given ended old new) how → JobDoneOn file job configs taken how
+job_from file given ended failures input old new job configs taken how opened done counts is =
+    job_on (given_by given ended old new) file (input old) job configs taken how opened.0 opened.2 done is (reads_told file failures old new how opened.1 opened.3 counts)
 
-pub job_of : (file other : KnownFile) (job : Job) (config : Config) (taken : Taken) (how : Result Ending RunFault) → other ≡ file → JobDoneOn file job config taken how → JobDoneOn other job config taken how
-job_of file other job config taken how e done = subst (λ f. JobDoneOn f job config taken how) (sym e) done
+pub job_of : (file other : KnownFile) (job : Job) (configs : Configs) (taken : Taken) (how : Result Ending RunFault) → other ≡ file → JobDoneOn file job configs taken how → JobDoneOn other job configs taken how
+job_of file other job configs taken how e done = subst (λ f. JobDoneOn f job configs taken how) (sym e) done
 
 module _ (files : KnownFiles) where
   -- A job's other file is standard input, or the file of its name; or it has none.

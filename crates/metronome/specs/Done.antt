@@ -1,16 +1,20 @@
 -- The files that a job of the command line reads and writes.
-use Rattle.std.specs.Prelude.{Bool, if◌then◌else◌, None, option_map, Result}
+use Rattle.std.specs.Prelude.{ℕ, Bool, if◌then◌else◌, Option, Some, None, option_map, Result}
 use Rattle.size_classes.specs.declared.config.Config.{Config}
 use Rattle.heap_model.specs.Event.{present_of}
 use Rattle.trace.specs.Streams.{Given, Taken}
 use Rattle.command_line.specs.declared.job.Job.{Job}
 use Rattle.command_line.specs.declared.job.Drawing.{Drawing}
 use Rattle.command_line.specs.declared.job.Drawing.TheVariants as drawings
+use Rattle.command_line.specs.declared.job.Form.{Form}
 use Rattle.command_line.specs.declared.job.Sizing.{Sizing}
 use Rattle.command_line.specs.declared.job.Sizing.TheVariants.{Demand, Pace, Plan as By_plan}
 use Rattle.command_line.specs.declared.job.Job.TheVariants.{Play, Check, Threads, Inspect, Cycles, Path, Mmu, Draw, Pages, Plan}
 use Rattle.trace.specs.declared.player.style.Style.{Style}
 use Rattle.trace.specs.declared.player.style.Style.TheVariants.{Replies, Entries}
+use Rattle.command_line.specs.declared.job.Words.{Words}
+use Rattle.metronome.specs.declared.configs.Configs.{Configs}
+use Rattle.metronome.specs.declared.configs.NamedConfig.{NamedConfig}
 use Rattle.metronome.specs.declared.fault.Ending.{Ending}
 use Rattle.metronome.specs.declared.fault.Ending.TheVariants.{Done}
 use Rattle.metronome.specs.declared.fault.RunFault.{RunFault}
@@ -23,6 +27,7 @@ use Rattle.plans.specs.Report.{IsPlansReport}
 use Rattle.pictures.specs.Events.{events_picture}
 use Rattle.metronome.specs.Told.{ReportTold, TextWritten}
 use Rattle.metronome.specs.Demand.{DemandTold}
+use Rattle.metronome.specs.TwoRuns.{RunsTold}
 use Rattle.metronome.specs.After.{AfterPlay}
 use Rattle.metronome.specs.Telling.{HeapReported, GraphTold, TellsWhy, WindowsTold}
 
@@ -34,11 +39,23 @@ style_of history = if history then Entries else Replies
 abbrev pub layout_of : Bool → Layout
 layout_of csv = if csv then Commas else Columns
 
+-- The data of a run were drawn; or those of its runs on two configurations, if it is compared.
+abbrev pub RunDrawn : Words → Form → Option ℕ → Config → Option NamedConfig → Given → Taken → Result Ending RunFault
+    → Type 0
+RunDrawn words form live config None = Answered (questions.Run form live) config
+RunDrawn words form live config (Some second) = RunsTold (record {
+  first = record { name = words.config; config = config };
+  second = second;
+  trace = words.file;
+  form = form;
+  live = live;
+})
+
 -- A drawing of a run was made.
-abbrev pub DrawingDone : Drawing → Config → Given → Taken → Result Ending RunFault → Type 0
-DrawingDone (drawings.Run form live) config = Answered (questions.Run form live) config
-DrawingDone (drawings.Events after) config = AfterPlay (λ p. TextWritten Done (events_picture p)) after config
-DrawingDone (drawings.Graph after most) config = AfterPlay (λ p. GraphTold most (present_of p.course)) after config
+abbrev pub DrawingDone : Words → Drawing → Configs → Given → Taken → Result Ending RunFault → Type 0
+DrawingDone words (drawings.Run form live) c = RunDrawn words form live c.config c.compare
+DrawingDone words (drawings.Events after) c = AfterPlay (λ p. TextWritten Done (events_picture p)) after c.config
+DrawingDone words (drawings.Graph after most) c = AfterPlay (λ p. GraphTold most (present_of p.course)) after c.config
 
 -- The number of pages that suffice was reported.
 abbrev pub PagesDone : Sizing → Config → Given → Taken → Result Ending RunFault → Type 0
@@ -47,16 +64,16 @@ PagesDone Pace config = Answered questions.Pace config
 PagesDone By_plan config = Answered questions.Plan config
 
 -- A job was done, as its kind says. A plan reads no other file than the configuration.
-abbrev pub JobDone : Job → Config → Given → Taken → Result Ending RunFault → Type 0
-JobDone (Play words history) config = TracePlayed (style_of history) config
-JobDone (Check words) config = Answered questions.History config
-JobDone (Threads words turns budget) config = ScriptsRun turns budget config
-JobDone (Inspect words by after) config = AfterPlay (λ p. HeapReported by p.course.heap) after config
-JobDone (Cycles words csv) config = Answered (questions.Cycles (layout_of csv)) config
-JobDone (Path words id after) config =
-    AfterPlay (λ p. ReportTold (TellsWhy id p.course.heap (present_of p.course))) after config
-JobDone (Mmu words windows) config = AfterPlay (λ p. WindowsTold config p.timetable windows.items) None config
-JobDone (Draw words drawing) config = DrawingDone drawing config
-JobDone (Pages words by) config = PagesDone by config
-JobDone (Plan words live classes) config =
-    λ given. ReportTold (IsPlansReport (option_map (λ said. said.items) classes) config live)
+abbrev pub JobDone : Job → Configs → Given → Taken → Result Ending RunFault → Type 0
+JobDone (Play words history) c = TracePlayed (style_of history) c.config
+JobDone (Check words) c = Answered questions.History c.config
+JobDone (Threads words turns budget) c = ScriptsRun turns budget c.config
+JobDone (Inspect words by after) c = AfterPlay (λ p. HeapReported by p.course.heap) after c.config
+JobDone (Cycles words csv) c = Answered (questions.Cycles (layout_of csv)) c.config
+JobDone (Path words id after) c =
+    AfterPlay (λ p. ReportTold (TellsWhy id p.course.heap (present_of p.course))) after c.config
+JobDone (Mmu words windows) c = AfterPlay (λ p. WindowsTold c.config p.timetable windows.items) None c.config
+JobDone (Draw words drawing) c = DrawingDone words drawing c
+JobDone (Pages words by) c = PagesDone by c.config
+JobDone (Plan words live classes) c =
+    λ given. ReportTold (IsPlansReport (option_map (λ said. said.items) classes) c.config live)

@@ -10,6 +10,9 @@ pub mod Progress
 pub mod Answered
 pub mod Texts
 pub mod Demand
+pub mod Configs
+pub mod Names
+pub mod TwoRuns
 pub mod Bounds
 pub mod Done
 pub mod Run

@@ -1,24 +1,22 @@
 -- A run of the program: the job for which its words ask, done on the bytes of its files.
-use Rattle.std.specs.Prelude.{◌≡◌, ℕ, ◌<◌, ◌≤◌, ◌⊎◌, ◌||◌, IsTrue, if◌then◌else◌, List, [], ◌++◌, length, codes, Option, Some, None, IfSome, Result, Ok, Err}
+use Rattle.std.specs.Prelude.{◌≡◌, ℕ, ◌<◌, ◌≤◌, ◌⊎◌, IsTrue, if◌then◌else◌, List, [], ◌++◌, length, codes, Option, Some, None, IfSome, Result, Err}
 use Rattle.std.specs.Borrow.{Bor}
 use Rattle.std.specs.Str.{bytes_eq}
-use Rattle.size_classes.specs.declared.config.Config.{Config}
-use Rattle.size_classes.specs.declared.fault.ConfigFault.{ConfigFault}
-use Rattle.documents.specs.ConfigFile.{IsRead}
 use Rattle.command_line.specs.Job.{words_of}
 use Rattle.command_line.specs.Words.{IsAskedForBy, AsksForHelp}
 use Rattle.command_line.specs.declared.job.Job.{Job}
 use Rattle.command_line.specs.declared.job.Words.{Words}
-use Rattle.documents.specs.declared.toml_table.ReadFault.{ReadFault}
 use Rattle.trace.specs.Streams.{Given, Taken, Begins}
+use Rattle.metronome.specs.declared.configs.Configs.{Configs}
 use Rattle.metronome.specs.declared.fault.Ending.{Ending}
 use Rattle.metronome.specs.declared.fault.Ending.TheVariants.{Done}
 use Rattle.metronome.specs.declared.fault.RunFault.{RunFault}
 use Rattle.metronome.specs.declared.fault.RunFault.TheVariants.{Text}
 use Rattle.trace.specs.declared.fault.PlayFault.TheVariants.{Write}
 use Rattle.metronome.specs.Files.{KnownFile, KnownFiles, no_file}
+use Rattle.metronome.specs.Configs.{AreConfigs, AreNotRead}
 use Rattle.metronome.specs.Done.{JobDone}
-use Rattle.metronome.specs.Faults.{of_settings, failed_reads, failed_writes, IsUnreadable, IsOfWords}
+use Rattle.metronome.specs.Faults.{failed_reads, failed_writes, IsUnreadable, IsOfWords}
 use Rattle.metronome.specs.Told.{TextWritten}
 
 -- the line that says why words are refused
@@ -43,9 +41,9 @@ abbrev pub IsGivenOf : Option (List ℕ) → Given → Result Ending RunFault �
 IsGivenOf bytes given how = failed_reads how ≡ 0 → IfSome bytes (λ all. Begins given.after given.ended all)
 
 -- A job was done from the beginning of this file. If it ended in a failed read, a read of the file failed.
-abbrev pub JobDoneOn : KnownFile → Job → Config → Taken → Result Ending RunFault → Type 0
-JobDoneOn file job config taken how = (given : Given) × (given.before ≡ []) × IsGivenOf file.bytes given how
-    × JobDone job config given taken how × (0 < failed_reads how → IsTrue file.failed)
+abbrev pub JobDoneOn : KnownFile → Job → Configs → Taken → Result Ending RunFault → Type 0
+JobDoneOn file job configs taken how = (given : Given) × (given.before ≡ []) × IsGivenOf file.bytes given how
+    × JobDone job configs given taken how × (0 < failed_reads how → IsTrue file.failed)
 
 module _ (files : KnownFiles) where
   -- the job's other file: standard input, or the file of its name; a file without bytes, if it has no other
@@ -53,21 +51,16 @@ module _ (files : KnownFiles) where
   other_file None = no_file
   other_file (Some name) = if bytes_eq name.now (codes "-") then files.input else files.named name.now
 
-  -- The configuration was read from the bytes of this file, if they are known.
-  abbrev pub ConfigRead : List ℕ → Result Config (ReadFault ConfigFault) → Type 0
-  ConfigRead name read = IfSome (files.named name).bytes (λ all. IsRead all read)
-
-  -- The configuration was read, and the job was done on the other file, if it has one. Or the configuration was refused;
-  -- or one of the two files couldn't be read.
+  -- The configurations were read, and the job was done on the other file, if it has one. Or a configuration wasn't read;
+  -- or they were, and the other file couldn't be read.
   abbrev pub Obeyed : Words → Job → Taken → Result Ending RunFault → Type 0
   Obeyed words job taken how =
-      ((config : Config) × ConfigRead words.config.now (Ok config)
-      × JobDoneOn (other_file words.file) job config taken how)
-      ⊎ (((why : ReadFault ConfigFault) × ConfigRead words.config.now (Err why)
-      × NothingDone (of_settings why) taken how)
+      ((configs : Configs) × AreConfigs files.named words configs
+      × JobDoneOn (other_file words.file) job configs taken how)
       ⊎ ((fault : RunFault)
-      × IsUnreadable ((files.named words.config.now).failed || (other_file words.file).failed) fault
-      × NothingDone fault taken how))
+      × (AreNotRead files.named words fault
+      ⊎ ((configs : Configs) × AreConfigs files.named words configs × IsUnreadable (other_file words.file).failed fault))
+      × NothingDone fault taken how)
 
   -- The words ask for a job, which was done; or for help, which was written. Or they were refused; or memory was.
   abbrev pub RunDone : List (List ℕ) → Taken → Result Ending RunFault → Type 0

@@ -44,7 +44,7 @@ pub fn explain<E: Write>(
         Ok(Ending::WrongReply) => explain_reply(errors, words, notes),
         Err(RunFault::Config(fault)) => {
             let bytes = notes.document.as_deref().unwrap_or(&[]);
-            explain_config(alloc, errors, words.config, bytes, *fault)
+            explain_config(alloc, errors, config_name(words, &notes), bytes, *fault)
         }
         Err(RunFault::Text(PlayFault::Line(number, fault))) => {
             explain_line(errors, words, &notes, *number, *fault)
@@ -56,6 +56,14 @@ pub fn explain<E: Write>(
         Err(RunFault::Words(_) | RunFault::NotComplete | RunFault::Text(PlayFault::NoMemory)) => {
             Ok(())
         }
+    }
+}
+
+/// Returns the name of the configuration that was read last.
+fn config_name<'a>(words: Words<'a>, notes: &Notes) -> &'a str {
+    match (notes.config, words.compare) {
+        (Some(_), Some(name)) => name,
+        _ => words.config,
     }
 }
 
@@ -110,21 +118,22 @@ fn explain_reply<E: Write>(errors: &mut E, words: Words, notes: Notes) -> io::Re
     writeln!(errors, "metronome: the reply that was due is {due}")
 }
 
-/// Writes which file can't be read, and the system's error. If the configuration was read, the other file is meant. Also
+/// Writes which file can't be read, and the system's error. If the configurations were read, the other file is meant. Also
 /// writes that a configuration is never read from standard input, if its name is `-`.
 fn explain_unread<E: Write>(errors: &mut E, words: Words, notes: &Notes) -> io::Result<()> {
-    let name = Quoted(words.config.as_bytes());
-    if notes.config.is_some() {
+    let config = config_name(words, notes);
+    if notes.are_configs_read {
         let origin = Origin(words.file.unwrap_or("-"));
         write!(errors, "metronome: {origin} can't be read")?;
     } else {
+        let name = Quoted(config.as_bytes());
         write!(errors, "metronome: {name} can't be read")?;
     }
     if let Some(error) = notes.error {
         write!(errors, ": {error}")?;
     }
     writeln!(errors, "")?;
-    if words.config == "-" {
+    if config == "-" {
         writeln!(
             errors,
             "metronome: a configuration is never read from standard input"

@@ -3,12 +3,14 @@
 
 mod after;
 mod answer_job;
+mod configs;
 mod demand_job;
 mod explain;
 mod fault;
 mod files;
 mod jobs;
 mod measuring;
+mod names;
 mod notes;
 mod plan_job;
 mod progress;
@@ -18,6 +20,7 @@ mod tail;
 #[cfg(test)]
 mod tests;
 mod told;
+mod two_runs;
 
 use fault::RunFault;
 use files::HostFiles;

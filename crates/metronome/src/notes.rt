@@ -22,10 +22,12 @@ pub struct WrongEntry {
 pub struct Notes<'a> {
     /// The words, if they ask for that.
     pub words: Option<Words<'a>>,
-    /// The bytes of the configuration.
+    /// The bytes of the configuration that was read last.
     pub document: Option<Vec<u8>>,
     /// The configuration.
     pub config: Option<Config>,
+    /// Whether all configurations are read that the words name.
+    pub are_configs_read: bool,
     /// The last bytes that were read of the other file.
     pub text: Option<Tail>,
     /// The system's error for a file that can't be opened, or for a read that failed.
@@ -42,6 +44,7 @@ impl<'a> Notes<'a> {
             words: None,
             document: None,
             config: None,
+            are_configs_read: false,
             text: None,
             error: None,
             wrong: None,

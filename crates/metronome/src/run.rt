@@ -4,7 +4,7 @@ ghost use Rattle.std.specs.Io.KnownBytes.{Appends};
 ghost use Rattle.metronome.specs.declared.fault.Ending.{Ending};
 ghost use Rattle.metronome.specs.declared.fault.RunFault.{RunFault};
 ghost use Rattle.trace.specs.Streams.{given_by, taken_by, Stays};
-ghost use Rattle.metronome.specs.Done.{DrawingDone, JobDone, PagesDone, style_of, layout_of};
+ghost use Rattle.metronome.specs.Done.{DrawingDone, JobDone, PagesDone, RunDrawn, style_of, layout_of};
 ghost use Rattle.metronome.specs.Faults.{failed_reads, failed_writes};
 ghost use Rattle.metronome.specs.Files.{read_from};
 ghost use Rattle.metronome.specs.Run.{IsGivenOf, Obeyed, RunDone, RunFlushed, Flushes, words_line};
@@ -12,16 +12,17 @@ ghost use Rattle.metronome.specs.Status.{status_of};
 
 use crate::after::{Telling, after_play};
 use crate::answer_job::{Question, answer_job};
+use crate::configs::{Configs, NamedConfig, read_configs};
 use crate::demand_job::demand_job;
 use crate::explain::explain;
 use crate::fault::{Ending, RunFault};
-use crate::files::{Opener, open_file, read_document};
+use crate::files::{Opener, open_file};
 use crate::jobs::{play_job, threads_job};
 use crate::notes::Notes;
 use crate::plan_job::plan_job;
 use crate::progress::ToldSource;
-use command_line::{Drawing, Job, Sizing, Words, WordsFault, read_words};
-use documents::read_config;
+use crate::two_runs::{TwoRuns, runs_job};
+use command_line::{Drawing, Form, Job, Sizing, Words, WordsFault, read_words};
 use inspector::Layout;
 use size_classes::Config;
 use std::alloc::Global;
@@ -161,21 +162,17 @@ fn obey<O: Opener, R: Read + Drop, K: Sink, E: Write, T: Threads + Wait + Sync>(
         (taken_by K.taken K.sent sink.old sink.new) result }
     ensures writes { K.failures sink.new ≡ K.failures sink.old + failed_writes result }
 {
-    let bytes = read_document(host.alloc, host.opener, words.config, notes)?;
-    let read = read_config(host.alloc, bytes.as_slice());
-    notes.keep_document(bytes);
-    let config = read?;
-    notes.config = Some(config);
+    let configs = read_configs(host.alloc, host.opener, words, notes)?;
     let Some(name) = words.file else {
         let nothing = MemorySource::new(&[]);
-        return serve(host, job, &config, nothing, sink, errors, notes);
+        return serve(host, job, &configs, nothing, sink, errors, notes);
     };
     if name == "-" {
         let source = ReadSource::new(input);
-        return serve(host, job, &config, source, sink, errors, notes);
+        return serve(host, job, &configs, source, sink, errors, notes);
     }
     let file = open_file(host.opener, name, notes)?;
-    serve(host, job, &config, file, sink, errors, notes)
+    serve(host, job, &configs, file, sink, errors, notes)
 }
 
 /// Does a job on the source of the other file. With `--progress`, the lines read are reported on the error stream; with
@@ -183,7 +180,7 @@ fn obey<O: Opener, R: Read + Drop, K: Sink, E: Write, T: Threads + Wait + Sync>(
 fn serve<S: Source + Drop, K: Sink, E: Write, O: Opener, T: Threads + Wait + Sync>(
     host: &Host<O, T>,
     job: &Job,
-    config: &Config,
+    configs: &Configs,
     source: S,
     sink: &mut K,
     errors: &mut E,
@@ -191,14 +188,14 @@ fn serve<S: Source + Drop, K: Sink, E: Write, O: Opener, T: Threads + Wait + Syn
 ) -> Result<Ending, RunFault>
     requires { S.given source ≡ [] }
     ensures done { (after : S)
-        × JobDone job.now config.now (given_by S.given S.ended source after) (taken_by K.taken K.sent sink.old sink.new) result
+        × JobDone job.now configs.now (given_by S.given S.ended source after) (taken_by K.taken K.sent sink.old sink.new) result
         × (S.failures after ≡ S.failures source + failed_reads result)
         × IsGivenOf (S.input source) (given_by S.given S.ended source after) result }
     ensures writes { K.failures sink.new ≡ K.failures sink.old + failed_writes result }
 {
     let tail = notes.tail(host.alloc);
     let mut told = ToldSource::new(source, errors, job.words().progress, tail);
-    let how = work(host, job, config, &mut told, sink, notes);
+    let how = work(host, job, configs, &mut told, sink, notes);
     let error = told.error();
     notes.keep_end(told.into_tail(), error);
     how
@@ -208,18 +205,18 @@ fn serve<S: Source + Drop, K: Sink, E: Write, O: Opener, T: Threads + Wait + Syn
 fn work<S: Source, K: Sink, O: Opener, T: Threads + Wait + Sync>(
     host: &Host<O, T>,
     job: &Job,
-    config: &Config,
+    configs: &Configs,
     source: &mut S,
     sink: &mut K,
     notes: &mut Notes,
 ) -> Result<Ending, RunFault>
-    ensures done { JobDone job.now config.now (given_by S.given S.ended source.old source.new)
+    ensures done { JobDone job.now configs.now (given_by S.given S.ended source.old source.new)
         (taken_by K.taken K.sent sink.old sink.new) result }
     ensures reads { S.failures source.new ≡ S.failures source.old + failed_reads result }
     ensures input { failed_reads result ≡ 0 → Stays (S.input source.old) (S.input source.new) }
     ensures writes { K.failures sink.new ≡ K.failures sink.old + failed_writes result }
 {
-    let alloc = host.alloc;
+    let (alloc, config) = (host.alloc, &configs.config);
     match job {
         Job::Play { history, .. } => play_job(alloc, config, source, sink, style_of(*history)),
         Job::Check { .. } => answer_job(alloc, config, source, sink, Question::History, notes),
@@ -240,7 +237,9 @@ fn work<S: Source, K: Sink, O: Opener, T: Threads + Wait + Sync>(
             let telling = Telling::Windows(windows.as_slice());
             after_play(alloc, config, source, sink, None, telling)
         }
-        Job::Draw { drawing, .. } => draw_job(alloc, config, source, sink, *drawing, notes),
+        Job::Draw { words, drawing } => {
+            draw_job(alloc, *words, configs, source, sink, *drawing, notes)
+        }
         Job::Pages { by, .. } => pages_job(alloc, config, source, sink, *by, notes),
         Job::Plan { live, classes, .. } => plan_job(alloc, config, *live, classes, sink),
     }
@@ -267,22 +266,23 @@ fn layout_of(csv: bool) -> Layout
 /// Draws the run of a trace: its data, its events or its graph.
 fn draw_job<S: Source, K: Sink>(
     alloc: Global,
-    config: &Config,
+    words: Words,
+    configs: &Configs,
     source: &mut S,
     sink: &mut K,
     drawing: Drawing,
     notes: &mut Notes,
 ) -> Result<Ending, RunFault>
-    ensures done { DrawingDone drawing config.now (given_by S.given S.ended source.old source.new)
+    ensures done { DrawingDone words.entry drawing configs.now (given_by S.given S.ended source.old source.new)
         (taken_by K.taken K.sent sink.old sink.new) result }
     ensures reads { S.failures source.new ≡ S.failures source.old + failed_reads result }
     ensures input { failed_reads result ≡ 0 → Stays (S.input source.old) (S.input source.new) }
     ensures writes { K.failures sink.new ≡ K.failures sink.old + failed_writes result }
 {
+    let config = &configs.config;
     match drawing {
         Drawing::Run { form, live } => {
-            let question = Question::Run(form, live);
-            answer_job(alloc, config, source, sink, question, notes)
+            run_job(alloc, words, configs, source, sink, form, live, notes)
         }
         Drawing::Events { after } => {
             after_play(alloc, config, source, sink, after, Telling::Events)
@@ -291,6 +291,41 @@ fn draw_job<S: Source, K: Sink>(
             after_play(alloc, config, source, sink, after, Telling::Graph(most))
         }
     }
+}
+
+/// Draws the data of the run of a trace; or of its runs on two configurations, if it is compared.
+fn run_job<S: Source, K: Sink>(
+    alloc: Global,
+    words: Words,
+    configs: &Configs,
+    source: &mut S,
+    sink: &mut K,
+    form: Form,
+    live: Option<u64>,
+    notes: &mut Notes,
+) -> Result<Ending, RunFault>
+    ensures done { RunDrawn words.entry form live configs.now.config configs.now.compare
+        (given_by S.given S.ended source.old source.new) (taken_by K.taken K.sent sink.old sink.new) result }
+    ensures reads { S.failures source.new ≡ S.failures source.old + failed_reads result }
+    ensures input { failed_reads result ≡ 0 → Stays (S.input source.old) (S.input source.new) }
+    ensures writes { K.failures sink.new ≡ K.failures sink.old + failed_writes result }
+{
+    let config = configs.config;
+    let Some(second) = configs.compare else {
+        let question = Question::Run(form, live);
+        return answer_job(alloc, &config, source, sink, question, notes);
+    };
+    let runs = TwoRuns {
+        first: NamedConfig {
+            name: words.config,
+            config,
+        },
+        second,
+        trace: words.file,
+        form,
+        live,
+    };
+    runs_job(alloc, &runs, source, sink, notes)
 }
 
 /// Writes how many pages suffice for a trace: for its demand, for its pace, or with a plan.

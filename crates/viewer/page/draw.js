@@ -56,7 +56,6 @@ function between(low, high, part) {
 }
 
 const escaped = text => String(text).replace(/[&<>"]/g, letter => `&#${letter.charCodeAt()};`);
-const html = (id, text) => { element(id).innerHTML = text; };
 const pairs = list => list.map(([name, value]) => `<div><dt>${escaped(name)}</dt><dd>${value}</dd></div>`).join("");
 const meter = part => `<i class="meter"><i style="width:${(100 * part).toFixed(1)}%"></i></i>`;
 const table = (heads, rows) => `<thead><tr>${heads.map(head => `<th scope="col">${head}</th>`).join("")}</tr></thead><tbody>${
@@ -64,8 +63,8 @@ const table = (heads, rows) => `<thead><tr>${heads.map(head => `<th scope="col">
 const press = (id, key, value) => { for (const button of element(id).children) button.ariaPressed = button.dataset[key] === value; };
 
 /** Makes a table when its <details> is opened. Returns the function that makes it anew. */
-function tableIn(id, heads, rows) {
-  const box = element(id), place = box.appendChild(document.createElement("div"));
+function tableIn(box, heads, rows) {
+  const place = box.appendChild(document.createElement("div"));
   place.className = "scroll";
   const renew = () => { if (box.open) place.innerHTML = `<table>${table(heads, rows())}</table>`; };
   box.addEventListener("toggle", renew);
@@ -73,8 +72,7 @@ function tableIn(id, heads, rows) {
 }
 
 /** Draws a picture in SVG for the width of its box, and draws it anew if the width changes. */
-function chart(id, name, draw, height = 270) {
-  const box = element(id);
+function chart(box, name, draw, height = 270) {
   let drawn = 0;
   new ResizeObserver(() => {
     const width = Math.floor(box.clientWidth);

@@ -1,27 +1,26 @@
 // Makes all views once. Afterwards only changed views are drawn again.
 
-tellOverview();
-tellTexts();
-tellCycles();
-tellShapes();
-tellSettings();
-if (windows.ticks.length) chart("utilisation-chart", "Least utilisation of windows, and what is promised", utilisationChart);
-if (quanta.units.length) chart("quanta-chart", "Units of the quanta, in their order", quantaChart);
-if (plans) chart("plans-chart", "Words for a quantum, by the number of pages", plansChart);
-tableIn("utilisation-table", ["Ticks", "Least share", "Promised share"], () => windows.ticks.map((w, i) =>
-  [number(w), permille(windows.least[i]), permille(windows.promised[i])]));
-tableIn("quanta-table", ["Quantum", "After commands", "Units", "Budget", "Phase"], () => quanta.units.slice(0, 1000).map((units, i) =>
-  [number(i + 1), number(quanta.commands[i]), number(units), number(quanta.budget[i]), phasesText(quanta.phase[i])]));
-if (plans) tableIn("plans-table", ["Pages", "Words for a quantum", "Tenths of a unit for a word"], () => plans.pages.map((_, i) =>
-  [plans.pages, plans.words, plans.tenths].map(column => number(column[i]))));
-plot.ariaValueMax = run.lines;
-state.view = [0, run.lines + 1];
+tellSubtitle();
+for (const run of runs) {
+  tellOverview(run);
+  tellTexts(run);
+  tellCycles(run);
+  tellShapes(run);
+  tellSettings(run);
+  makeCharts(run);
+  makeTables(run);
+}
+plot.ariaValueMax = lines;
+state.view = [0, lines + 1];
 setShade("fill");
 redraw(true);
-setCursor(run.lines);
+setCursor(lines);
 listen();
-listenPages();
-listenCycles();
+for (const run of runs) {
+  listenPages(run);
+  listenCycles(run);
+}
+for (const button of element("shades").children) button.onclick = () => setShade(button.dataset.shade);
 matchMedia("(prefers-color-scheme: dark)").addEventListener("change", () => redraw(true));
 window.addEventListener("resize", () => redraw(true));
 requestAnimationFrame(() => requestAnimationFrame(() => {

@@ -6,47 +6,55 @@ function redraw(all) {
   if (queued) { queued.all ||= all; return; }
   queued = { all };
   requestAnimationFrame(() => {
-    if (queued.all) { readColours(); drawTracks(); drawStrip(); tellView(); timelineTable(); }
+    if (queued.all) {
+      readColours(); drawTracks(); drawStrip();
+      runs.forEach(tellView);
+      for (const renew of timelineTables) renew();
+    }
     queued = null;
     drawOver();
     tellCursor();
-    drawPages();
-    markCycle();
+    runs.forEach(drawPages);
+    runs.forEach(markCycle);
   });
 }
 
 function setView(from, to) {
-  const whole = run.lines + 1, span = clamp(to - from, Math.min(8, whole), whole), start = clamp(from, 0, whole - span);
+  const whole = lines + 1, span = clamp(to - from, Math.min(8, whole), whole), start = clamp(from, 0, whole - span);
   state.view = [start, start + span];
   redraw(true);
 }
 const spanOf = () => state.view[1] - state.view[0];
-const isWhole = () => spanOf() > run.lines;
-const showWhole = () => setView(0, run.lines + 1);
+const isWhole = () => spanOf() > lines;
+const showWhole = () => setView(0, lines + 1);
 const moveBy = part => setView(state.view[0] + part * spanOf(), state.view[1] + part * spanOf());
 const moveTo = line => setView(line - spanOf() / 2, line + spanOf() / 2);
 function zoom(factor, around = (state.view[0] + state.view[1]) / 2) {
   setView(around - (around - state.view[0]) * factor, around + (state.view[1] - around) * factor);
 }
 function setCursor(line) {
-  state.cursor = clamp(Math.round(line), 0, run.lines);
+  state.cursor = clamp(Math.round(line), 0, lines);
   if (state.cursor < state.view[0] || state.cursor > state.view[1]) moveTo(state.cursor);
   redraw(false);
 }
-function zoomToCycle(i) {
-  const from = cycles.line[i], to = cycleEnd(i), rest = Math.max(4, (to - from) / 4);
+function zoomToCycle(run, i) {
+  const from = run.cycles.line[i], to = run.cycleEnd(i), rest = Math.max(4, (to - from) / 4);
   state.pinned = true;
   setView(from - rest, to + rest);
   setCursor(from);
 }
-const nextCycle = i => { if (i >= 0 && i < cycles.line.length) zoomToCycle(i); };
+/** Zooms to a cycle of the first run: the next one after the cursor, or the one before. */
+function nextCycle(by) {
+  const [run] = runs, i = lastAt(run.cycles.line, state.cursor) + by;
+  if (i >= 0 && i < run.cycles.line.length) zoomToCycle(run, i);
+}
 
 const keys = {
   ArrowRight: by => by, ArrowLeft: by => -by, ArrowUp: by => by, ArrowDown: by => -by, PageUp: () => 50, PageDown: () => -50,
   Home: () => -Infinity, End: () => Infinity, // these return how many samples the cursor moves
   "+": () => zoom(.6, state.cursor), "=": () => zoom(.6, state.cursor), "-": () => zoom(1 / .6, state.cursor),
   0: showWhole, Escape: () => { state.pinned = false; showWhole(); },
-  "]": () => nextCycle(lastAt(cycles.line, state.cursor) + 1), "[": () => nextCycle(lastAt(cycles.line, state.cursor) - 1),
+  "]": () => nextCycle(1), "[": () => nextCycle(-1),
 };
 
 const xOf = (event, box = plot) => clamp(event.clientX - box.getBoundingClientRect().left, left, width);
@@ -73,8 +81,10 @@ function onUp(event) {
   drag = {};
   if (!down || moves) return;
   if (to) return setView(fromX(Math.min(from, to)), fromX(Math.max(from, to)));
-  const cycle = lastAt(cycles.line, lineOf(from + 8));
-  if (cycle >= 0 && cycleEnd(cycle) >= lineOf(from - 8) && y >= ROWS[3].y - 4 && y <= ROWS[3].y + 60) return zoomToCycle(cycle);
+  for (const row of ROWS.filter(row => row.draw === drawPhases && y >= row.y - 4 && y <= row.y + 60)) {
+    const cycle = lastAt(row.run.cycles.line, lineOf(from + 8));
+    if (cycle >= 0 && row.run.cycleEnd(cycle) >= lineOf(from - 8)) return zoomToCycle(row.run, cycle);
+  }
   state.pinned = !state.pinned || Math.abs(toX(state.cursor) - from) > 6;
   setCursor(lineOf(xOf(event)));
 }
@@ -84,7 +94,8 @@ function onKey(event) {
   const by = keys[event.key](event.shiftKey ? 10 : 1);
   if (by == null) return;
   state.pinned = true;
-  setCursor(samples.line[clamp(sampleAt(state.cursor) + by, 0, samples.line.length - 1)]);
+  const [run] = runs, { line } = run.samples;
+  setCursor(line[clamp(run.sampleAt(state.cursor) + by, 0, line.length - 1)]);
 }
 
 function listen() {
@@ -94,7 +105,7 @@ function listen() {
   plot.addEventListener("pointerup", onUp);
   plot.addEventListener("dblclick", showWhole);
   plot.addEventListener("keydown", onKey);
-  const slide = event => moveTo((xOf(event, strip) - left) / (width - left) * (run.lines + 1));
+  const slide = event => moveTo((xOf(event, strip) - left) / (width - left) * (lines + 1));
   strip.addEventListener("pointerdown", event => { strip.setPointerCapture(event.pointerId); slide(event); });
   strip.addEventListener("pointermove", event => { if (event.buttons) slide(event); });
   element("in").onclick = () => zoom(.5);

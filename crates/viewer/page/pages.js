@@ -1,10 +1,8 @@
 // The map of the pages at the end of the run, and the figures of its block sizes.
-const map = element("map");
-let grid = null, drawn = null;
 
 /** Finds how many pages stand in a row, so that all fit in some height and each square is as large as possible. */
-function layOut(width) {
-  const margin = width < 560 ? 0 : 44, count = settings.pages;
+function layOut(count, width) {
+  const margin = width < 560 ? 0 : 44;
   let best = null;
   for (const columns of [4, 8, 12, 16, 20, 24, 32, 48, 64, 80, 96, 112, 128]) {
     const cell = clamp(Math.floor((width - margin) / columns), 3, 48);
@@ -14,13 +12,13 @@ function layOut(width) {
   return best;
 }
 
-function drawPages() {
-  const width = map.parentElement.clientWidth, focus = document.activeElement === map;
-  const key = [width, state.shade, state.page, focus, ink.panel].join();
-  if (key === drawn) return;
-  drawn = key;
-  grid = layOut(width);
-  const { columns, cell, margin } = grid, rows = Math.ceil(settings.pages / columns), gap = cell > 7 ? 1 : .5, inner = cell - gap;
+function drawPages(run) {
+  const { settings, pages } = run, map = run.element("map"), width = map.parentElement.clientWidth, focus = document.activeElement === map;
+  const key = [width, state.shade, run.page, focus, ink.panel].join();
+  if (key === run.drawn) return;
+  run.drawn = key;
+  run.grid = layOut(settings.pages, width);
+  const { columns, cell, margin } = run.grid, rows = Math.ceil(settings.pages / columns), gap = cell > 7 ? 1 : .5, inner = cell - gap;
   const pen = surface(map, width, rows * cell + 2), band = cell > 24 ? 4 : cell > 10 ? 2.5 : 1.5;
   const shades = Array.from({ length: 17 }, (_, i) => between(ink["shade-low"], ink["shade-high"], i / 16));
   pen.textBaseline = "middle";
@@ -43,14 +41,14 @@ function drawPages() {
   }
   pen.strokeStyle = ink.accent;
   pen.lineWidth = 3;
-  if (focus) pen.strokeRect(margin + state.page % columns * cell, Math.floor(state.page / columns) * cell + .5, inner, inner);
+  if (focus) pen.strokeRect(margin + run.page % columns * cell, Math.floor(run.page / columns) * cell + .5, inner, inner);
   const every = Math.max(1, Math.ceil(15 / cell));
   if (margin) for (let row = 0; row < rows; row += every) label(pen, number(row * columns), margin - 7, (row + .5) * cell, "soft", "right");
-  tellPages();
+  tellPages(run);
 }
 
 /** For each block size, in rising order: its pages, the blocks allocated, and the blocks that there are. */
-function bySize() {
+function bySize(pages) {
   const sizes = new Map();
   pages.size.forEach((size, page) => {
     if (!size) return;
@@ -60,28 +58,24 @@ function bySize() {
   return [...sizes].sort((a, b) => a[0] - b[0]);
 }
 
-function tellPages() {
-  const marked = bit => pages.marks.filter(mark => mark & bit).length, rows = bySize();
+function tellPages(run) {
+  const { settings, pages, usedAtEnd } = run, marked = bit => pages.marks.filter(mark => mark & bit).length, rows = bySize(pages);
   const moving = [[marked(1), "page being evacuated", "pages being evacuated"], [marked(2), "target of moves", "targets of moves"]];
   const text = `At the end of the run: ${number(usedAtEnd)} of ${many(settings.pages, "page")} in use, ${
     number(settings.pages - usedAtEnd)} free${moving.map(([count, one, more]) => count ? ", " + many(count, one, more) : "").join("")}.`;
-  element("pages-text").textContent = text;
-  map.ariaLabel = "Map of the pages. " + text;
+  run.element("pages-text").textContent = text;
+  run.element("map").ariaLabel = "Map of the pages. " + text;
   const free = sum(rows.map(([size, [, held, blocks]]) => size * (blocks - held)));
   const foot = rows.length ? `${number(free)} words in free blocks (${share(free, PAGE_WORDS * usedAtEnd)} of the pages in use)`
     : "No page is in use.";
-  html("sizes", table(["Words", "Pages", "Blocks", "Filled"], rows.map(([size, [count, held, blocks]]) =>
-    [size, number(count), number(held), meter(held / blocks)])) + `<tfoot><tr><td colspan="4">${foot}</td></tr></tfoot>`);
+  run.element("sizes").innerHTML = table(["Words", "Pages", "Blocks", "Filled"], rows.map(([size, [count, held, blocks]]) =>
+    [size, number(count), number(held), meter(held / blocks)])) + `<tfoot><tr><td colspan="4">${foot}</td></tr></tfoot>`;
   const what = state.shade === "fill" ? "few to all blocks allocated" : "blocks of 4 to 256 words";
-  html("pages-legend", `<li><i class="scale"></i>${what}</li><li><i class="free"></i>free</li>${settings.defrag_pages
+  run.element("pages-legend").innerHTML = `<li><i class="scale"></i>${what}</li><li><i class="free"></i>free</li>${settings.defrag_pages
     ? '<li><i class="evacuating"></i>evacuating</li><li><i class="target"></i>target of moves</li>' : ""}${
-    grid.cell >= 26 ? "<li>number: words of a block</li>" : ""}`);
-  pagesTable();
+    run.grid.cell >= 26 ? "<li>number: words of a block</li>" : ""}`;
+  run.pagesTable();
 }
-
-const pagesTable = tableIn("pages-table", ["Page", "Block size", "Allocated", "Of", "Marks"], () =>
-  [...pages.size.keys()].filter(page => pages.size[page]).map(page =>
-    [number(page), pages.size[page], pages.allocated[page], blocksOf(pages.size[page]), MARKS[pages.marks[page]]]));
 
 function setShade(shade) {
   state.shade = shade;
@@ -89,21 +83,21 @@ function setShade(shade) {
   redraw(false);
 }
 
-function listenPages() {
+function listenPages(run) {
+  const { settings } = run, map = run.element("map");
   map.addEventListener("pointermove", event => {
-    const box = map.getBoundingClientRect(), column = Math.floor((event.clientX - box.left - grid.margin) / grid.cell);
+    const { grid } = run, box = map.getBoundingClientRect(), column = Math.floor((event.clientX - box.left - grid.margin) / grid.cell);
     const page = Math.floor((event.clientY - box.top) / grid.cell) * grid.columns + column;
-    tip(column >= 0 && column < grid.columns && page < settings.pages ? pageText(page) : "", event);
+    tip(column >= 0 && column < grid.columns && page < settings.pages ? run.pageText(page) : "", event);
   });
   map.addEventListener("pointerleave", event => tip("", event));
   for (const kind of ["focus", "blur"]) map.addEventListener(kind, () => redraw(false));
   map.addEventListener("keydown", event => {
-    const by = { ArrowRight: 1, ArrowLeft: -1, ArrowDown: grid.columns, ArrowUp: -grid.columns }[event.key];
+    const by = { ArrowRight: 1, ArrowLeft: -1, ArrowDown: run.grid.columns, ArrowUp: -run.grid.columns }[event.key];
     if (!by) return;
     event.preventDefault();
-    state.page = clamp(state.page + by, 0, settings.pages - 1);
-    element("page-told").textContent = pageText(state.page);
+    run.page = clamp(run.page + by, 0, settings.pages - 1);
+    run.element("page-told").textContent = run.pageText(run.page);
     redraw(false);
   });
-  for (const button of element("shades").children) button.onclick = () => setShade(button.dataset.shade);
 }

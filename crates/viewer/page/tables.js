@@ -1,35 +1,48 @@
 // Key numbers, cycles, shapes, settings, and the sentences that say what each picture shows.
 
-function tellOverview() {
-  element("subtitle").textContent = `${many(settings.pages, "page")} of 16 KB, ${many(settings.mutators, "mutator")}`;
+/** Tells the sizes of the heaps, with the names of the files of two runs. */
+function tellSubtitle() {
+  const heaps = runs.map(({ config, settings }) =>
+    `${config == null ? "" : config + ": "}${many(settings.pages, "page")} of 16 KB, ${many(settings.mutators, "mutator")}`);
+  const [{ trace }] = runs;
+  element("subtitle").textContent = heaps.join(". ") + (trace == null ? "" : `. Trace: ${trace}`);
+}
+
+function tellOverview(run) {
+  const { settings, windows, shapes, samples, cycles, quanta, budget, spaceRefused, mostPages, mostAt, usedAtEnd } = run;
+  const { made, commands, ticks, cycle_limit: limit } = run.run;
   const period = windows.ticks.findIndex(w => w >= settings.collector_ticks + settings.mutator_ticks);
   const w = period < 0 ? windows.ticks.length - 1 : period, held = sum(shapes.objects), last = samples.words.at(-1);
   const tiles = [
-    ["Refused, no space", number(spaceRefused), spaceRefused ? "objects that found no room" : `${many(run.made, "object")} made`],
+    ["Refused, no space", number(spaceRefused), spaceRefused ? "objects that found no room" : `${many(made, "object")} made`],
     ["Most pages in use", `${number(mostPages)} <span>of ${number(settings.pages)}</span>`,
-      `first ${data.stride > 1 ? "in the lines from" : "after line"} ${number(mostAt)}`],
-    ["Objects at the end", number(held), `${number(run.made)} made`],
+      `first ${run.stride > 1 ? "in the lines from" : "after line"} ${number(mostAt)}`],
+    ["Objects at the end", number(held), `${number(made)} made`],
     ["Words at the end", number(last), usedAtEnd ? `of allocated blocks, ${share(last, usedAtEnd * PAGE_WORDS)} of the pages in use`
       : "no page is in use"],
     ["Cycles", number(cycles.line.length), cycles.line.length ? `the most units ${number(greatest(cycles.units))}, limit ${
-      number(run.cycle_limit)}` : "none was begun"],
+      number(limit)}` : "none was begun"],
     ["Longest quantum", `${number(greatest(quanta.units))} <span>units</span>`, `${many(quanta.units.length, "quantum", "quanta")}; budget ${
       number(budget)}`],
     ["Least utilisation", w < 0 ? NONE : permille(windows.least[w]), w < 0 ? "no ticks have passed"
       : `of ${many(windows.ticks[w], "tick")}; promised ${permille(windows.promised[w])}`],
-    ["Lines", number(run.lines), `${many(run.commands, "command")}, ${many(run.ticks, "tick")}`],
+    ["Lines", number(lines), `${many(commands, "command")}, ${many(ticks, "tick")}`],
   ];
-  html("tiles", tiles.map(([name, value, more], i) =>
-    `<div${i === 0 && spaceRefused ? ' class="bad"' : ""}><dt>${name}</dt><dd>${value}<small>${more}</small></dd></div>`).join(""));
+  run.element("tiles").innerHTML = tiles.map(([name, value, more], i) =>
+    `<div${i === 0 && spaceRefused ? ' class="bad"' : ""}><dt>${name}</dt><dd>${value}<small>${more}</small></dd></div>`).join("");
 }
 
-const text = (id, words) => { element(id + "-text").textContent = words; };
-const show = (id, is) => { for (const part of ["-chart", "-table", "-legend"]) if (element(id + part)) element(id + part).hidden = !is; };
+function show(run, id, is) {
+  for (const part of ["-chart", "-table", "-legend"].map(part => run.element(id + part)).filter(part => part)) part.hidden = !is;
+}
 
-function tellTexts() {
-  const count = cycles.line.length, quantaCount = quanta.units.length, { stride } = data;
+/** Tells what each picture of a run shows. */
+function tellTexts(run) {
+  const { windows, samples, cycles, quanta, plans, budget, spaceRefused, mostPages, stride } = run, { ticks } = run.run;
+  const count = cycles.line.length, quantaCount = quanta.units.length;
+  const text = (id, words) => { run.element(id + "-text").textContent = words; };
   text("timeline", `${spaceRefused ? `${many(spaceRefused, "object")} ${spaceRefused === 1 ? "was" : "were"} refused for lack of space. `
-    : "No object was refused for lack of space. "}${many(run.lines, "line")} in ${many(run.ticks, "tick")}: at most ${
+    : "No object was refused for lack of space. "}${many(lines, "line")} in ${many(ticks, "tick")}: at most ${
     many(mostPages, "page")}, ${many(greatest(samples.blocks), "block")} and ${many(greatest(samples.words), "word")} allocated. ${
     stride > 1 ? `A sample is of ${number(stride)} event lines in a row: blocks and words are those at the first of them.` : ""}`);
   text("cycles", count ? "A row is a cycle. Its number zooms the run to it; a head sorts." : "No cycle was begun.");
@@ -40,18 +53,18 @@ function tellTexts() {
   text("quanta", quantaCount ? `${many(quantaCount, "quantum", "quanta")} that found a cycle running spent ${
     many(sum(quanta.units), "unit")}; the longest ${number(greatest(quanta.units))}. The line is the budget, ${
     number(budget)}; the colour is the phase that a quantum found.` : "No quantum found a cycle running.");
-  show("utilisation", windows.ticks.length);
-  show("quanta", quantaCount);
+  show(run, "utilisation", windows.ticks.length);
+  show(run, "quanta", quantaCount);
   element("plans").hidden = document.querySelector('nav a[href="#plans"]').hidden = !plans;
-  if (plans) text("plans", `Of a heap with ${number(data.live)} live words that paces itself: words for each quantum of ${
+  if (plans) text("plans", `Of a heap with ${number(run.live)} live words that paces itself: words for each quantum of ${
     many(budget, "unit")}, and beside a dot the units for a word.`);
 }
 
 const COLUMNS = { at: "Cycle", line: "Line", quanta: "Quanta", units: "Units", longest: "Longest", freed: "Freed", blocks: "Blocks",
   kept: "Kept", moved: "Moved", before: "Free before", after: "Free after", made: "Made" };
-const order = { by: "at", down: false, shown: 100 };
 
-function tellCycles() {
+function tellCycles(run) {
+  const { cycles } = run, order = run.order ??= { by: "at", down: false, shown: 100 };
   const names = Object.keys(COLUMNS), column = order.by === "at" ? [...cycles.line.keys()] : cycles[order.by];
   const rows = [...cycles.line.keys()].sort((a, b) => (order.down ? -1 : 1) * ((column[a] ?? -1) - (column[b] ?? -1)) || a - b);
   const way = order.down ? "descending" : "ascending", sign = order.down ? " \u25bc" : " \u25b2";
@@ -59,44 +72,48 @@ function tellCycles() {
     <button type="button" data-by="${name}">${COLUMNS[name]}${name === order.by ? sign : ""}</button></th>`).join("");
   const row = i => `<tr data-cycle="${i}"><td><button type="button" class="link" aria-label="Zoom to cycle ${i + 1}">${i + 1}</button></td>${
     names.slice(1).map(name => `<td>${number(cycles[name][i])}</td>`).join("")}</tr>`;
-  html("cycles-table", rows.length ? `<thead><tr>${head}</tr></thead><tbody>${rows.slice(0, order.shown).map(row).join("")}</tbody>` : "");
-  element("all").hidden = rows.length <= order.shown;
-  element("all").textContent = `Show all ${number(rows.length)}`;
-  markCycle();
+  const body = () => `<thead><tr>${head}</tr></thead><tbody>${rows.slice(0, order.shown).map(row).join("")}</tbody>`;
+  run.element("cycles-table").innerHTML = rows.length ? body() : "";
+  run.element("all").hidden = rows.length <= order.shown;
+  run.element("all").textContent = `Show all ${number(rows.length)}`;
+  markCycle(run);
 }
 
 /** Marks the row of the cycle at the cursor. */
-function markCycle() {
-  document.querySelector("tr.here")?.classList.remove("here");
-  document.querySelector(`tr[data-cycle="${cycleAt(state.cursor)}"]`)?.classList.add("here");
+function markCycle(run) {
+  const rows = run.element("cycles-table");
+  rows.querySelector("tr.here")?.classList.remove("here");
+  rows.querySelector(`tr[data-cycle="${run.cycleAt(state.cursor)}"]`)?.classList.add("here");
 }
 
-function listenCycles() {
-  element("cycles-table").addEventListener("click", event => {
+function listenCycles(run) {
+  const { order } = run, rows = run.element("cycles-table");
+  rows.addEventListener("click", event => {
     const by = event.target.closest("th button")?.dataset.by, row = event.target.closest("tr[data-cycle]");
     if (by) {
       Object.assign(order, { down: order.by === by ? !order.down : by !== "at" && by !== "line", by });
-      tellCycles();
-      document.querySelector(`button[data-by="${by}"]`).focus();
+      tellCycles(run);
+      rows.querySelector(`button[data-by="${by}"]`).focus();
     } else if (row) {
-      zoomToCycle(Number(row.dataset.cycle));
+      zoomToCycle(run, Number(row.dataset.cycle));
       element("timeline").scrollIntoView();
     }
   });
-  element("all").onclick = () => { order.shown = Infinity; tellCycles(); };
+  run.element("all").onclick = () => { order.shown = Infinity; tellCycles(run); };
 }
 
-function tellShapes() {
-  const rows = [...shapes.refs.keys()].sort((a, b) => shapes.block_words[b] - shapes.block_words[a] || a - b);
+function tellShapes(run) {
+  const { shapes } = run, rows = [...shapes.refs.keys()].sort((a, b) => shapes.block_words[b] - shapes.block_words[a] || a - b);
   const most = greatest(shapes.block_words), first = rows.slice(0, 200);
-  text("shapes", `At the end of the run: ${many(rows.length, "shape")}, ${many(sum(shapes.objects), "object")}. What no root reaches
-    counts until it is swept.${rows.length > 200 ? " The 200 shapes that take most words are shown." : ""}`);
-  html("shapes-table", table(["References", "Words", "Objects", "Parts", "Words of blocks", ""], first.map(i =>
-    [...["refs", "words", "objects", "parts", "block_words"].map(name => number(shapes[name][i])), meter(shapes.block_words[i] / most)])));
+  run.element("shapes-text").textContent = `At the end of the run: ${many(rows.length, "shape")}, ${many(sum(shapes.objects), "object")}. What no root reaches
+    counts until it is swept.${rows.length > 200 ? " The 200 shapes that take most words are shown." : ""}`;
+  run.element("shapes-table").innerHTML = table(["References", "Words", "Objects", "Parts", "Words of blocks", ""], first.map(i =>
+    [...["refs", "words", "objects", "parts", "block_words"].map(name => number(shapes[name][i])), meter(shapes.block_words[i] / most)]));
 }
 
-function tellSettings() {
-  html("settings-list", pairs([...Object.entries(settings).map(([key, value]) => [key, number(value)]),
-    ["budget of a quantum, units", number(budget)], ["a cycle, units at most", number(run.cycle_limit)],
-    ...refused.number.map((n, i) => [`refused ${n}: ${REASONS[n]}`, number(refused.count[i])])]));
+function tellSettings(run) {
+  const { settings, budget, refused } = run;
+  run.element("settings-list").innerHTML = pairs([...Object.entries(settings).map(([key, value]) => [key, number(value)]),
+    ["budget of a quantum, units", number(budget)], ["a cycle, units at most", number(run.run.cycle_limit)],
+    ...refused.number.map((n, i) => [`refused ${n}: ${REASONS[n]}`, number(refused.count[i])])]);
 }

@@ -1,6 +1,6 @@
-//! The page in which a browser shows a run: HTML, CSS and JavaScript, which stand in the folder `page`.
+//! The page in which a browser shows a run, or two: HTML, CSS and JavaScript, which stand in the folder `page`.
 #![tactic(auto)]
 
 mod page;
 
-pub use page::{FOOT, HEAD};
+pub use page::{BETWEEN, FOOT, HEAD};

@@ -10,7 +10,7 @@ returns-clause-done g c =
     let after = read.source in
     let is = c.new-told.ensures.source in (
       after,
-      done_below told read (λ t. t.source) c.args.source is g.S.Source.given g.S.Source.ended c.args.job.now c.args.config.now (taken_by g.K.Sink.taken g.K.Sink.sent c.args.sink.now c.work-how.new.sink) c.work-how.result c.work-how.ensures.done,
+      done_below told read (λ t. t.source) c.args.source is g.S.Source.given g.S.Source.ended c.args.job.now c.args.configs.now (taken_by g.K.Sink.taken g.K.Sink.sent c.args.sink.now c.work-how.new.sink) c.work-how.result c.work-how.ensures.done,
       counts_below told read (λ t. t.source) c.args.source is g.S.Source.failures c.work-how.result c.work-how.ensures.reads,
       (λ none. begins_on (g.S.Source.input c.args.source) (g.S.Source.input after) (g.S.Source.given after) (g.S.Source.ended after)
           (stays_from (g.S.Source.input after) g.S.Source.input c.args.source told.source is (c.work-how.ensures.input none)) (g.met.S.Source.begins after)),

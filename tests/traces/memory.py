@@ -69,6 +69,7 @@ RUNS = [
     (0, "draw sparse moves --as graph"),
     (0, "plan four --live 7000"),
     (0, "plan four --live 7000 --classes 4 16 256"),
+    (0, "plan four --objects 500x3 10x300"),
     (0, "threads --help"),
     (2, "draw four - --as pages"),
     (2, "threads four - --turns 10001"),

@@ -72,16 +72,16 @@ word_in None d r first e none is = ap (λ (s : Bor (List ℕ)). s.now) is ∙ no
 word_in (Some x) d r first e none is = ap (λ (s : Bor (List ℕ)). s.now) is ∙ ap (λ a. unwrap_or a []) e
 
 -- one more word, and what is said of it
-pub one_more : (IsOf : List ℕ → ℕ → Type 0) (words : List (Bor (List ℕ))) (i : ℕ) (d : Bor (List ℕ)) (numbers new : List ℕ) (n : ℕ) → i < length words → AllZip IsOf (take i (map (λ w. w.now) words)) numbers
-    → new ≡ numbers ++ n ∷ [] → IsOf (get_or words i d).now n → AllZip IsOf (take (i + 1) (map (λ w. w.now) words)) new
-one_more IsOf words i d numbers new n low so is h =
+pub one_more : {A : Type 0} (IsOf : List ℕ → A → Type 0) (words : List (Bor (List ℕ))) (i : ℕ) (d : Bor (List ℕ)) (items new : List A) (n : A) → i < length words → AllZip IsOf (take i (map (λ w. w.now) words)) items
+    → new ≡ items ++ n ∷ [] → IsOf (get_or words i d).now n → AllZip IsOf (take (i + 1) (map (λ w. w.now) words)) new
+one_more {A} IsOf words i d items new n low so is h =
     let texts = map (λ (w : Bor (List ℕ)). w.now) words in
     let within : i < length texts = subst (λ k. i < k) (sym (length-map words (λ (w : Bor (List ℕ)). w.now))) low in
     let word : get_or texts i d.now ≡ (get_or words i d).now = get_or-map (λ (w : Bor (List ℕ)). w.now) words i d d.now low in
     let more : take (i + 1) texts ≡ take i texts ++ (get_or words i d).now ∷ [] = take_more texts i d.now within ∙ ap (λ x. take i texts ++ x ∷ []) word in
-    subst (λ x. AllZip IsOf x new) (sym more) (subst (λ x. AllZip IsOf (take i texts ++ (get_or words i d).now ∷ []) x) (sym is) (zip_more (take i texts) numbers _ n so h))
+    subst (λ x. AllZip IsOf x new) (sym more) (subst (λ x. AllZip IsOf (take i texts ++ (get_or words i d).now ∷ []) x) (sym is) (zip_more (take i texts) items _ n so h))
   where
-    zip_more : (xs : List (List ℕ)) (ys : List ℕ) (x : List ℕ) (y : ℕ) → AllZip IsOf xs ys → IsOf x y → AllZip IsOf (xs ++ x ∷ []) (ys ++ y ∷ [])
+    zip_more : (xs : List (List ℕ)) (ys : List A) (x : List ℕ) (y : A) → AllZip IsOf xs ys → IsOf x y → AllZip IsOf (xs ++ x ∷ []) (ys ++ y ∷ [])
     zip_more [] [] x y z r = (r, tt)
     zip_more [] (b ∷ ys) x y z r = elim z [ ]
     zip_more (a ∷ xs) [] x y z r = elim z [ ]

@@ -2,6 +2,7 @@
 use Rattle.std.specs.Prelude.{◌≡◌, ℕ, ◌<◌, ◌≤◌, List, length, Option, None, unwrap_or, codes}
 use Rattle.std.specs.List.{All}
 use Rattle.std.specs.Option.{IfSome}
+use Rattle.graph_heap.specs.declared.command.TheConstants.{ARRAY_CELLS}
 use Rattle.size_classes.specs.declared.config.TheConstants.{LEAST_BUDGET, MOST_BUDGET}
 use Rattle.command_line.specs.declared.job.Form.{Form}
 use Rattle.command_line.specs.declared.job.Form.TheVariants as forms
@@ -11,6 +12,9 @@ use Rattle.command_line.specs.declared.job.Job.{Job}
 use Rattle.command_line.specs.declared.job.Job.TheVariants.{Play, Check, Threads, Inspect, Cycles, Path, Mmu, Draw, Pages, Plan}
 use Rattle.command_line.specs.declared.job.Drawing.{Drawing}
 use Rattle.command_line.specs.declared.job.Drawing.TheVariants as drawings
+use Rattle.command_line.specs.declared.job.LiveData.{LiveData}
+use Rattle.command_line.specs.declared.job.LiveData.TheVariants as lives
+use Rattle.command_line.specs.declared.job.Objects.{Objects}
 use Rattle.command_line.specs.declared.job.Words.{Words}
 
 -- a window has 1 to 1099511627776 ticks
@@ -27,6 +31,15 @@ IsDrawable (drawings.Run form live) = Unit {0}
 IsDrawable (drawings.Events after) = AreLines after
 IsDrawable (drawings.Graph after most) = AreLines after × (1 ≤ most) × (most ≤ 4294967295)
 
+-- some objects, at least one, each with no more cells than an array may have
+abbrev pub AreObjects : Objects → Type 0
+AreObjects group = (1 ≤ group.count) × (group.cells ≤ ARRAY_CELLS)
+
+-- live data is a number of words, or objects that may be
+abbrev pub MayBeLive : LiveData → Type 0
+MayBeLive (lives.Words n) = Unit {0}
+MayBeLive (lives.Objects groups) = All AreObjects groups.items
+
 -- the numbers of a job lie in their ranges
 abbrev pub IsInRange : Job → Type 0
 IsInRange (Threads words turns budget) = (turns ≤ 10000) × (LEAST_BUDGET ≤ budget) × (budget ≤ MOST_BUDGET)
@@ -34,6 +47,7 @@ IsInRange (Inspect words by after) = AreLines after
 IsInRange (Path words id after) = AreLines after
 IsInRange (Mmu words windows) = (0 < length windows.items) × All IsWindow windows.items
 IsInRange (Draw words drawing) = IsDrawable drawing
+IsInRange (Plan words live classes) = MayBeLive live
 IsInRange _ = Unit {0}
 
 -- the words of a job that name its files, and its flags

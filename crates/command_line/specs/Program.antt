@@ -49,6 +49,10 @@ flag name = record (new_rule name) { long = Some name; action = Some SetTrue }
 abbrev pub word : Text → Rule
 word name = record (new_rule name) { long = Some name; value_names = 1 }
 
+-- a name and one word or more
+abbrev pub words : Text → Rule
+words name = many (word name)
+
 -- a name and a number
 abbrev pub figure : Text → Rule
 figure name = record (word name) { parser = Some short_number }
@@ -122,7 +126,7 @@ pages = on_trace (codes "pages") (flag (codes "pace") ∷ flag (codes "plan") �
 -- prints how a heap would pace itself
 abbrev pub plan : Shape
 plan = on_config (codes "plan")
-    (needed (long_figure (codes "live")) ∷ figures (codes "classes") ∷ [])
+    (long_figure (codes "live") ∷ words (codes "objects") ∷ figures (codes "classes") ∷ [])
 
 -- the program: it has a version, and wants a subcommand
 abbrev pub metronome : App

@@ -1,6 +1,6 @@
 -- The job for which a subcommand and the values of its arguments ask. clap finds these in the words of a command
 -- line, by the program's rows.
-use Rattle.std.specs.Prelude.{◌≡◌, ◌⊎◌, if◌then◌else◌, ℕ, Bool, true, false, List, [], Option, Some, None, Ok, Err, option_map, unwrap_or, codes}
+use Rattle.std.specs.Prelude.{◌≡◌, ◌⊎◌, if◌then◌else◌, ℕ, Bool, true, false, List, [], ◌++◌, Option, Some, None, Ok, Err, option_map, unwrap_or, codes}
 use Rattle.std.specs.Borrow.{Bor}
 use Rattle.std.specs.List.{AllZip}
 use Rattle.std.specs.Str.{bytes_eq}
@@ -11,6 +11,9 @@ use Rattle.clap.specs.declared.error.kind.ErrorKind.TheVariants.{DisplayHelp, Di
 use Rattle.command_line.specs.declared.job.Job.{Job}
 use Rattle.command_line.specs.declared.job.Job.TheVariants.{Play, Check, Threads, Inspect, Cycles, Path, Mmu, Draw, Pages, Plan}
 use Rattle.command_line.specs.declared.job.Drawing.{Drawing}
+use Rattle.command_line.specs.declared.job.LiveData.{LiveData}
+use Rattle.command_line.specs.declared.job.LiveData.TheVariants as lives
+use Rattle.command_line.specs.declared.job.Objects.{Objects}
 use Rattle.command_line.specs.declared.job.Words.{Words}
 use Rattle.command_line.specs.declared.job.Sizing.{Sizing}
 use Rattle.command_line.specs.declared.job.Sizing.TheVariants.{Demand, Pace, Plan as By_plan}
@@ -38,6 +41,20 @@ abbrev pub AreClassesOf : Option (List Text) → Option (List ℕ) → Type 0
 AreClassesOf None classes = classes ≡ None
 AreClassesOf (Some sizes) None = ⊥
 AreClassesOf (Some sizes) (Some classes) = AllZip IsClassOf sizes classes
+
+-- some objects: their number, an x, and the number of the cells of each
+pub record AreObjectsOf (text : Text) (group : Objects) : Type 0 where
+  pub count : Text
+  pub cells : Text
+  pub parts : text ≡ count ++ (codes "x" ++ cells)
+  pub counted : IsNumber 64 (Some count) (Some group.count)
+  pub each : IsNumber 64 (Some cells) (Some group.cells)
+
+-- the live data that is said: a number of words, or objects, and not both
+abbrev pub IsLiveData : Option ℕ → Option (List Text) → LiveData → Type 0
+IsLiveData words objects (lives.Words n) = (words ≡ Some n) × (objects ≡ None)
+IsLiveData words None (lives.Objects groups) = ⊥
+IsLiveData words (Some texts) (lives.Objects groups) = (words ≡ None) × AllZip AreObjectsOf texts groups.items
 
 -- a flag is set if its text is true; it isn't if its text is false or there is none
 abbrev pub IsFlag : Option Text → Bool → Type 0
@@ -76,7 +93,9 @@ Asks name rows (Mmu words windows) = (name ≡ codes "mmu")
 Asks name rows (Pages words by) = (name ≡ codes "pages")
     × (pace : Bool) × IsFlag (one_of (codes "pace") rows) pace × (plan : Bool) × IsFlag (one_of (codes "plan") rows) plan
     × IsSizing pace plan by
-Asks name rows (Plan words live classes) = (name ≡ codes "plan") × IsNumberOrZero 64 (one_of (codes "live") rows) live
+Asks name rows (Plan words live classes) = (name ≡ codes "plan")
+    × ((said : Option ℕ) × IsNumber 64 (one_of (codes "live") rows) said
+    × IsLiveData said (all_of (codes "objects") rows) live)
     × AreClassesOf (all_of (codes "classes") rows) (option_map (λ c. c.items) classes)
 Asks name rows (Draw words drawing) = (name ≡ codes "draw") × IsDrawn rows drawing
 

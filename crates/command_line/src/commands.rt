@@ -132,10 +132,12 @@ fn pages<'a>(alloc: Global) -> Result<Command<'a>, AllocError>
 fn plan<'a>(alloc: Global) -> Result<Command<'a>, AllocError>
     ensures { IfOk result (IsSubcommand words.plan) }
 {
-    let help = "Words of the blocks of live objects, headers included";
+    let live = "Words of the blocks of live objects, headers included";
+    let objects = "Live objects in place of words: A objects of B cells each";
     let sizes = "Words of a block of each size class that is asked for, all if not said";
     on_config(alloc, "plan", "Tell how a heap would pace itself")?
-        .arg(needed(long_figure(alloc, "live", "N", help)))?
+        .arg(long_figure(alloc, "live", "N", live))?
+        .arg(words(alloc, "objects", "AxB", objects))?
         .arg(figures(alloc, "classes", "S", sizes))
 }
 
@@ -228,6 +230,13 @@ fn word<'a>(alloc: Global, name: &'a str, value: &'a str, help: &'a str) -> Arg<
         .help(help)
         .long(name)
         .value_name(value)
+}
+
+/// Returns the argument of a name and one word or more, which have another name in help.
+fn words<'a>(alloc: Global, name: &'a str, value: &'a str, help: &'a str) -> Arg<'a>
+    ensures { IsArgument (words.words name.now) result }
+{
+    word(alloc, name, value, help).num_args(1..)
 }
 
 /// Returns the argument of a name and a number, which has another name in help.

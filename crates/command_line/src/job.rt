@@ -46,6 +46,24 @@ pub enum Drawing {
     Graph { after: Option<u32>, most: u32 },
 }
 
+/// Some objects that have equally many cells.
+#[derive(Clone, Copy, Debug, PartialEq, Eq)]
+pub struct Objects {
+    /// How many objects there are.
+    pub count: u64,
+    /// How many cells each of them has.
+    pub cells: u32,
+}
+
+/// The live data for which a heap is planned.
+#[derive(Drop)]
+pub enum LiveData {
+    /// Blocks of this many words, headers included.
+    Words(u64),
+    /// The blocks of these objects.
+    Objects(Vec<Objects>),
+}
+
 /// The words that subcommands have: the names of their files, and two flags.
 #[derive(Clone, Copy)]
 pub struct Words<'a> {
@@ -111,11 +129,11 @@ pub enum Job<'a> {
         words: Words<'a>,
         by: Sizing,
     },
-    /// Report how a heap would pace itself with this many words of live blocks, on some numbers of pages, for a program
-    /// that requests blocks of these size classes alone, or of all. It has no other file.
+    /// Report how a heap would pace itself with this live data, on some numbers of pages, for a program that requests
+    /// blocks of these size classes alone, or of all. It has no other file.
     Plan {
         words: Words<'a>,
-        live: u64,
+        live: LiveData,
         classes: Option<Vec<Class>>,
     },
 }

@@ -7,11 +7,11 @@ ghost use Rattle.clap.specs.Words.{found_of, rows_of, first_of, one_of, kind_of}
 ghost use Rattle.command_line.specs.Job.{IsInRange, IsWindow, report_name, words_of};
 ghost use Rattle.command_line.specs.Words.{AreWords, Asks, AsksFor, file_argument, NamesFile, IsFlag, IsNumber, IsSizing, IsAskedFor, IsAskedForBy, HelpIsAskedFor, IsHelp};
 
-use crate::classes::classes_said;
 use crate::commands::program;
 use crate::drawings::drawing;
 use crate::fault::{Refusal, WordsFault};
 use crate::job::{Job, Report, Sizing, Words};
+use crate::live::plan;
 use clap::ArgMatches;
 use clap::error::ErrorKind;
 use size_classes::{LEAST_BUDGET, MOST_BUDGET};
@@ -132,22 +132,6 @@ fn threads<'a>(alloc: Global, words: Words<'a>, found: &ArgMatches) -> Result<Jo
         words,
         turns,
         budget,
-    })
-}
-
-/// Returns the job of `plan`.
-fn plan<'a>(alloc: Global, words: Words<'a>, found: &ArgMatches) -> Result<Job<'a>, Refusal>
-    ensures range { IfOk result IsInRange }
-    ensures words { IfOk result (λ job. words_of job ≡ words.entry) }
-    ensures asked { IfOk result (Asks (codes "plan") (rows_of (found_of found.now))) }
-{
-    let classes = classes_said(alloc, found.get_strs("classes"))?;
-    // (clap has refused words that are no such number)
-    let live = long_number(found, "live").unwrap_or(0);
-    Ok(Job::Plan {
-        words,
-        live,
-        classes,
     })
 }
 

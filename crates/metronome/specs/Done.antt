@@ -23,7 +23,7 @@ use Rattle.metronome.specs.Jobs.{TracePlayed, ScriptsRun}
 use Rattle.inspector.specs.declared.cycles.text.Layout.{Layout}
 use Rattle.inspector.specs.declared.cycles.text.Layout.TheVariants.{Columns, Commas}
 use Rattle.metronome.specs.Answered.{Answered}
-use Rattle.plans.specs.Report.{IsPlansReport}
+use Rattle.metronome.specs.Plans.{PlansTold}
 use Rattle.pictures.specs.Events.{events_picture}
 use Rattle.metronome.specs.Told.{ReportTold, TextWritten}
 use Rattle.metronome.specs.Demand.{DemandTold}
@@ -76,4 +76,4 @@ JobDone (Mmu words windows) c = AfterPlay (λ p. WindowsTold c.config p.timetabl
 JobDone (Draw words drawing) c = DrawingDone words drawing c
 JobDone (Pages words by) c = PagesDone by c.config
 JobDone (Plan words live classes) c =
-    λ given. ReportTold (IsPlansReport (option_map (λ said. said.items) classes) c.config live)
+    λ given. PlansTold live (option_map (λ said. said.items) classes) c.config

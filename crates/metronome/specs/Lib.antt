@@ -14,5 +14,6 @@ pub mod Configs
 pub mod Names
 pub mod TwoRuns
 pub mod Bounds
+pub mod Plans
 pub mod Done
 pub mod Run

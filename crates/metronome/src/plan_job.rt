@@ -1,44 +1,68 @@
 //! Writes the plans by which a heap paces itself.
-ghost use Rattle.std.specs.Prelude.{◌≡◌, ◌+◌, IfOk, option_map, string_bytes};
+ghost use Rattle.std.specs.Prelude.{◌≡◌, ◌+◌, option_map};
 ghost use Rattle.trace.specs.Streams.{taken_by};
-ghost use Rattle.plans.specs.Report.{IsPlansReport};
-ghost use Rattle.metronome.specs.Faults.{failed_reads, failed_writes};
-ghost use Rattle.metronome.specs.Told.{ReportTold};
+ghost use Rattle.metronome.specs.Faults.{failed_reads, failed_writes, IsOfWords};
+ghost use Rattle.metronome.specs.Plans.{ObjectsTold, PlansTold};
 
 use crate::fault::{Ending, RunFault};
 use crate::told::tell_text;
-use graph_heap::NoMemory;
-use plans::plans_report;
-use size_classes::{Class, Config};
+use command_line::{LiveData, Objects};
+use plans::{objects_report, plans_report, words_of_objects};
+use size_classes::{Class, Config, MOST_HEAP_PAGES, PAGE_WORDS};
 use std::alloc::Global;
-use trace::Sink;
+use trace::{PlayFault, Sink};
 
-/// Returns the report of the plans for `live` live words, for these size classes or for all.
-fn plans_text(
-    alloc: Global,
-    config: &Config,
-    live: u64,
-    classes: &Option<Vec<Class>>,
-) -> Result<String, NoMemory>
-    ensures { IfOk result (λ text. IsPlansReport (option_map (λ said. said.items) classes.now) config.now live
-        (string_bytes text)) }
+/// Returns the fault of a run with objects whose blocks have more than `most` words, as many as a heap may have.
+fn too_many_words(alloc: Global, most: u64) -> RunFault
+    ensures { IsOfWords result }
 {
-    Ok(plans_report(alloc, config, live, classes.as_deref())?)
+    let text = format!(in alloc;
+        "error: invalid values for '--objects <AxB>...': the blocks of these objects take more than {most} words, the most of any heap\n\nFor more information, try '--help'."
+    );
+    match text {
+        Ok(text) => RunFault::Words(text),
+        Err(_) => RunFault::Text(PlayFault::NoMemory),
+    }
 }
 
-/// Writes the plans by which a heap paces itself, if at most `live` words are live. They are the fewest pages with a
-/// plan, and the plan on some numbers of pages, for these size classes or for all.
-pub fn plan_job<K: Sink>(
+/// Writes the plans for some live objects, or refuses them if their blocks have more words than a heap may have.
+fn tell_objects<K: Sink>(
     alloc: Global,
     config: &Config,
-    live: u64,
-    classes: &Option<Vec<Class>>,
+    groups: &[Objects],
+    classes: Option<&[Class]>,
     sink: &mut K,
 ) -> Result<Ending, RunFault>
-    ensures told { ReportTold (IsPlansReport (option_map (λ said. said.items) classes.now) config.now live)
+    ensures told { ObjectsTold (option_map (λ said. said.now) classes.entry) config.now groups.now
         (taken_by K.taken K.sent sink.old sink.new) result }
     ensures reads { failed_reads result ≡ 0 }
     ensures writes { K.failures sink.new ≡ K.failures sink.old + failed_writes result }
 {
-    tell_text(plans_text(alloc, config, live, classes), sink)
+    let most = u64::from(MOST_HEAP_PAGES) * u64::from(PAGE_WORDS);
+    if most < words_of_objects(groups) {
+        return Err(too_many_words(alloc, most));
+    }
+    tell_text(objects_report(alloc, config, groups, classes), sink)
+}
+
+/// Writes the plans by which a heap paces itself for this live data, for these size classes or for all. They are the
+/// fewest pages with a plan, and the plan on some numbers of pages. For live objects also their words are written, and
+/// the megabytes of the fewest pages.
+pub fn plan_job<K: Sink>(
+    alloc: Global,
+    config: &Config,
+    live: &LiveData,
+    classes: &Option<Vec<Class>>,
+    sink: &mut K,
+) -> Result<Ending, RunFault>
+    ensures told { PlansTold live.now (option_map (λ said. said.items) classes.now) config.now
+        (taken_by K.taken K.sent sink.old sink.new) result }
+    ensures reads { failed_reads result ≡ 0 }
+    ensures writes { K.failures sink.new ≡ K.failures sink.old + failed_writes result }
+{
+    let classes = classes.as_deref();
+    match live {
+        LiveData::Words(words) => tell_text(plans_report(alloc, config, *words, classes), sink),
+        LiveData::Objects(groups) => tell_objects(alloc, config, groups.as_slice(), classes, sink),
+    }
 }

@@ -241,7 +241,7 @@ fn work<S: Source, K: Sink, O: Opener, T: Threads + Wait + Sync>(
             draw_job(alloc, *words, configs, source, sink, *drawing, notes)
         }
         Job::Pages { by, .. } => pages_job(alloc, config, source, sink, *by, notes),
-        Job::Plan { live, classes, .. } => plan_job(alloc, config, *live, classes, sink),
+        Job::Plan { live, classes, .. } => plan_job(alloc, config, live, classes, sink),
     }
 }
 

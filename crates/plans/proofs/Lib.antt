@@ -3,3 +3,5 @@ pub mod Rows
 mod Words
 mod Metering
 mod Classes
+mod SameCells
+mod Lines

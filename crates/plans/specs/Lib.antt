@@ -3,3 +3,4 @@ pub mod LiveMeter
 pub mod Order
 pub mod Report
 pub mod Bars
+pub mod Objects

@@ -1,9 +1,10 @@
 //! Reports and data of the plans by which a heap paces itself. They say on how few pages there is a plan, which plan
-//! there is on some numbers of pages, and for how many live words a trace needs one.
+//! there is on some numbers of pages, and for how many live words a trace or some objects need one.
 #![tactic(auto)]
 
 mod bars;
 mod live;
+mod objects;
 mod observing;
 mod order;
 mod report;
@@ -14,5 +15,6 @@ mod table;
 
 pub use bars::{PlanBar, PlanFigures, plans_data};
 pub use live::{LiveMeter, MostLive};
+pub use objects::{kinds_take_the_same, objects_report, words_of_objects};
 pub use report::plans_report;
 pub use runs::run_plans;

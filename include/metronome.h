@@ -149,9 +149,9 @@ enum metronome_status {
     METRONOME_INSIDE = 42,          /* The seat has the turn, and the call needs it not to. Call metronome_seat_leave first */
     METRONOME_OUTSIDE = 43,         /* The seat doesn't have the turn. Call metronome_seat_enter first */
     METRONOME_NOT_YOURS = 44,       /* The mutator belongs to another seat: a mistake */
-    METRONOME_NO_PLAN = 46,         /* No plan fits on so few pages, or the heap can't keep this plan, or it keeps none */
-    METRONOME_ABOVE_PLAN = 47,      /* The object has more words than the plan's cycle_words. Use more pages, or split the object
-                                     * */
+    METRONOME_NO_PLAN = 46,         /* No plan fits these settings, or the heap can't keep this plan, or it keeps none */
+    METRONOME_ABOVE_PLAN = 47,      /* The object, or metronome_prepare, asks for more words than the plan's cycle_words. Use more
+                                     * pages, or split the object */
     METRONOME_NO_MUTATOR = 48,      /* There is no such mutator: a mistake. Commands return BAD_SLOT instead; metronome_check_slot
                                      * tells the two apart */
     METRONOME_SLOTS_USED = 49,      /* No slot is left in the row of a frame, or, in C++ and Rust, in the mutator. Give some back

@@ -55,7 +55,8 @@ uint32_t metronome_free_pages(metronome *heap, uint64_t *free_pages) METRONOME_N
 uint32_t metronome_count(metronome *heap, metronome_counts *counts) METRONOME_NONNULL;
 
 /* Stores the figures of the last cycle that ended, or zeros if none has. For a log, call it after a quantum that ended in
- * METRONOME_IDLE, or after a new object if the heap keeps a plan. Returns OK, or NO_HEAP if the handle is closed. */
+ * METRONOME_IDLE, or, if the heap keeps a plan, after a new object or a metronome_prepare. Returns OK, or NO_HEAP if the
+ * handle is closed. */
 uint32_t metronome_last_cycle(metronome *heap, metronome_cycle *cycle) METRONOME_NONNULL;
 
 /* Stores the figures of page `number`, counted from 0. A page that doesn't exist is reported as free. Returns OK, or NO_HEAP

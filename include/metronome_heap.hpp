@@ -249,8 +249,8 @@ inline std::uint32_t try_cycle_limit(const metronome_settings &settings, metrono
     return metronome_cycle_limit(&settings, &limit);
 }
 
-// Stores the plan for a heap of these settings. It has the most words for each quantum, of those whose words for a cycle last
-// until the cycle's end.
+// Stores the plan for a heap of these settings. It has the most words for each quantum, of those that have as many words for a
+// cycle as fit, and whose words for a cycle last until the cycle's end.
 inline std::uint32_t try_plan(const metronome_settings &settings, std::uint64_t live_words, metronome_flow &flow) noexcept {
     return metronome_plan(&settings, live_words, &flow);
 }

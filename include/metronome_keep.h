@@ -37,7 +37,7 @@ typedef struct metronome_flow {
     uint64_t quantum_words; /* At most this many words are made for each quantum of a cycle */
     uint64_t cycle_words;   /* At most this many words are made from one cycle's beginning to the next. An object
                              * with more can't be made */
-    uint64_t least_pages;   /* The fewest pages that have a plan for live_words; 0 if no number of pages has one */
+    uint64_t least_pages;   /* The fewest pages that have such a plan; 0 if no number of pages has one */
     uint32_t budget;        /* How many units a quantum has: collector_ticks * rate of the settings */
 } metronome_flow;
 
@@ -45,13 +45,14 @@ typedef struct metronome_flow {
 typedef struct metronome_work {
     uint64_t quanta;
     uint64_t cycles;      /* how many cycles were begun */
-    uint64_t most_quanta; /* the most quanta that were spent before one new object */
+    uint64_t most_quanta; /* the most quanta that one call spent: for a new object, or by metronome_prepare */
 } metronome_work;
 
 /* Calculates a plan for a heap of these settings, in which live objects take at most live_words words of blocks
- * whenever a cycle begins. The plan has as many words for a cycle as fit. These words must last until a whole cycle
- * has ended; of all such plans, this one has the most words for a quantum. The settings must move as
- * METRONOME_SETTINGS_MOVING does. No heap is made. Time grows with the pages.
+ * whenever a cycle begins. The plan has as many words for a cycle as fit with its words for a quantum, and they last
+ * until a whole cycle has ended. Of all such plans, this one has the most words for a quantum. The settings must move
+ * as METRONOME_SETTINGS_MOVING does. No heap is made. Time grows with the budget and with least_pages: all smaller
+ * numbers of pages are tried, or all 1048576 if none has a plan.
  *
  * Returns OK, with the plan in *flow, or one of these:
  *   * NO_PLAN: No plan fits and lasts, or not every cycle moves, or a cycle may not empty all pages. Then
@@ -64,8 +65,8 @@ uint32_t metronome_plan(const metronome_settings *settings, uint64_t live_words,
  * Under it a new object of w words, at most largest_words, waits for at most ceil(w / quantum_words) quanta. In
  * exchange it may have fewer words for a quantum.
  *
- * Returns OK, with the plan in *flow, or the other statuses of metronome_plan. If it is NO_PLAN, least_pages is the
- * fewest pages that have a plan with this room. */
+ * Returns OK, with the plan in *flow, or the other statuses of metronome_plan. least_pages is the fewest pages that
+ * have a plan with this room. */
 uint32_t metronome_plan_for(const metronome_settings *settings, uint64_t live_words, uint64_t largest_words,
                             metronome_flow *flow) METRONOME_NONNULL;
 
@@ -99,8 +100,9 @@ uint64_t metronome_block_words(uint32_t kind, uint32_t refs, uint32_t words);
  * plan's budget. It does as much as the plan requires for that object, and no more.
  *
  * PROMISE. If live objects keep within live_words whenever a cycle begins, then no object is refused for lack of
- * space. This is proved for all commands, lists of commands, begins and quanta that follow, if the heap was just made,
- * or made and touched. It isn't proved if mutators joined before.
+ * space. This is proved for all commands, lists of commands, begins, quanta and calls of metronome_prepare that follow,
+ * if the heap was just made, or made and touched. It isn't proved if mutators joined before, or if pages are touched
+ * later.
  *
  * PAUSES. If live objects keep within live_words whenever a cycle begins, a call waits for few quanta. This is proved
  * for the same calls, all callers of the handle together:
@@ -109,9 +111,9 @@ uint64_t metronome_block_words(uint32_t kind, uint32_t refs, uint32_t words);
  *     (metronome_plan_for), it waits for at most ceil(w / quantum_words).
  *   * If objects of w words in all are made, they wait for at most ceil(w / quantum_words) quanta together, if the plan
  *     has room for the largest of them.
- *   * A call that makes no object waits for no quantum, except metronome_quantum and metronome_prepare, for one.
- * The collector also works before an object that is then refused for another reason. An object of more than
- * cycle_words words is refused as ABOVE_PLAN, and nothing is done.
+ *   * A call that asks for no object waits for no quantum, except metronome_quantum and metronome_prepare, for one.
+ * An object of more than cycle_words words is refused as ABOVE_PLAN, and nothing is done. An object that is refused for
+ * another reason, except TOO_LARGE, counts as one that is made: the collector works before it, too.
  *
  * OTHER CALLS. The program may still call metronome_begin and metronome_quantum. A quantum of the plan's budget or
  * more counts for the plan. If the program begins a cycle, live objects must keep within live_words there too.
@@ -121,8 +123,10 @@ uint64_t metronome_block_words(uint32_t kind, uint32_t refs, uint32_t words);
  * been touched and mutators may have joined, but no page may have been used and no cycle begun.
  *
  * Returns OK, or changes nothing and returns one of these:
- *   * NO_PLAN: The heap isn't such a heap, or the plan doesn't fit in it, or doesn't last. It lasts if a cycle has
- *     quantum_words words for each quantum that it takes at most. Plans of metronome_plan and metronome_plan_for last.
+ *   * NO_PLAN: A page was used or a cycle begun; or the settings have another budget, or don't move as
+ *     METRONOME_SETTINGS_MOVING does; or the plan doesn't fit in the heap, or doesn't last. It lasts if quantum_words is
+ *     1 or more, and a cycle has as many words for each quantum that it takes at most. Plans of metronome_plan and
+ *     metronome_plan_for last.
  *   * NO_HEAP: The handle is closed. */
 uint32_t metronome_keep(metronome *heap, const metronome_flow *flow) METRONOME_NONNULL;
 

@@ -27,7 +27,7 @@
  * RULES FOR C. The rules for a metronome in metronome.h hold for a metronome_seat, too. Calls on a seat that was never set
  * return BAD_HANDLE, unless it has by chance the one value that the library leaves in an open one.
  *
- * MEMORY. metronome_seat_create takes the memory of a heap from malloc; it goes back when the heap's last seat is destroyed.
+ * MEMORY. The calls that create a heap take its memory from malloc; it goes back when the heap's last seat is destroyed.
  * A new seat takes a few hundred bytes. No other call takes memory. A page is cleared when an object is first made on it: no
  * call on a seat does what metronome_touch does.
  *
@@ -53,7 +53,7 @@ typedef struct metronome_seat {
 #define METRONOME_NO_SEAT { 0, 0 }
 
 /* The command of an entry of the log. The fields of metronome_command have its numbers and words in the order given here;
- * all others are 0. The last two are requests to the collector. */
+ * all others are 0. The last two are requests to the collector, or its own work for a plan. */
 enum metronome_command_kind {
     METRONOME_NEW = 0,             /* dst; the shape's metronome_shape_kind, refs, words */
     METRONOME_LOAD = 1,            /* dst, obj, i */
@@ -94,7 +94,7 @@ enum metronome_entry_kind {
 
 typedef struct metronome_entry {
     uint32_t kind; /* a metronome_entry_kind; if it isn't ENTERED, all else is 0 */
-    uint32_t mutator; /* the mutator that gave the command, or 0 for a request to the collector */
+    uint32_t mutator; /* the mutator that gave the command, or 0 for one of the last two kinds */
     metronome_command command;
     metronome_answer answer;
     metronome_shape shape; /* if the answer is DESCRIBED */
@@ -133,12 +133,13 @@ METRONOME_NONNULL static inline uint32_t metronome_seat_create_logged(metronome_
  * metronome_seat_create_kept.
  *
  * PROMISE. If the live objects of all mutators together keep within live_words whenever a cycle begins, by whichever seat,
- * then no object is refused for lack of space. This is proved for all commands, begins and quanta of all seats.
+ * then no object is refused for lack of space. This is proved for all commands, begins and quanta of all seats. The pauses
+ * that metronome_keep promises aren't proved of seats.
  *
  * Returns OK, or changes nothing and returns one of these:
  *   * OTHER_VERSION.
- *   * NO_PLAN: No setting has a fault, and a heap of these settings can't keep the plan. A plan that metronome_plan
- *     calculated for the same settings can be kept.
+ *   * NO_PLAN: No setting has a fault, and a heap of these settings can't keep the plan. A plan that metronome_plan or
+ *     metronome_plan_for calculated for the same settings can be kept.
  *   * The other statuses of metronome_seat_create_for. */
 uint32_t metronome_seat_create_kept_for(metronome_seat *seat, const metronome_settings *settings, size_t ring,
                                         const metronome_flow *flow, uint32_t version) METRONOME_NONNULL;
@@ -167,9 +168,10 @@ uint32_t metronome_seat_enter(metronome_seat *seat) METRONOME_NONNULL;
 /* Gives the turn back. Returns OK, OUTSIDE or NO_HEAP. */
 uint32_t metronome_seat_leave(metronome_seat *seat) METRONOME_NONNULL;
 
-/* Stores in *place the length of the log, modulo 2^63: how many commands, begins and quanta all seats have done. A command
- * that the heap refused counts; one that was refused before it came to the heap doesn't. It needs no turn. The calls of a
- * seat count once it gives the turn back. Returns OK; or INSIDE or NO_HEAP, and *place stays as it was. */
+/* Stores in *place the length of the log, modulo 2^63: how many commands, begins and quanta all seats have done, with the
+ * collector's work for a plan. A command that the heap refused counts; one that was refused before it came to the heap
+ * doesn't. It needs no turn. The calls of a seat count once it gives the turn back. Returns OK; or INSIDE or NO_HEAP, and
+ * *place stays as it was. */
 uint32_t metronome_seat_place(metronome_seat *seat, uint64_t *place) METRONOME_NONNULL;
 
 /* Closes a seat. If it had the turn, the turn is given back first. No seat calls for its mutators any more. The last seat of

@@ -14,7 +14,7 @@ pub struct Flow {
     /// The most words that are made from a cycle's beginning until the next begins. No object of more words can be
     /// made.
     pub cycle_words: u64,
-    /// The fewest pages with a plan for `live_words`; 0 if no number of pages has one.
+    /// The fewest pages with such a plan; 0 if no number of pages has one.
     pub least_pages: u64,
     /// The units of a quantum.
     pub budget: u32,
@@ -28,7 +28,7 @@ pub struct Work {
     pub quanta: u64,
     /// Cycles that were begun.
     pub cycles: u64,
-    /// The most quanta before one new object.
+    /// The most quanta that one call spent: for a new object, or by [`crate::Heap::prepare`].
     pub most_quanta: u64,
 }
 
@@ -41,7 +41,8 @@ impl Settings {
 
     /// Returns a plan for a heap of these settings, if live objects take at most `live_words` words of blocks whenever
     /// a cycle begins. It has as many words for a cycle as fit, and the most for a quantum with which they last until a
-    /// whole cycle has ended. If there is no plan, it has no words for a quantum, and says how many pages have one.
+    /// whole cycle has ended. If there is none, or the settings don't move as those of [`Settings::moving`], it has no words
+    /// for a quantum, and says how many pages have one.
     /// Refused: `BadSetting`, `BadSchedule`.
     pub fn plan(&self, live_words: u64) -> Result<Flow> {
         // SAFETY: both live through the call.
@@ -56,7 +57,7 @@ impl Settings {
         Settings::told(|flow| unsafe { calls::metronome_plan_for(self, live_words, largest_words, flow) })
     }
 
-    /// Returns the plan that a call stores. Where there is none, it stores how many pages have one.
+    /// Returns the plan that a call stores. If there is none, it stores how many pages have one.
     fn told(call: impl FnOnce(&mut Flow) -> u32) -> Result<Flow> {
         let mut flow = Flow::default();
         match done(call(&mut flow)) {

@@ -142,8 +142,8 @@ impl Heap {
         unsafe { calls::metronome_touch(self.handle(), pages) };
     }
 
-    /// Makes mutator `number` live, until it goes out of scope. Refused: `AlreadyLive` if it is live already,
-    /// `NoMutator`.
+    /// Makes mutator `number` live, until it goes out of scope. Refused: `AlreadyLive` if there is a [`Mutator`] of that
+    /// number, `NoMutator`.
     pub fn mutator(&self, number: u32) -> Result<Mutator<'_>> {
         let bit = 1u64.checked_shl(number).ok_or(Refusal::NoMutator)?;
         if self.used.get() & bit != 0 {
@@ -165,8 +165,9 @@ impl Heap {
     }
 
     /// Makes the heap keep a plan from here on: before each new object the collector works as much as the plan
-    /// requires. As long as live objects keep to `live_words`, no object is refused for lack of space. Refused:
-    /// `NoPlan` if the heap was used already, or the plan doesn't fit in it, or doesn't last.
+    /// requires. As long as live objects keep to `live_words`, no object is refused for lack of space. That is proved of
+    /// the calls below this crate if the heap was just made, or made and touched. Refused: `NoPlan` if the heap was used
+    /// already, or the plan doesn't fit in it, or doesn't last.
     pub fn keep(&self, flow: &Flow) -> Result<()> {
         // SAFETY: the heap is open, and both live through the call.
         done(unsafe { calls::metronome_keep(self.handle(), flow) })

@@ -11,7 +11,7 @@ pub enum Logged {
     Gone,
     /// A command.
     Entered(Entry),
-    /// A request to begin a cycle: whether one began, because none was running.
+    /// A beginning, for which a seat or a plan asked: whether a cycle began, because none was running.
     Begin(bool),
     /// A quantum of this budget: its outcome, or that it is refused as `BadBudget`.
     Quantum(u32, Result<Spent>),

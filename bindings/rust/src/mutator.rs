@@ -69,7 +69,7 @@ impl<'h> Mutator<'h> {
     }
 
     /// Makes an object of `refs` reference cells, all null, and `words` word cells, all 0: at most 252 cells. Refused:
-    /// `SlotsUsed`, `TooLarge`, `IdentitiesSpent`, `NoSpace`.
+    /// `SlotsUsed`, `TooLarge`, `IdentitiesSpent`, `NoSpace`, `AbovePlan`.
     pub fn new_plain(&self, refs: u32, words: u32) -> Result<Root<'_>> {
         let root = self.null()?;
         self.new_plain_into(refs, words, &root)?;

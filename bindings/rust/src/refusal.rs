@@ -7,7 +7,8 @@ use crate::calls::metronome_text_into;
 /// What a call answers.
 pub type Result<T> = std::result::Result<T, Refusal>;
 
-/// Why a call was refused. Nothing has changed then.
+/// Why a call was refused. Nothing has changed then, with two exceptions. The collector may have worked for a plan. If a
+/// call does several commands, those before the refused one are done.
 #[derive(Clone, Copy, Debug, PartialEq, Eq, Hash)]
 #[non_exhaustive]
 pub enum Refusal {
@@ -33,7 +34,7 @@ pub enum Refusal {
     BadBudget,
     /// The mutator isn't live.
     NotLive,
-    /// There is a [`crate::Mutator`] of that number already.
+    /// The mutator is live already, or there is a [`crate::Mutator`] of that number.
     AlreadyLive,
     /// `collector_ticks * rate` isn't 256 to 1000000.
     BadSchedule,
@@ -47,7 +48,7 @@ pub enum Refusal {
     NotYours,
     /// No plan fits, or the heap isn't one that can keep this one, or it keeps none.
     NoPlan,
-    /// The object has more words than the plan has for a whole cycle.
+    /// The object has, or [`crate::Heap::prepare`] asks for, more words than the plan has for a whole cycle.
     AbovePlan,
     /// No such mutator.
     NoMutator,

@@ -91,7 +91,7 @@ impl Shared {
 
     /// Makes a heap that keeps a plan, by the calls of all seats together, and the last `ring` entries of its log. As long as
     /// live objects keep to `live_words`, no object is refused for lack of space. Refused as [`Shared::new`], and as `NoPlan` if
-    /// the plan doesn't fit in a heap of these settings.
+    /// the plan doesn't fit in a heap of these settings, or doesn't last.
     pub fn kept(settings: &Settings, ring: usize, flow: &Flow) -> Result<Shared> {
         // SAFETY: as above.
         Shared::opened(|handle| unsafe {

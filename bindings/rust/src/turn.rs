@@ -50,7 +50,7 @@ impl<'s> Turn<'s> {
     }
 
     /// Makes an object of `refs` reference cells, all null, and `words` word cells, all 0, in a slot: at most 252
-    /// cells. Returns its identity. Refused: `TooLarge`, `IdentitiesSpent`, `NoSpace`.
+    /// cells. Returns its identity. Refused: `TooLarge`, `IdentitiesSpent`, `NoSpace`, `AbovePlan`.
     pub fn new_plain(&mut self, mutator: u32, dst: u32, refs: u32, words: u32) -> Result<u64> {
         // SAFETY: the seat is open, and lives through the call, here and below.
         self.number(|seat| unsafe { seat_calls::metronome_seat_new_plain(seat, mutator, dst, refs, words) })
@@ -209,8 +209,8 @@ impl<'s> Turn<'s> {
         Ok(())
     }
 
-    /// Returns the entry at a place of the log, from 0, as [`crate::Seat::place`] counts them. The heap must be made by
-    /// [`crate::Shared::logged`].
+    /// Returns the entry at a place of the log, from 0, as [`crate::Seat::place`] counts them. Only heaps of
+    /// [`crate::Shared::logged`] and [`crate::Shared::kept`] keep entries.
     pub fn entry(&mut self, place: u64) -> Logged {
         let mut told = EntryTold::default();
         // SAFETY: as above, and `told` lives through the call.

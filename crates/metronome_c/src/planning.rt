@@ -107,7 +107,8 @@ fn tell_plan(settings: &Settings, live_words: u64, largest: u64, flow: &mut Metr
 
 /// Stores a plan for a heap of these settings, in which live objects take at most `live_words` words of blocks whenever a cycle
 /// begins. The plan has as many words for a cycle as fit, and the most for a quantum with which they last until a whole cycle has
-/// ended. No heap is made. Time grows with the pages.
+/// ended. No heap is made. Time grows with the budget and with the plan's `least_pages`; if no number of pages has a plan, all are
+/// tried.
 #[unsafe(no_mangle)]
 pub extern "C" fn metronome_plan(
     settings: &Settings,

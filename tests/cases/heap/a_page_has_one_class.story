@@ -1,5 +1,5 @@
 for slot in 0, 1
-story a page has one class, also where slot {slot} is named
+story a page has one class, also if slot {slot} is named
 pages = 1
 mutators = 1
 slots = 9

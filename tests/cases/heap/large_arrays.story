@@ -1,4 +1,4 @@
-story the largest of one spine
+story the largest array of one spine
 pages = 32
 mutators = 2
 slots = 4
@@ -8,7 +8,7 @@ statics = 1
 0 new 1 words 63505 => refused 7
 0 new 1 words 4000001 => refused 5
 
-story no room for the largest of one spine
+story no room for the largest array of one spine
 pages = 31
 mutators = 2
 slots = 4
@@ -18,7 +18,7 @@ statics = 1
 0 new 1 words 63505 => refused 7
 0 new 1 words 4000001 => refused 5
 
-story 63505 words
+story an array of 63505 words
 pages = 34
 mutators = 1
 slots = 1
@@ -29,7 +29,7 @@ slots = 1
 0 get 0 63505 => refused 3
 0 new 0 words 4000001 => refused 5
 
-story no room for 63505 words
+story no room for an array of 63505 words
 pages = 33
 mutators = 1
 slots = 1
@@ -40,14 +40,14 @@ slots = 1
 0 get 0 63505 => refused 2
 0 new 0 words 4000001 => refused 5
 
-story 4000000 words
+story an array of 4000000 words
 pages = 1994
 mutators = 1
 slots = 1
 
 0 new 0 words 4000000 => made 1
 
-story no room for 4000000 words
+story no room for an array of 4000000 words
 pages = 1993
 mutators = 1
 slots = 1

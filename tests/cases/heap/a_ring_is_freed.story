@@ -2,7 +2,7 @@ each budget, first, phase, second
     1000 | 416 | idle | 0
     256 | 256 | sweeping | 160
 do
-story a ring goes, in quanta of {budget}
+story a ring is freed, in quanta of {budget}
 pages = 2
 mutators = 1
 slots = 2

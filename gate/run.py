@@ -15,6 +15,7 @@ import trials
 import verdicts
 from kept import Kept
 from kit import rt
+from proving import begin
 
 
 class Run:
@@ -68,7 +69,9 @@ class Run:
 
     def prove(self, crate, left, threads):
         """Proves a crate, and gives the trials of its edits."""
-        lacking = [it.name for it in crate.below() if it.name in self.unproved]
+        lacking = [it.name for it in (*crate.below(), crate) if it.name in self.unproved]
+        if self.proving and not lacking and crate.is_built():
+            begin(crate)
         planned = trials.planned(crate, left, self.proving and not crate.has_kept())
         if not lacking and planned and planned[0].leads:
             return self.make(crate, planned[0], threads) + [self.task(crate, it) for it in planned[1:]]
@@ -117,11 +120,13 @@ def asked(crate, planned):
 def tasks_beside(run, crates):
     """The tasks that prove the crates which have edits to try, over libraries that come from the run beside this one."""
     left = {it: them for it in crates if (them := run.left(it))}
-    tasks = [lanes.Task((), lambda _, it=it: run.take(it), it.name, is_idle=True) for it in {below for it in left for below in it.below()}]
+    needed = {it for crate in left for it in (crate, *crate.below()) if it.makes_rlib()}
+    tasks = [lanes.Task((), lambda _, it=it: run.take(it), it.name, is_idle=True) for it in needed]
     for crate, them in left.items():
         call = lambda threads, it=crate, them=them: run.prove(it, them, threads)
+        after = {it.name for it in needed.intersection((crate, *crate.below()))}
         # (a static library comes last: if another run builds it meanwhile, its result is taken)
-        tasks.append(lanes.Task((0, crate.is_static, -crate.count(rb"\n")), call, f"{crate.name}'s edits", {it.name for it in crate.below()}))
+        tasks.append(lanes.Task((0, crate.is_static, -crate.count(rb"\n")), call, f"{crate.name}'s edits", after))
     return tasks
 
 

@@ -14,7 +14,7 @@ import verdicts
 from kit import rt
 
 # How many bodies are turned at once, at most, where they begin with what is proved: more would leave threads without work.
-MOST = 16
+MOST = 32
 
 # A declaration with which answers hold a fault: if a function's answers have none, and it isn't proved, the prover runs once
 # more to offer some.

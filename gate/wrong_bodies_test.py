@@ -7,6 +7,7 @@ import copies
 import edits
 import functions
 import kept
+import proving
 import run
 import trials
 from finders import tree
@@ -280,6 +281,16 @@ def leads(crate, jobs):
     return planned[0].leads and (refused, again) == tuple(wanted.values()) and not any(wrong for *_, wrong in found)
 
 
+def begins(crate, jobs):
+    """Whether a check that begins with what the crate's library carries finds each module checked."""
+    with tempfile.TemporaryFile("a+", errors="replace") as crate.out:
+        status = crate.build_rlib(["--jobs", str(jobs)], anew=True)
+        proving.begin(crate)
+        status = status or crate.check([])
+        crate.out.seek(0)
+        return not status and " checked=0\n" in crate.out.read().rpartition("crate told: ")[2]
+
+
 def leaves_slow_ones(crate):
     """Whether a quick run leaves out the slow ones and no others, and one is found that alone turns what it turns."""
     every, quick = ([it.name for it in edits.wrong_bodies(crate, is_quick)] for is_quick in (False, True))
@@ -327,6 +338,8 @@ def passed(jobs):
         good += asks_besides(crate) + leaves_slow_ones(crate) + goes_together(crate)
         with tempfile.TemporaryDirectory(prefix="wrong-bodies-") as other:
             good.append(leads(crate_in(other), jobs))
+        with tempfile.TemporaryDirectory(prefix="wrong-bodies-") as other:
+            good.append(begins(crate_in(other), jobs))
         left = {it.name for it in run.Run([crate], anew=False).left(crate)}
         good.append(left == {it for it, (kind, _) in found.items() if kind != REFUSED and it != "told/is_nowhere"})
     return good.count(True), good.count(False)

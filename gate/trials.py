@@ -215,7 +215,8 @@ def of_named(trial, said, beside=()):
     kind, why, ground = verdicts.verdict(trial.asked, told)
     lost = verdicts.refuted(said)
     reads = verdicts.ended(said) and not any(rt.unread(line, edit.texts) for line in said.split("\n"))
-    reads = reads and (not beside or any(it.stands for name, it in told.items() if name in beside))
+    stands = [it.stands for name, it in told.items() if any(verdicts.is_within(name, path) for path in beside)]
+    reads = reads and (any(stands) or not beside)
     if reads and kind == verdicts.REFUSED:
         return [Result(edit, kind, why, ground)], [], []
     if reads and lost:

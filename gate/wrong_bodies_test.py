@@ -230,7 +230,7 @@ def stops(crate):
     # (where nothing is proved beside it, the refusal shows nothing)
     alone = NO_PROOF.replace("told::seven: proved", "told::seven: no proof")
     texts = (STOPPED, ANSWER_STOPPED, alone, NO_PROOF)
-    told = {text: [it.kind for it in trials.of_named(trial, text, ["told::seven"])[0]] for text in texts}
+    told = {text: [it.kind for it in trials.of_named(trial, text, ["seven"])[0]] for text in texts}
     return [told[it] == [] for it in texts[:3]] + [told[NO_PROOF] == [REFUSED]]
 
 

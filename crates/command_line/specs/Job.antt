@@ -15,6 +15,8 @@ use Rattle.command_line.specs.declared.job.Drawing.TheVariants as drawings
 use Rattle.command_line.specs.declared.job.LiveData.{LiveData}
 use Rattle.command_line.specs.declared.job.LiveData.TheVariants as lives
 use Rattle.command_line.specs.declared.job.Objects.{Objects}
+use Rattle.command_line.specs.declared.job.Program.{Program}
+use Rattle.command_line.specs.declared.job.Asked.{Asked}
 use Rattle.command_line.specs.declared.job.Words.{Words}
 
 -- a window has 1 to 1099511627776 ticks
@@ -35,10 +37,18 @@ IsDrawable (drawings.Graph after most) = AreLines after × (1 ≤ most) × (most
 abbrev pub AreObjects : Objects → Type 0
 AreObjects group = (1 ≤ group.count) × (group.cells ≤ ARRAY_CELLS)
 
+-- a program asks for some words while it runs for the ticks of a window
+abbrev pub MayBeAsked : Asked → Type 0
+MayBeAsked asked = IsWindow asked.ticks
+
 -- live data is a number of words, or objects that may be
 abbrev pub MayBeLive : LiveData → Type 0
 MayBeLive (lives.Words n) = Unit {0}
 MayBeLive (lives.Objects groups) = All AreObjects groups.items
+
+-- the numbers of a program lie in their ranges
+abbrev pub IsPlannable : Program → Type 0
+IsPlannable program = MayBeLive program.live × All MayBeAsked program.asks.items
 
 -- the numbers of a job lie in their ranges
 abbrev pub IsInRange : Job → Type 0
@@ -47,7 +57,7 @@ IsInRange (Inspect words by after) = AreLines after
 IsInRange (Path words id after) = AreLines after
 IsInRange (Mmu words windows) = (0 < length windows.items) × All IsWindow windows.items
 IsInRange (Draw words drawing) = IsDrawable drawing
-IsInRange (Plan words live classes) = MayBeLive live
+IsInRange (Plan words program) = IsPlannable program
 IsInRange _ = Unit {0}
 
 -- the words of a job that name its files, and its flags
@@ -61,7 +71,7 @@ words_of (Path words id after) = words
 words_of (Mmu words windows) = words
 words_of (Draw words drawing) = words
 words_of (Pages words by) = words
-words_of (Plan words live classes) = words
+words_of (Plan words program) = words
 
 -- the name of a form of a run's data
 abbrev pub form_name : Form → List ℕ
@@ -73,6 +83,7 @@ abbrev pub report_name : Report → List ℕ
 report_name reports.Pages = codes "page"
 report_name reports.Sizes = codes "size"
 report_name reports.Shapes = codes "shape"
+report_name reports.Roots = codes "root"
 
 -- The drawing has this name. It is the run, with the plans for this many live words, and compared if another
 -- configuration is named. Or it is, after this many event lines, its events, or at most this many objects of its graph.

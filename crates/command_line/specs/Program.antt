@@ -126,7 +126,8 @@ pages = on_trace (codes "pages") (flag (codes "pace") ∷ flag (codes "plan") �
 -- prints how a heap would pace itself
 abbrev pub plan : Shape
 plan = on_config (codes "plan")
-    (long_figure (codes "live") ∷ words (codes "objects") ∷ figures (codes "classes") ∷ [])
+    (long_figure (codes "live") ∷ words (codes "objects") ∷ long_figure (codes "largest") ∷ figures (codes "classes")
+    ∷ words (codes "asks") ∷ [])
 
 -- the program: it has a version, and wants a subcommand
 abbrev pub metronome : App

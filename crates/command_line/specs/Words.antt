@@ -14,6 +14,8 @@ use Rattle.command_line.specs.declared.job.Drawing.{Drawing}
 use Rattle.command_line.specs.declared.job.LiveData.{LiveData}
 use Rattle.command_line.specs.declared.job.LiveData.TheVariants as lives
 use Rattle.command_line.specs.declared.job.Objects.{Objects}
+use Rattle.command_line.specs.declared.job.Program.{Program}
+use Rattle.command_line.specs.declared.job.Asked.{Asked}
 use Rattle.command_line.specs.declared.job.Words.{Words}
 use Rattle.command_line.specs.declared.job.Sizing.{Sizing}
 use Rattle.command_line.specs.declared.job.Sizing.TheVariants.{Demand, Pace, Plan as By_plan}
@@ -42,19 +44,36 @@ AreClassesOf None classes = classes ≡ None
 AreClassesOf (Some sizes) None = ⊥
 AreClassesOf (Some sizes) (Some classes) = AllZip IsClassOf sizes classes
 
+-- two numbers, with an x between them
+pub record IsPair (text : Text) (first second : ℕ) : Type 0 where
+  pub before : Text
+  pub behind : Text
+  pub parts : text ≡ before ++ (codes "x" ++ behind)
+  pub is_first : IsNumber 64 (Some before) (Some first)
+  pub is_second : IsNumber 64 (Some behind) (Some second)
+
 -- some objects: their number, an x, and the number of the cells of each
-pub record AreObjectsOf (text : Text) (group : Objects) : Type 0 where
-  pub count : Text
-  pub cells : Text
-  pub parts : text ≡ count ++ (codes "x" ++ cells)
-  pub counted : IsNumber 64 (Some count) (Some group.count)
-  pub each : IsNumber 64 (Some cells) (Some group.cells)
+abbrev pub AreObjectsOf : Text → Objects → Type 0
+AreObjectsOf text group = IsPair text group.count group.cells
+
+-- the words for which a program asks, an x, and the ticks for which it runs
+abbrev pub AreAsked : Text → Asked → Type 0
+AreAsked text asked = IsPair text asked.words asked.ticks
 
 -- the live data that is said: a number of words, or objects, and not both
 abbrev pub IsLiveData : Option ℕ → Option (List Text) → LiveData → Type 0
 IsLiveData words objects (lives.Words n) = (words ≡ Some n) × (objects ≡ None)
 IsLiveData words None (lives.Objects groups) = ⊥
 IsLiveData words (Some texts) (lives.Objects groups) = (words ≡ None) × AllZip AreObjectsOf texts groups.items
+
+-- the program that is said: its live data, its largest object, its size classes, and the words for which it asks
+pub record IsProgram (rows : List Row) (program : Program) : Type 0 where
+  pub words : Option ℕ
+  pub counted : IsNumber 64 (one_of (codes "live") rows) words
+  pub live : IsLiveData words (all_of (codes "objects") rows) program.live
+  pub largest : IsNumberOrZero 64 (one_of (codes "largest") rows) program.largest
+  pub classes : AreClassesOf (all_of (codes "classes") rows) (option_map (λ c. c.items) program.classes)
+  pub asks : AllZip AreAsked (unwrap_or (all_of (codes "asks") rows) []) program.asks.items
 
 -- a flag is set if its text is true; it isn't if its text is false or there is none
 abbrev pub IsFlag : Option Text → Bool → Type 0
@@ -93,10 +112,7 @@ Asks name rows (Mmu words windows) = (name ≡ codes "mmu")
 Asks name rows (Pages words by) = (name ≡ codes "pages")
     × (pace : Bool) × IsFlag (one_of (codes "pace") rows) pace × (plan : Bool) × IsFlag (one_of (codes "plan") rows) plan
     × IsSizing pace plan by
-Asks name rows (Plan words live classes) = (name ≡ codes "plan")
-    × ((said : Option ℕ) × IsNumber 64 (one_of (codes "live") rows) said
-    × IsLiveData said (all_of (codes "objects") rows) live)
-    × AreClassesOf (all_of (codes "classes") rows) (option_map (λ c. c.items) classes)
+Asks name rows (Plan words program) = (name ≡ codes "plan") × IsProgram rows program
 Asks name rows (Draw words drawing) = (name ≡ codes "draw") × IsDrawn rows drawing
 
 -- the argument that has the name of a subcommand's other file, if the subcommand has one

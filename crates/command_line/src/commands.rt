@@ -14,7 +14,7 @@ pub fn program<'a>(alloc: Global) -> Result<Command<'a>, AllocError>
 {
     let top = Command::new(alloc, "metronome")
         .about("A real-time garbage-collected heap: plays, checks and measures its traces")
-        .version("2")
+        .version("3")
         .subcommand_required(true);
     let program = with_subcommand(Ok(top), play(alloc));
     let program = with_subcommand(program, check(alloc));
@@ -68,7 +68,7 @@ fn threads<'a>(alloc: Global) -> Result<Command<'a>, AllocError>
 fn inspect<'a>(alloc: Global) -> Result<Command<'a>, AllocError>
     ensures { IfOk result (IsSubcommand words.inspect) }
 {
-    let by = "By what to report: page, shape or size";
+    let by = "By what to report: page, root, shape or size";
     on_trace(alloc, "inspect", "Play a trace and report the heap")?
         .arg(by_default(word(alloc, "by", "PART", by), "page"))?
         .arg(after(alloc))
@@ -134,11 +134,15 @@ fn plan<'a>(alloc: Global) -> Result<Command<'a>, AllocError>
 {
     let live = "Words of the blocks of live objects, headers included";
     let objects = "Live objects in place of words: A objects of B cells each";
+    let largest = "Words of the blocks of the largest object, 0 if not said";
     let sizes = "Words of a block of each size class that is asked for, all if not said";
+    let asks = "Tell how long a program waits that asks for W words in T ticks of its own";
     on_config(alloc, "plan", "Tell how a heap would pace itself")?
         .arg(long_figure(alloc, "live", "N", live))?
         .arg(words(alloc, "objects", "AxB", objects))?
-        .arg(figures(alloc, "classes", "S", sizes))
+        .arg(long_figure(alloc, "largest", "M", largest))?
+        .arg(figures(alloc, "classes", "S", sizes))?
+        .arg(words(alloc, "asks", "WxT", asks))
 }
 
 /// Returns a subcommand that works on a trace.

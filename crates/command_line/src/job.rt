@@ -22,6 +22,8 @@ pub enum Report {
     Sizes,
     /// By the shapes of objects.
     Shapes,
+    /// By the roots that keep objects.
+    Roots,
 }
 
 /// The base from which the pages that suffice are calculated.
@@ -55,6 +57,15 @@ pub struct Objects {
     pub cells: u32,
 }
 
+/// The words of blocks for which a program asks at most, headers included, while it runs for some ticks.
+#[derive(Clone, Copy, Debug, PartialEq, Eq)]
+pub struct Asked {
+    /// How many words these are.
+    pub words: u64,
+    /// For how many ticks it runs.
+    pub ticks: u64,
+}
+
 /// The live data for which a heap is planned.
 #[derive(Drop)]
 pub enum LiveData {
@@ -62,6 +73,19 @@ pub enum LiveData {
     Words(u64),
     /// The blocks of these objects.
     Objects(Vec<Objects>),
+}
+
+/// The program for which a heap is planned.
+#[derive(Drop)]
+pub struct Program {
+    /// The live data that it has at most.
+    pub live: LiveData,
+    /// The words of the blocks of its largest object, for which a plan has room; 0 if it isn't said.
+    pub largest: u64,
+    /// The size classes of which it asks for blocks, if not for all.
+    pub classes: Option<Vec<Class>>,
+    /// For how many words it asks in a time.
+    pub asks: Vec<Asked>,
 }
 
 /// The words that subcommands have: the names of their files, and two flags.
@@ -129,12 +153,11 @@ pub enum Job<'a> {
         words: Words<'a>,
         by: Sizing,
     },
-    /// Report how a heap would pace itself with this live data, on some numbers of pages, for a program that requests
-    /// blocks of these size classes alone, or of all. It has no other file.
+    /// Report how a heap would pace itself for this program, on some numbers of pages, and for how long the program waits.
+    /// It has no other file.
     Plan {
         words: Words<'a>,
-        live: LiveData,
-        classes: Option<Vec<Class>>,
+        program: Program,
     },
 }
 

@@ -7,8 +7,9 @@ mod drawings;
 mod fault;
 mod job;
 mod live;
+mod pairs;
 mod words;
 
 pub use fault::WordsFault;
-pub use job::{Drawing, Form, Job, LiveData, Objects, Report, Sizing, Words};
+pub use job::{Asked, Drawing, Form, Job, LiveData, Objects, Program, Report, Sizing, Words};
 pub use words::read_words;

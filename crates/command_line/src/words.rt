@@ -227,8 +227,9 @@ fn report(alloc: Global, name: &str) -> Result<Report, Refusal>
         ("page", Report::Pages),
         ("size", Report::Sizes),
         ("shape", Report::Shapes),
+        ("root", Report::Roots),
     ];
-    let expected = "none of page, shape and size";
+    let expected = "none of page, root, shape and size";
     chosen(alloc, name, &reports, "--by <PART>", expected)
 }
 

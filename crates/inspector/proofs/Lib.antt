@@ -5,3 +5,7 @@ pub mod PageByPage
 pub mod Parts
 pub mod ShapeSums
 pub mod ShapeCounts
+pub mod OwnedBy
+pub mod Owning
+pub mod RootSums
+pub mod Histories

@@ -2,6 +2,11 @@ pub mod Report
 pub mod Filling
 pub mod Shapes
 pub mod Counted
+pub mod Nearest
+pub mod Owning
+pub mod Roots
+pub mod ByRoot
+pub mod Totals
 pub mod ClassLines
 pub mod NeededReport
 pub mod Steps

@@ -1,31 +1,12 @@
 //! The program: plays, checks, runs and inspects heaps, as its words ask.
 #![tactic(auto)]
 
-mod after;
-mod answer_job;
-mod configs;
-mod demand_job;
-mod explain;
-mod fault;
-mod files;
-mod jobs;
-mod measuring;
-mod names;
-mod notes;
-mod plan_job;
-mod progress;
-mod room;
-mod run;
-mod tail;
 #[cfg(test)]
 mod tests;
-mod told;
-mod two_runs;
 
-use fault::RunFault;
-use files::HostFiles;
 use graph_heap::NoMemory;
-use run::{run, tell};
+use program::run::{run, tell};
+use program::{HostFiles, RunFault};
 use std::env;
 use std::io::{self, ErrorKind, Input};
 use std::process::ExitCode;

@@ -1,9 +1,9 @@
 //! Runs the program on texts in memory.
 mod rows;
 
-use crate::files::Opener;
-use crate::run::run;
 use graph_heap::NoMemory;
+use program::Opener;
+use program::run::run;
 use rows::{Row, collecting, telling};
 use std::alloc::AllocGlobal;
 use std::io::{self, ErrorKind};
@@ -21,7 +21,7 @@ struct Texts<'a> {
 impl<'a> Opener for Texts<'a> {
     type File = MemorySource<'a>;
 
-    ghost use Rattle.metronome.specs.Files.{unknown_file};
+    ghost use Rattle.program.specs.Files.{unknown_file};
 
     ghost known = { λ _ _. unknown_file };
 

@@ -5,6 +5,7 @@ use Rattle.std.specs.declared.alloc.Global.{Global}
 use Rattle.size_classes.specs.Config.{cycle_limit_of}
 use Rattle.size_classes.specs.declared.config.Config.{Config}
 use Rattle.graph_heap.specs.declared.command.Entry.{Entry}
+use Rattle.heap_model.specs.Event.{present_of}
 use Rattle.heap_model.specs.State.{HeapState}
 use Rattle.quanta.specs.Timetable.{Timetable}
 use Rattle.trace.specs.Streams.{Given}
@@ -27,7 +28,7 @@ use Rattle.pictures.specs.Quanta.{quanta_of, HasQuanta}
 use Rattle.pictures.specs.Refused.{refusals_of}
 use Rattle.pictures.specs.Sampler.{IsAlong}
 use Rattle.pictures.specs.Samples.{AreSampled}
-use Rattle.pictures.specs.Tables.{sample_row, quantum_row, cycle_row, share_row, refused_row, pages_table, ShapesTable}
+use Rattle.pictures.specs.Tables.{sample_row, quantum_row, cycle_row, share_row, refused_row, pages_table, ShapesTable, RootsTable}
 use Rattle.pictures.specs.Utilisation.{AreShares, span_of}
 
 -- the pages of a configuration, and its roots
@@ -98,9 +99,11 @@ pub record IsRunData (config : Config) (run : Run) (p : PlayerState) (lines : �
   pub are_shares : AreShares config p.timetable shares
   pub shapes : List ℕ
   pub are_shapes : ShapesTable p.course.heap shapes
+  pub roots : List ℕ
+  pub are_roots : RootsTable (present_of p.course) roots
   pub told : text ≡ concat (settings_text config ∷ counts_text config p lines ∷ refused_table p.course.history
       ∷ samples_table stride samples ∷ quanta_table (quanta_of run.steps) ∷ cycles_table cycles ∷ shares_table shares
-      ∷ pages_table p.course.heap.store.pages ∷ shapes ∷ [])
+      ∷ pages_table p.course.heap.store.pages ∷ shapes ∷ roots ∷ [])
 
 -- the data of a run that played an input on a new player
 abbrev pub TellsData : (config : Config) (given : Given) → NewRun config given → String Global → Type 0

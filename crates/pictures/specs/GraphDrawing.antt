@@ -1,13 +1,12 @@
 -- The document of a graph heap: the objects nearest to its roots, and the references between them.
-use Rattle.std.specs.Prelude.{ℕ, ◌-◌, ◌*◌, ◌/◌, ◌%◌, ◌==◌, nat_eq, nat_lt, if◌then◌else◌, List, [], ◌∷◌, ◌++◌, length, map, take, flat_map, Option, None, Some}
+use Rattle.std.specs.Prelude.{ℕ, ◌-◌, ◌==◌, nat_eq, if◌then◌else◌, List, [], ◌∷◌, ◌++◌, length, map, take, flat_map, Option, None, Some}
 use Rattle.std.specs.Set.{is_member}
 use Rattle.graph_heap.specs.declared.command.Limits.{Limits}
 use Rattle.graph_heap.specs.Graph.{Graph, object_of}
 use Rattle.graph_heap.specs.declared.reachability.found.Found.{Found}
 use Rattle.graph_heap.specs.declared.reachability.found.Holder.{Holder}
 use Rattle.graph_heap.specs.declared.reachability.found.Holder.TheVariants as holds
-use Rattle.pictures.specs.declared.graph.statement.Root.{Root}
-use Rattle.pictures.specs.declared.graph.statement.Root.TheVariants.{Slot, Static}
+use Rattle.inspector.specs.Roots.{root_at}
 use Rattle.pictures.specs.declared.graph.statement.Statement.{Statement}
 use Rattle.pictures.specs.declared.graph.statement.Statement.TheVariants.{Open, LeftToRight, Box, Holds, Object, Cell, LeftOut, Close}
 use Rattle.pictures.specs.Lines.{each_from}
@@ -17,12 +16,6 @@ use Rattle.pictures.specs.Statements.{dot_text}
 -- the identities of the first objects that were found, at most this many
 abbrev pub shown_of : ℕ → List Found → List ℕ
 shown_of most found = map (λ f. f.id) (take most found)
-
--- the root at a place of the row of roots: the slots of each mutator, and then the statics
-abbrev pub root_at : Limits → ℕ → Root
-root_at l place =
-    if nat_lt place (l.mutators * l.slots) then Slot (place / l.slots) (place % l.slots)
-    else Static (place - l.mutators * l.slots)
 
 -- a holder, and the object that it holds: a root has a box, and a reference cell is written with its object
 abbrev pub holder_drawn : Limits → Holder → ℕ → List Statement

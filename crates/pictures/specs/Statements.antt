@@ -3,16 +3,11 @@
 use Rattle.std.specs.Prelude.{ℕ, List, ◌++◌, codes, decimal}
 use Rattle.graph_heap.specs.declared.command.Shape.{Shape}
 use Rattle.graph_heap.specs.declared.command.Shape.TheVariants.{Plain, RefArray, WordArray}
-use Rattle.pictures.specs.declared.graph.statement.Root.{Root}
-use Rattle.pictures.specs.declared.graph.statement.Root.TheVariants.{Slot, Static}
+use Rattle.inspector.specs.declared.by_root.places.Root.{Root}
+use Rattle.inspector.specs.Roots.{root_name}
 use Rattle.pictures.specs.declared.graph.statement.Statement.{Statement}
 use Rattle.pictures.specs.declared.graph.statement.Statement.TheVariants.{Open, LeftToRight, Box, Holds, Object, Cell, LeftOut, Close}
 use Rattle.pictures.specs.Lines.{lines_text}
-
--- the name of a root
-abbrev pub root_name : Root → List ℕ
-root_name (Slot mutator slot) = codes "slot " ++ decimal mutator ++ codes " " ++ decimal slot
-root_name (Static k) = codes "static " ++ decimal k
 
 -- the box of a root
 abbrev pub box_line : Root → List ℕ

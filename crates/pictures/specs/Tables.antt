@@ -1,5 +1,7 @@
 -- The tables of a run's data.
 use Rattle.std.specs.Prelude.{◌≡◌, ℕ, zero, suc, ◌+◌, ◌*◌, List, [], ◌∷◌, ◌++◌, length, Option, Some, None, codes}
+use Rattle.graph_heap.specs.declared.command.Limits.{Limits}
+use Rattle.graph_heap.specs.Graph.{Graph}
 use Rattle.size_classes.specs.Sizes.{size_of}
 use Rattle.heap_model.specs.Pages.{Page, page_at}
 use Rattle.heap_model.specs.State.{HeapState}
@@ -8,7 +10,13 @@ use Rattle.pages.specs.declared.view.PageView.{PageView}
 use Rattle.inspector.specs.declared.cycles.cycle.Cycle.{Cycle}
 use Rattle.inspector.specs.declared.shapes.held.Cells.{Cells}
 use Rattle.inspector.specs.declared.shapes.held.Held.{Held}
+use Rattle.inspector.specs.declared.by_root.counting.Holding.{Holding}
+use Rattle.inspector.specs.declared.by_root.counting.RootRow.{RootRow}
+use Rattle.inspector.specs.declared.by_root.places.Root.{Root}
+use Rattle.inspector.specs.declared.by_root.places.Root.TheVariants.{Slot, Static}
+use Rattle.inspector.specs.ByRoot.{AreRootRows}
 use Rattle.inspector.specs.CyclesText.{figures}
+use Rattle.inspector.specs.Roots.{root_at}
 use Rattle.inspector.specs.Shapes.{AreRows}
 use Rattle.pictures.specs.declared.quantum_log.Quantum.{Quantum}
 use Rattle.pictures.specs.declared.refusals.Refused.{Refused}
@@ -73,3 +81,21 @@ shapes_table rows =
 -- the shapes of a heap
 abbrev pub ShapesTable : HeapState → List ℕ → Type 0
 ShapesTable h text = (rows : List (Cells × Held)) × AreRows h.store rows × (text ≡ shapes_table rows)
+
+-- a root: the objects that it owns, the words of their blocks, and its mutator and slot, or the number of a static
+abbrev pub row_at : Root → Holding → List ℕ
+row_at (Slot mutator slot) h = row_text h.objects (Some h.words ∷ Some mutator ∷ Some slot ∷ None ∷ [])
+row_at (Static k) h = row_text h.objects (Some h.words ∷ None ∷ None ∷ Some k ∷ [])
+
+-- a root, by its place in the row of roots
+abbrev pub root_row : Limits → RootRow → List ℕ
+root_row l row = row_at (root_at l row.root) row.holding
+
+-- roots
+abbrev pub roots_table : Limits → List RootRow → List ℕ
+roots_table l rows =
+    table_text (codes "\"roots\":[[\"objects\",\"words\",\"mutator\",\"slot\",\"static\"]") (root_row l) rows
+
+-- the roots that own the objects of a graph heap
+abbrev pub RootsTable : Graph → List ℕ → Type 0
+RootsTable g text = (rows : List RootRow) × (all : Holding) × AreRootRows g rows all × (text ≡ roots_table g.limits rows)

@@ -1,5 +1,6 @@
 //! The data of a run, in JSON.
 ghost use Rattle.std.specs.Prelude.{◌≡◌, ◌+◌, IfOk, string_bytes};
+ghost use Rattle.heap_model.specs.Settings.{settings_of, settings_by};
 ghost use Rattle.trace.specs.LinesProcessed.{reads_failed};
 ghost use Rattle.trace.specs.Streams.{given_by, Stays};
 ghost use Rattle.pictures.specs.Data.{SamplesText, CyclesText, SharesText, samples_table, refused_table, quanta_table, room_text, moving_text, schedule_text, settings_text, lengths_text, counts_text, IsNoted, DataTold};
@@ -11,9 +12,9 @@ use crate::refusals::{made, refusals};
 use crate::run_log::RunLog;
 use crate::sample::Sample;
 use crate::sampler::Sampler;
-use crate::tables::{pages_table, shapes_table};
+use crate::tables::{pages_table, roots_table, shapes_table};
 use graph_heap::NoMemory;
-use inspector::Log;
+use inspector::{Log, graph_after};
 use machine::{Heap, Recorded};
 use quanta::Schedule;
 use size_classes::Config;
@@ -169,9 +170,11 @@ fn run_text(
     log: RunLog,
     lines: u64,
 ) -> Result<String, NoMemory>
+    requires { settings_of player.now.course.heap ≡ settings_by config.now }
     ensures { IfOk result (IsNoted config.now player.now lines log) }
 {
     let heap = player.recorded().heap();
+    let graph = graph_after(alloc, config, player)?;
     let RunLog {
         sampler,
         cycles,
@@ -190,6 +193,7 @@ fn run_text(
         shares_text(alloc, config, player.schedule())?,
         pages_table(alloc, heap)?,
         shapes_table(alloc, heap)?,
+        roots_table(alloc, &graph)?,
     ]
     .concat(alloc)?)
 }
@@ -199,7 +203,7 @@ fn run_text(
 /// The data begin with the settings, the length of the run, and how many commands were refused for each reason. Then come
 /// samples of the heap, each of as many moments as the stride says; the quanta that found a cycle running; and the
 /// cycles, with the figures of their report. Last come the least shares of the mutators in windows of round lengths,
-/// beside the promised ones, and the pages and the shapes at the end. A fault is the one with which playing the trace
+/// beside the promised ones, and the pages, the shapes and the roots at the end. A fault is the one with which playing the trace
 /// ends; or memory was refused.
 pub fn run_data<S: Source>(
     alloc: Global,

@@ -1,14 +1,17 @@
 //! The tables of a run's data.
 ghost use Rattle.std.specs.Prelude.{◌≡◌, ◌+◌, IfOk, string_bytes};
 ghost use Rattle.pictures.specs.Tables as tables;
-ghost use Rattle.pictures.specs.Tables.{sample_row, quantum_row, cycle_row, share_row, refused_row, page_row, shape_row, pages_table, ShapesTable};
+ghost use Rattle.pictures.specs.Tables.{sample_row, quantum_row, cycle_row, share_row, refused_row, page_row, shape_row, root_row, pages_table, ShapesTable, RootsTable};
 
 use crate::json::{JsonRow, row};
 use crate::quantum_log::Quantum;
 use crate::refusals::Refused;
 use crate::sample::Sample;
 use crate::share::Share;
-use inspector::{Cells, Counted, Cycle, Held, count, figures};
+use graph_heap::{Limits, NoMemory, Reference};
+use inspector::{
+    Cells, Counted, Cycle, Held, Holding, Root, RootRow, count, count_by_root, figures, root_at,
+};
 use machine::Heap;
 use std::alloc::{AllocError, Global};
 
@@ -146,4 +149,50 @@ pub(crate) fn shapes_table(alloc: Global, heap: &Heap) -> Result<String, AllocEr
 {
     let counted = count(alloc, heap)?;
     shape_rows(alloc, &counted)
+}
+
+/// Returns the row of a root: how many objects it owns, the words of their blocks, and its mutator and slot, or the
+/// number of a static.
+fn root_row(alloc: Global, limits: &Limits, one: &RootRow) -> Result<String, AllocError>
+    ensures { IfOk result (λ text. string_bytes text ≡ root_row limits.now one.now) }
+{
+    let Holding { objects, words } = one.holding;
+    match root_at(limits, one.root) {
+        Root::Slot(mutator, slot) => row(
+            alloc,
+            objects,
+            &[
+                Some(words),
+                Some(u128::from(mutator)),
+                Some(u128::from(slot)),
+                None,
+            ],
+        ),
+        Root::Static(number) => row(
+            alloc,
+            objects,
+            &[Some(words), None, None, Some(u128::from(number))],
+        ),
+    }
+}
+
+/// Returns the table of rows of roots.
+fn root_rows(alloc: Global, limits: &Limits, rows: &[RootRow]) -> Result<String, AllocError>
+    ensures { IfOk result (λ text. string_bytes text ≡ tables.roots_table limits.now rows.now) }
+{
+    let head = "\"roots\":[[\"objects\",\"words\",\"mutator\",\"slot\",\"static\"]";
+    let mut text = String::from_str(alloc, head)?;
+    for one in rows {
+        text.push_str(root_row(alloc, limits, one)?.as_str())?;
+    }
+    text.push_str("],\n")?;
+    Ok(text)
+}
+
+/// Returns the table of the roots that own the objects of a graph heap, as the report by root has them.
+pub(crate) fn roots_table(alloc: Global, graph: &Reference) -> Result<String, NoMemory>
+    ensures { IfOk result (λ text. RootsTable graph.now (string_bytes text)) }
+{
+    let counted = count_by_root(alloc, graph)?;
+    Ok(root_rows(alloc, graph.limits(), counted.rows.as_slice())?)
 }

@@ -5,3 +5,5 @@ mod Metering
 mod Classes
 mod SameCells
 mod Lines
+mod Windows
+mod Shares

@@ -8,7 +8,7 @@ use Rattle.size_classes.specs.declared.config.TheConstants.{MOST_HEAP_PAGES}
 use Rattle.paced.specs.declared.plan.Plan.{Plan}
 use Rattle.paced.specs.Planning.{IsFastestFor, IsLeastPagesFor}
 use Rattle.plans.specs.Order.{IsNext, AreInOrder, OneForEach}
-use Rattle.plans.specs.Report.{IsRow, IsTable}
+use Rattle.plans.specs.Report.{IsTable}
 
 -- The numbers up to a bound have an item each: whatever numbers come above it are in order with them.
 pub record HasItems {A : Type 0} (IsOf : ℕ → A → Type 0) (numbers : List ℕ) (above : ℕ) (items : List A) : Type 0 where
@@ -46,35 +46,35 @@ module _ {A : Type 0} (IsOf : ℕ → A → Type 0) (numbers : List ℕ) where
     each = so.each;
   }
 
--- The numbers up to a bound have a line each, and these are a text.
-pub record HasRows (makes : ℕ → Bool) (c : Config) (live : ℕ) (numbers : List ℕ) (above : ℕ) (text : List ℕ) : Type 0 where
-  pub lines : List (List ℕ)
-  pub each : HasItems (IsRow makes c live) numbers above lines
-  pub told : text ≡ concat lines
+-- The numbers up to a bound have their lines, and these are a text.
+pub record HasRows (IsOf : ℕ → List ℕ → Type 0) (numbers : List ℕ) (above : ℕ) (text : List ℕ) : Type 0 where
+  pub rows : List (List ℕ)
+  pub each : HasItems IsOf numbers above rows
+  pub told : text ≡ concat rows
 
-module _ (makes : ℕ → Bool) (c : Config) (live : ℕ) (numbers : List ℕ) where
+module _ (IsOf : ℕ → List ℕ → Type 0) (numbers : List ℕ) where
   -- There is no row yet.
-  pub no_rows : (text : List ℕ) → text ≡ [] → HasRows makes c live numbers 0 text
-  no_rows text e = record { lines = []; each = no_items (IsRow makes c live) numbers; told = e }
+  pub no_rows : (text : List ℕ) → text ≡ [] → HasRows IsOf numbers 0 text
+  no_rows text e = record { rows = []; each = no_items IsOf numbers; told = e }
 
   -- The next row is added.
-  pub one_row : (above : ℕ) (text : List ℕ) (next : ℕ) (line new : List ℕ) → HasRows makes c live numbers above text → IsNext numbers above (Some next) → IsRow makes c live next line → new ≡ text ++ line → HasRows makes c live numbers next new
-  one_row above text next line new so is row e = record {
-    lines = so.lines ++ line ∷ [];
-    each = one_item (IsRow makes c live) numbers above so.lines next line so.each is row;
-    told = e ∙ ap (λ t. t ++ line) so.told ∙ sym (concat_more so.lines line);
+  pub one_row : (above : ℕ) (text : List ℕ) (next : ℕ) (row new : List ℕ) → HasRows IsOf numbers above text → IsNext numbers above (Some next) → IsOf next row → new ≡ text ++ row → HasRows IsOf numbers next new
+  one_row above text next row new so is of e = record {
+    rows = so.rows ++ row ∷ [];
+    each = one_item IsOf numbers above so.rows next row so.each is of;
+    told = e ∙ ap (λ t. t ++ row) so.told ∙ sym (concat_more so.rows row);
   }
 
   -- All rows are there.
-  pub all_rows : (above : ℕ) (text : List ℕ) → HasRows makes c live numbers above text → IsNext numbers above None → IsTable makes c live numbers text
-  all_rows above text so none = record { lines = so.lines; each = all_items (IsRow makes c live) numbers above so.lines so.each none; told = so.told }
+  pub all_rows : (above : ℕ) (text : List ℕ) → HasRows IsOf numbers above text → IsNext numbers above None → IsTable IsOf numbers text
+  all_rows above text so none = record { rows = so.rows; each = all_items IsOf numbers above so.rows so.each none; told = so.told }
 
 -- the fastest plan has a word for each quantum
-pub fastest_words : (makes : ℕ → Bool) (c : Config) (live : ℕ) (plan : Option Plan) → IsFastestFor makes c live 0 plan → IfSome plan (λ p. 1 ≤ p.quantum_words)
-fastest_words makes c live None is = tt
-fastest_words makes c live (Some plan) is = is.0.some
+pub fastest_words : (makes : ℕ → Bool) (c : Config) (live largest : ℕ) (plan : Option Plan) → IsFastestFor makes c live largest plan → IfSome plan (λ p. 1 ≤ p.quantum_words)
+fastest_words makes c live largest None is = tt
+fastest_words makes c live largest (Some plan) is = is.0.some
 
 -- the least number of pages is one that a heap may have
-pub least_within : (makes : ℕ → Bool) (c : Config) (live : ℕ) (least : Option ℕ) → IsLeastPagesFor makes c live 0 least → IfSome least (λ pages. pages ≤ MOST_HEAP_PAGES)
-least_within makes c live None is = tt
-least_within makes c live (Some pages) is = is.1
+pub least_within : (makes : ℕ → Bool) (c : Config) (live largest : ℕ) (least : Option ℕ) → IsLeastPagesFor makes c live largest least → IfSome least (λ pages. pages ≤ MOST_HEAP_PAGES)
+least_within makes c live largest None is = tt
+least_within makes c live largest (Some pages) is = is.1

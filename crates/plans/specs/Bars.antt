@@ -21,7 +21,7 @@ figures_of c (Some plan) = Some (record {
 -- the bar of a number of pages, of the fastest plan on as many
 abbrev pub IsBar : (ℕ → Bool) → Config → ℕ → ℕ → PlanBar → Type 0
 IsBar makes c live pages bar =
-    (of : FastestOn makes c live pages) × (bar ≡ record { pages = pages; plan = figures_of of.on of.plan })
+    (of : FastestOn makes c (record { live = live; largest = 0 }) pages) × (bar ≡ record { pages = pages; plan = figures_of of.on of.plan })
 
 -- a bar for each of some numbers of pages that a heap may have, in rising order, each once
 abbrev pub AreBars : (ℕ → Bool) → Config → ℕ → List ℕ → List PlanBar → Type 0

@@ -1,5 +1,5 @@
 -- How many words live objects have at most in a run, and of which size classes blocks are made.
-use Rattle.std.specs.Prelude.{◌≡◌, ℕ, ◌-◌, ◌^◌, ◌<◌, ◌≤◌, ◌↔◌, nat_lt, List, ◌++◌, None, Result, slice_index}
+use Rattle.std.specs.Prelude.{◌≡◌, ℕ, ◌-◌, ◌^◌, ◌<◌, ◌≤◌, ◌↔◌, nat_lt, List, [], ◌++◌, None, Result, slice_index}
 use Rattle.std.specs.List.{All}
 use Rattle.graph_heap.specs.Graph.{Graph}
 use Rattle.size_classes.specs.declared.config.Config.{Config}
@@ -49,7 +49,7 @@ AreClasses blocks used = (class : ℕ) → class < CLASSES → among used class 
 -- only of the classes that the run used.
 pub record IsRunPlans (c : Config) (live : MostLive) (text : List ℕ) : Type 0 where
   pub report : List ℕ
-  pub of_all : IsPlansReport None c live.words report
+  pub of_all : IsPlansReport None c (record { live = live.words; largest = 0 }) [] report
   pub used : List ℕ
   pub made : AreClasses live.blocks used
   pub line : List ℕ

@@ -9,6 +9,7 @@ use Rattle.paced.specs.Cycles.{saturated}
 use Rattle.paced.specs.Planning.{IsLeastPagesFor}
 use Rattle.paced.specs.Pacing.{shape_words}
 use Rattle.paced.specs.Rooms.{made_of}
+use Rattle.command_line.specs.declared.job.Asked.{Asked}
 use Rattle.command_line.specs.declared.job.Objects.{Objects}
 use Rattle.plans.specs.Report.{IsPlansReport}
 
@@ -42,9 +43,10 @@ megabytes_line (Some pages) = codes "megabytes " ++ (decimal (megabyte_tenths pa
 
 -- The report of the plans for some live objects: a line for each group, the report for the words of all their blocks, and
 -- the megabytes of the fewest pages with a plan. If size classes are given, blocks are made of these alone.
-pub record IsObjectsReport (classes : Option (List ℕ)) (c : Config) (groups : List Objects) (text : List ℕ) : Type 0 where
+pub record IsObjectsReport (classes : Option (List ℕ)) (c : Config) (groups : List Objects) (largest : ℕ) (asks : List Asked)
+    (text : List ℕ) : Type 0 where
   pub report : List ℕ
-  pub of_words : IsPlansReport classes c (saturated (all_words groups)) report
+  pub of_words : IsPlansReport classes c (record { live = saturated (all_words groups); largest = largest }) asks report
   pub least : Option ℕ
-  pub is_least : IsLeastPagesFor (made_of classes) c (saturated (all_words groups)) 0 least
+  pub is_least : IsLeastPagesFor (made_of classes) c (saturated (all_words groups)) largest least
   pub told : text ≡ concat (map group_line groups) ++ (report ++ megabytes_line least)

@@ -9,7 +9,10 @@ use Rattle.paced.specs.declared.plan.Plan.{Plan}
 use Rattle.fragmentation.specs.Flow.{classes_made}
 use Rattle.paced.specs.Rooms.{among, made_of, planned_flow}
 use Rattle.paced.specs.Planning.{quanta_on, IsFastestFor, IsLeastPagesFor}
+use Rattle.command_line.specs.declared.job.Asked.{Asked}
+use Rattle.plans.specs.declared.needs.Needs.{Needs}
 use Rattle.plans.specs.Order.{OneForEach}
+use Rattle.plans.specs.Waits.{waits_lines}
 
 -- the line with the live words, the units of a quantum, and the number of size classes, if some are given
 abbrev pub live_line : Config → ℕ → Option (List ℕ) → List ℕ
@@ -44,35 +47,38 @@ plan_line c live (Some plan) = codes "pages " ++ (decimal c.pages
     ++ codes "\n")))))))))
 
 -- The fastest plan on a number of pages, with a configuration that has as many. Every cycle moves and may empty all of
--- them, and blocks are made of these classes alone.
-pub record FastestOn (makes : ℕ → Bool) (c : Config) (live pages : ℕ) : Type 0 where
+-- them, and blocks are made of these classes alone. The plan has room for live objects, and for the largest.
+pub record FastestOn (makes : ℕ → Bool) (c : Config) (needs : Needs) (pages : ℕ) : Type 0 where
   pub on : Config
   pub is_on : IsOnPages c pages true on
   pub plan : Option Plan
-  pub fastest : IsFastestFor makes on live 0 plan
+  pub fastest : IsFastestFor makes on needs.live needs.largest plan
 
--- the line of a number of pages, of the fastest plan on as many
-abbrev pub IsRow : (ℕ → Bool) → Config → ℕ → ℕ → List ℕ → Type 0
-IsRow makes c live pages line = (of : FastestOn makes c live pages) × (line ≡ plan_line of.on live of.plan)
+-- the line of a number of pages, of the fastest plan on as many, and a line for each number of words that is asked for
+abbrev pub IsRow : (ℕ → Bool) → Config → Needs → List Asked → ℕ → List ℕ → Type 0
+IsRow makes c needs asks pages lines = (of : FastestOn makes c needs pages)
+    × (lines ≡ plan_line of.on needs.live of.plan ++ waits_lines of.on needs.live asks of.plan)
 
--- a line for each of some numbers of pages that a heap may have, in rising order, each once
-pub record IsTable (makes : ℕ → Bool) (c : Config) (live : ℕ) (numbers text : List ℕ) : Type 0 where
-  pub lines : List (List ℕ)
-  pub each : OneForEach (IsRow makes c live) numbers lines
-  pub told : text ≡ concat lines
+-- the lines of each of some numbers of pages that a heap may have, in rising order, each once
+pub record IsTable (IsOf : ℕ → List ℕ → Type 0) (numbers text : List ℕ) : Type 0 where
+  pub rows : List (List ℕ)
+  pub each : OneForEach IsOf numbers rows
+  pub told : text ≡ concat rows
 
 -- the numbers of pages that have a line: the configuration's own, the fewest, and some more
 abbrev pub numbers_told : Config → Option ℕ → List ℕ
 numbers_told c None = c.pages ∷ []
 numbers_told c (Some few) = c.pages ∷ few ∷ (few + few / 4) ∷ (few + few / 2) ∷ (2 * few) ∷ (3 * few) ∷ []
 
--- the report of the plans for this many live words; if size classes are given, blocks are made of these alone
-pub record IsPlansReport (classes : Option (List ℕ)) (c : Config) (live : ℕ) (text : List ℕ) : Type 0 where
+-- The report of the plans with room for these words, and for how long a program waits that asks for some words. If size
+-- classes are given, blocks are made of these alone.
+pub record IsPlansReport (classes : Option (List ℕ)) (c : Config) (needs : Needs) (asks : List Asked) (text : List ℕ)
+    : Type 0 where
   pub least : Option ℕ
-  pub is_least : IsLeastPagesFor (made_of classes) c live 0 least
+  pub is_least : IsLeastPagesFor (made_of classes) c needs.live needs.largest least
   pub rows : List ℕ
-  pub table : IsTable (made_of classes) c live (numbers_told c least) rows
-  pub told : text ≡ live_line c live classes ++ (fewest_line least ++ rows)
+  pub table : IsTable (IsRow (made_of classes) c needs asks) (numbers_told c least) rows
+  pub told : text ≡ live_line c needs.live classes ++ (fewest_line least ++ rows)
 
 -- the number of these size classes, and the fewest pages with a plan if blocks are made of them alone
 abbrev pub IsClassesLine : Config → ℕ → List ℕ → List ℕ → Type 0

@@ -8,10 +8,11 @@ ghost use Rattle.paced.specs.Cycles.{saturated};
 ghost use Rattle.paced.specs.Pacing.{shape_words};
 ghost use Rattle.plans.specs.Objects.{object_words, group_words, all_words, group_line, megabytes_line, IsObjectsReport};
 
+use crate::needs::Needs;
 use crate::report::plans_report;
-use command_line::Objects;
+use command_line::{Asked, Objects};
 use graph_heap::Shape;
-use paced::{least_pages, words_of_shape};
+use paced::{least_pages_for, words_of_shape};
 use size_classes::{Class, Config, PAGE_WORDS};
 use std::alloc::{AllocError, Global};
 
@@ -89,16 +90,19 @@ pub fn objects_report(
     alloc: Global,
     config: &Config,
     groups: &[Objects],
+    largest: u64,
     classes: Option<&[Class]>,
+    asks: &[Asked],
 ) -> Result<String, AllocError>
     ensures { IfOk result (λ text. IsObjectsReport (option_map (λ used. used.now) classes.entry) config.now groups.now
-        (string_bytes text)) }
+        largest asks.now (string_bytes text)) }
 {
     let live = words_of_objects(groups);
+    let needs = Needs { live, largest };
     [
         group_lines(alloc, groups)?,
-        plans_report(alloc, config, live, classes)?,
-        megabytes_line(alloc, least_pages(config, live, classes))?,
+        plans_report(alloc, config, needs, classes, asks)?,
+        megabytes_line(alloc, least_pages_for(config, live, largest, classes))?,
     ]
     .concat(alloc)
 }

@@ -2,10 +2,12 @@
 ghost use Rattle.std.specs.Prelude.{◌≡◌, ◌≤◌, IfOk, IfSome, option_map, string_bytes, take};
 ghost use Rattle.size_classes.specs.declared.config.TheConstants.{MOST_HEAP_PAGES};
 ghost use Rattle.paced.specs.Rooms.{made_of};
-ghost use Rattle.plans.specs.Report.{live_line, fewest_line, numbers_told, IsClassesLine, IsTable, IsPlansReport};
+ghost use Rattle.plans.specs.Report.{live_line, fewest_line, numbers_told, IsClassesLine, IsRow, IsTable, IsPlansReport};
 
+use crate::needs::Needs;
 use crate::table::table;
-use paced::{classes_in, least_pages};
+use command_line::Asked;
+use paced::{classes_in, least_pages, least_pages_for};
 use size_classes::{Class, Config, MOST_PAGES};
 use std::alloc::{AllocError, Global};
 
@@ -83,39 +85,41 @@ pub(crate) fn numbers_told(config: &Config, least: Option<u32>) -> ([u32; 6], us
 fn plans(
     alloc: Global,
     config: &Config,
-    live_words: u64,
+    needs: Needs,
     classes: Option<&[Class]>,
+    asks: &[Asked],
     least: Option<u32>,
 ) -> Result<String, AllocError>
     requires { IfSome least (λ pages. pages ≤ MOST_HEAP_PAGES) }
-    ensures { IfOk result (λ text. IsTable (made_of (option_map (λ used. used.now) classes.entry)) config.now live_words
-        (numbers_told config.now least) (string_bytes text)) }
+    ensures { IfOk result (λ text. IsTable (IsRow (made_of (option_map (λ used. used.now) classes.entry)) config.now needs
+        asks.now) (numbers_told config.now least) (string_bytes text)) }
 {
     let (numbers, count) = numbers_told(config, least);
-    table(alloc, config, live_words, classes, &numbers[..count])
+    table(alloc, config, needs, classes, asks, &numbers[..count])
 }
 
-/// Returns the report of the plans by which a heap of a configuration paces itself, if the blocks of live objects have at
-/// most this many words whenever a cycle begins, headers included. It has the units of a quantum. It has the fewest pages
+/// Returns the report of the plans by which a heap of a configuration paces itself, with room for these words. It has the units of a quantum. It has the fewest pages
 /// with a plan, and the keys to set for them, or says that no number of pages has one. It has a line for each of some
 /// numbers of pages, in rising order: the configuration's own, the fewest, and 5/4, 3/2, 2 and 3 times as many, as far as
 /// a heap may have them. Except for the pages, and the moving that a plan needs, all is as the configuration has it. If
 /// size classes are given, the plans are for a program that requests blocks of these alone, and the report has their
-/// number.
+/// number. For each plan there is a line for each number of words in `asks`: it has the most quanta for which a program
+/// waits that asks for them, and its share of the time.
 pub fn plans_report(
     alloc: Global,
     config: &Config,
-    live_words: u64,
+    needs: Needs,
     classes: Option<&[Class]>,
+    asks: &[Asked],
 ) -> Result<String, AllocError>
-    ensures { IfOk result (λ text. IsPlansReport (option_map (λ used. used.now) classes.entry) config.now live_words
-        (string_bytes text)) }
+    ensures { IfOk result (λ text. IsPlansReport (option_map (λ used. used.now) classes.entry) config.now needs
+        asks.now (string_bytes text)) }
 {
-    let least = least_pages(config, live_words, classes);
+    let least = least_pages_for(config, needs.live, needs.largest, classes);
     [
-        live_line(alloc, config, live_words, classes)?,
+        live_line(alloc, config, needs.live, classes)?,
         fewest_line(alloc, least)?,
-        plans(alloc, config, live_words, classes, least)?,
+        plans(alloc, config, needs, classes, asks, least)?,
     ]
     .concat(alloc)
 }

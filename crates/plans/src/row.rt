@@ -4,7 +4,10 @@ ghost use Rattle.size_classes.specs.declared.config.TheConstants.{MOST_HEAP_PAGE
 ghost use Rattle.paced.specs.Rooms.{made_of};
 ghost use Rattle.plans.specs.Report.{tenths_of, plan_line, IsRow};
 
-use paced::{Plan, cycle_quanta, planned};
+use crate::needs::Needs;
+use crate::waits::waits_lines;
+use command_line::Asked;
+use paced::{Plan, cycle_quanta, planned_for};
 use size_classes::{Class, Config};
 use std::alloc::{AllocError, Global};
 
@@ -39,18 +42,25 @@ fn plan_line(
 
 /// Returns the line of the plan on this many pages, if moving follows each sweep and may empty all of them: the number
 /// of pages, the most quanta that a cycle takes, the words of a quantum and of a cycle, and tenths of a unit for each
-/// word. Or the line says that there is no plan.
+/// word. The plan has room for the largest object. Lines follow that say for how long a program waits that asks for some words. Or the line says that there is no
+/// plan.
 pub(crate) fn row(
     alloc: Global,
     config: &Config,
-    live_words: u64,
+    needs: Needs,
     classes: Option<&[Class]>,
+    asks: &[Asked],
     pages: u32,
 ) -> Result<String, AllocError>
     requires { (1 ≤ pages) × (pages ≤ MOST_HEAP_PAGES) }
-    ensures { IfOk result (λ line. IsRow (made_of (option_map (λ used. used.now) classes.entry)) config.now live_words pages
-        (string_bytes line)) }
+    ensures { IfOk result (λ line. IsRow (made_of (option_map (λ used. used.now) classes.entry)) config.now needs asks.now
+        pages (string_bytes line)) }
 {
     let on = config.on_pages(pages, true);
-    plan_line(alloc, &on, live_words, planned(&on, live_words, classes))
+    let plan = planned_for(&on, needs.live, needs.largest, classes);
+    [
+        plan_line(alloc, &on, needs.live, plan)?,
+        waits_lines(alloc, &on, needs.live, asks, plan)?,
+    ]
+    .concat(alloc)
 }

@@ -3,6 +3,7 @@ ghost use Rattle.std.specs.Prelude.{IfOk, string_bytes};
 ghost use Rattle.plans.specs.Live.{AreClasses, IsRunPlans};
 
 use crate::live::MostLive;
+use crate::needs::Needs;
 use crate::report::{classes_line, plans_report};
 use size_classes::{CLASSES, Class, Config};
 use sizing::blocks::Blocks;
@@ -27,8 +28,12 @@ pub fn run_plans(alloc: Global, config: &Config, live: &MostLive) -> Result<Stri
     ensures { IfOk result (λ text. IsRunPlans config.now live.now (string_bytes text)) }
 {
     let used = classes_of(alloc, &live.blocks)?;
+    let needs = Needs {
+        live: live.words,
+        largest: 0,
+    };
     [
-        plans_report(alloc, config, live.words, None)?,
+        plans_report(alloc, config, needs, None, &[])?,
         classes_line(alloc, config, live.words, used.as_slice())?,
     ]
     .concat(alloc)

@@ -5,7 +5,7 @@ const MARKS = ["", "evacuating", "target of moves", "evacuating, target of moves
 const REASONS = { 1: "bad slot", 2: "null slot", 3: "bad index", 4: "wrong kind", 5: "too large", 6: "identities spent", 7: "no space",
   8: "bad static", 14: "not live", 15: "already live" };
 const PAGE_WORDS = 2048;
-const TABLES = ["samples", "quanta", "cycles", "windows", "shapes", "refused", "pages", "plans"];
+const TABLES = ["samples", "quanta", "cycles", "windows", "shapes", "roots", "refused", "pages", "plans"];
 
 /** A table of rows as a list for each column. */
 function columns(rows) {

@@ -6,6 +6,7 @@ for (const run of runs) {
   tellTexts(run);
   tellCycles(run);
   tellShapes(run);
+  tellRoots(run);
   tellSettings(run);
   makeCharts(run);
   makeTables(run);

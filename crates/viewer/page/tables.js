@@ -1,4 +1,4 @@
-// Key numbers, cycles, shapes, settings, and the sentences that say what each picture shows.
+// Key numbers, cycles, shapes, roots, settings, and the sentences that say what each picture shows.
 
 /** Tells the sizes of the heaps, with the names of the files of two runs. */
 function tellSubtitle() {
@@ -109,6 +109,17 @@ function tellShapes(run) {
     counts until it is swept.${rows.length > 200 ? " The 200 shapes that take most words are shown." : ""}`;
   run.element("shapes-table").innerHTML = table(["References", "Words", "Objects", "Parts", "Words of blocks", ""], first.map(i =>
     [...["refs", "words", "objects", "parts", "block_words"].map(name => number(shapes[name][i])), meter(shapes.block_words[i] / most)]));
+}
+
+/** Tells which roots own the live objects: the report by root. */
+function tellRoots(run) {
+  const { roots } = run, count = roots.objects.length, [most] = roots.words;
+  const name = i => roots.static[i] == null ? `slot ${number(roots.mutator[i])} ${number(roots.slot[i])}` : `static ${number(roots.static[i])}`;
+  run.element("roots-text").textContent = `At the end of the run: ${many(sum(roots.objects), "live object")}, ${
+    many(sum(roots.words), "word")} of their blocks. Each counts for its owner: of the nearest roots, the first.${
+    count > 200 ? " The 200 roots that own most words are shown." : ""}`;
+  run.element("roots-table").innerHTML = table(["Root", "Objects", "Words of blocks", ""], roots.objects.slice(0, 200).map((objects, i) =>
+    [name(i), number(objects), number(roots.words[i]), meter(roots.words[i] / most)]));
 }
 
 function tellSettings(run) {

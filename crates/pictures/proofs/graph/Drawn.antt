@@ -11,9 +11,10 @@ use Rattle.graph_heap.specs.Graph.{Graph, object_of}
 use Rattle.graph_heap.specs.declared.reachability.found.Found.{Found}
 use Rattle.graph_heap.specs.declared.reachability.found.Holder.{Holder}
 use Rattle.graph_heap.specs.declared.reachability.found.Holder.TheVariants as holds
-use Rattle.pictures.specs.declared.graph.statement.Root.{Root}
+use Rattle.inspector.specs.declared.by_root.places.Root.{Root}
 use Rattle.pictures.specs.declared.graph.statement.Statement.TheVariants.{Box, Holds, Object, LeftOut}
-use Rattle.pictures.specs.GraphDrawing.{root_at, holder_drawn, cell_drawn, cells_drawn, object_drawn, objects_drawn, left_out}
+use Rattle.inspector.specs.Roots.{root_at}
+use Rattle.pictures.specs.GraphDrawing.{holder_drawn, cell_drawn, cells_drawn, object_drawn, objects_drawn, left_out}
 
 -- a result that is this error
 pub failed_so : {A E : Type 0} (r : Result A E) (why : E) → IsErrAnd r (λ e. e ≡ why) → r ≡ Err why

@@ -8,25 +8,12 @@ ghost use Rattle.pictures.specs.GraphDrawing as drawings;
 ghost use Rattle.pictures.specs.GraphDrawing.{holder_drawn, cells_drawn, object_drawn, objects_drawn, graph_picture};
 ghost use Rattle.pictures.specs.GraphDrawn.{GraphDrawn};
 
-use crate::graph::statement::{Root, Statement};
+use crate::graph::statement::Statement;
 use crate::writing::{write_line, write_lines};
-use graph_heap::{Found, Holder, Limits, Reference, Search, holder, search};
+use graph_heap::{Found, Holder, Reference, Search, holder, search};
+use inspector::root_at;
 use std::alloc::Global;
 use trace::{PlayFault, Sink, WriteFailed};
-
-/// Returns the root at a place of the row of roots.
-fn root_at(limits: &Limits, place: usize) -> Root
-    ensures { result ≡ drawings.root_at limits.now place }
-{
-    let slots = limits.slots as usize;
-    let all = limits.mutators as usize * slots;
-    if place < all {
-        let (mutator, slot) = (place / slots, place % slots);
-        Root::Slot(mutator as u64, slot as u64)
-    } else {
-        Root::Static((place - all) as u64)
-    }
-}
 
 /// Writes how many objects aren't drawn, if there are any.
 fn write_left_out<K: Sink>(n: usize, sink: &mut K) -> Result<(), WriteFailed>

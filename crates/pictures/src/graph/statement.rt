@@ -1,18 +1,12 @@
 //! The statements of a drawn graph.
 ghost use Rattle.std.specs.Prelude.{◌≡◌, ◌≤◌, ◌<◌, ◌+◌, ◌++◌, length, take};
-ghost use Rattle.pictures.specs.Statements.{root_name, box_line, holds_line, shape_words, object_line, cell_line, left_out_line, statement_line};
+ghost use Rattle.inspector.specs.Roots.{root_name};
+ghost use Rattle.pictures.specs.Statements.{box_line, holds_line, shape_words, object_line, cell_line, left_out_line, statement_line};
 
 use crate::writing::DocumentLine;
 use graph_heap::Shape;
+use inspector::Root;
 use trace::{put, put_named};
-
-/// A root: a slot of a mutator, or a static, counted from 0.
-#[derive(Clone, Copy, Debug, PartialEq, Eq)]
-pub enum Root {
-    /// A mutator, and a slot of it.
-    Slot(u64, u64),
-    Static(u64),
-}
 
 /// A statement of a drawn graph. Each is a line of text.
 #[derive(Clone, Copy, Debug, PartialEq, Eq)]

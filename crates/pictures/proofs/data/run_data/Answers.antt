@@ -1,10 +1,12 @@
-use Rattle.std.proofs.Common.{[], inl, inr, refl, subst}
+use Rattle.std.proofs.Common.{[], None, inl, inr, refl, subst}
 use Rattle.std.proofs.lemmas.Result.{err_from_is_err_and}
 use Rattle.trace.specs.Observing.{observed, run_by}
 use Rattle.trace.specs.Playing.{session}
 use Rattle.trace.specs.Surveying.{NewRun}
 use Rattle.trace.proofs.LinesSeen.{stops_new}
 use Rattle.std.specs.Prelude.{string_bytes}
+use Rattle.trace.specs.declared.player.style.Style.TheVariants.{Nothing}
+use Rattle.inspector.proofs.Histories.{played_settings}
 use Rattle.pictures.specs.Data.{HasRun, IsRunData}
 use Rattle.pictures.proofs.data.run_data.Goals as goal
 
@@ -22,6 +24,10 @@ pub returns-in_err-run_text-clause-told : goal.returns-in_err-run_text-clause-to
 returns-in_err-run_text-clause-told g c =
     let p = err_from_is_err_and c.from_residual-in_err-run_text.result c.from_residual-in_err-run_text.ensures.1 in
     rw (p.1, p.2) (inr (c.in_ok-player.player, c.observe.new.run.player, c.in_ok-player.ensures, inr c.in_ok-end.ensures.observed.0))
+
+pub run_text-requires : goal.run_text-requires
+run_text-requires g c =
+    played_settings c.args.config.now None Nothing _ (session c.in_ok-player.player []) (session c.observe.new.run.player []) c.in_ok-player.ensures c.in_ok-end.ensures.observed.0
 
 pub returns-clause-told : goal.returns-clause-told
 returns-clause-told g c =

@@ -7,7 +7,7 @@ use Rattle.plans.proofs.Rows.{fastest_words}
 use Rattle.plans.proofs.bars.bar.Goals as goal
 
 pub figures-requires : goal.figures-requires
-figures-requires c = fastest_words (made_of (option_map (λ used. used.now) c.args.classes)) c.on_pages-on.result c.args.live_words c.planned-plan.result c.planned-plan.ensures
+figures-requires c = fastest_words (made_of (option_map (λ used. used.now) c.args.classes)) c.on_pages-on.result c.args.live_words 0 c.planned-plan.result c.planned-plan.ensures
 
 pub returns : goal.returns
 returns c =

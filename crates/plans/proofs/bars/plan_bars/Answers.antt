@@ -7,7 +7,7 @@ use Rattle.plans.proofs.Rows.{least_within}
 use Rattle.plans.proofs.bars.plan_bars.Goals as goal
 
 pub numbers_told-count-requires : goal.numbers_told-count-requires
-numbers_told-count-requires c = least_within (made_of (option_map (λ used. used.now) c.args.classes)) c.args.config.now c.args.live_words c.least_pages-least.result c.least_pages-least.ensures
+numbers_told-count-requires c = least_within (made_of (option_map (λ used. used.now) c.args.classes)) c.args.config.now c.args.live_words 0 c.least_pages-least.result c.least_pages-least.ensures
 
 pub returns : goal.returns
 returns c =

@@ -1,5 +1,5 @@
 use Rattle.std.specs.Prelude.{codes, decimal}
-use Rattle.pictures.specs.Statements.{root_name}
+use Rattle.inspector.specs.Roots.{root_name}
 use Rattle.pictures.proofs.graph.Joined.{four}
 use Rattle.pictures.proofs.graph.statement.put_holds.Goals as goal
 

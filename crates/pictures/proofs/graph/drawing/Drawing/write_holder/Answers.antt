@@ -3,7 +3,8 @@ use Rattle.std.specs.Prelude.{OnOk, OnErr}
 use Rattle.trace.specs.Streams.{GrowsByPart}
 use Rattle.graph_heap.specs.declared.command.Limits.{Limits}
 use Rattle.pictures.specs.declared.graph.statement.Statement.{Statement}
-use Rattle.pictures.specs.GraphDrawing.{root_at, holder_drawn}
+use Rattle.inspector.specs.Roots.{root_at}
+use Rattle.pictures.specs.GraphDrawing.{holder_drawn}
 use Rattle.pictures.specs.Statements.{dot_text}
 use Rattle.pictures.proofs.graph.Drawn.{root_is}
 use Rattle.pictures.proofs.graph.drawing.Drawing.write_holder.Goals as goal

@@ -1,9 +1,0 @@
-use Rattle.std.proofs.Common.{◌≡◌, ◌++◌, take, string_bytes}
-use Rattle.std.specs.List.{flat_map}
-use Rattle.metronome.specs.Names.{byte_text}
-use Rattle.metronome.proofs.names.add_name.Given as goal
-
--- the bytes so far
-abbrev pub invariant-loop-byte : goal.invariant-loop-byte
-invariant-loop-byte l =
-    string_bytes l.text ≡ string_bytes l.fn.text ++ flat_map byte_text (take l.byte-index l.bytes)

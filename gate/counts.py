@@ -22,6 +22,11 @@ def quick(top):
     return {name: tree.text_of(top, path) for name, path in edits(top).items() if path.split("/")[2:-1] == ["wrong-bodies"]}
 
 
+def must_fail(top):
+    """The edits that `rt ci` tries, each as it names them: by its crate's name and its file's."""
+    return [f"{tree.crate_of(it)}/{os.path.basename(it)}" for it in edits(top).values() if it.split("/")[2] == "must-fail"]
+
+
 def tests(top):
     """The tests of a tree's crates, each by its file's path and its own name."""
     return [f"{path}: {name}" for path in tree.files_below(top, "crates", ".rt") for name in TEST.findall(tree.text_of(top, path))]

@@ -1,10 +1,10 @@
 /*
- * metronome.h: a real-time garbage-collected heap, for C11, C17 and C++17. Link with libmetronome.a, or with -lmetronome if
- * it is installed.
+ * metronome.h: a real-time garbage-collected heap, for C11, C17 and C++17. Link with libmetronome.a, or with -lmetronome if it is
+ * installed.
  *
- * OBJECTS. A program has no pointers to objects. It names an object by a slot that holds it. Each mutator has slots 0 to slots -
- * 1, and all mutators share the statics. An object is unreachable if no path leads to it from a slot or a static, directly or by
- * way of reference cells. The next cycle of the collector that begins frees each unreachable object.
+ * OBJECTS. A program has no pointers to objects. It names an object by a slot that holds it. Each mutator has slots 0 to slots - 1,
+ * and all mutators share the statics. An object is unreachable if no path leads to it from a slot or a static, directly or by way
+ * of reference cells. The next cycle of the collector that begins frees each unreachable object.
  *
  * THE COLLECTOR. metronome_begin begins a cycle, and metronome_quantum continues it. A quantum spends at most its budget of units.
  * A unit is one look at a root, a cell, a block or a page; moving a block costs one unit for each of its words. A cycle spends at
@@ -18,16 +18,18 @@
  * NUMBERS. An identity is the number of an object: 1 for the first that is made, 2 for the next, and so on. 0 stands for null. A
  * word is any 64 bits. Reference cells and word cells are each counted from 0.
  *
- * THREADS. Any thread may call any function, and no thread owns a heap. A heap takes only one call at a time. If several threads
- * call on one heap, the program must do one of these:
+ * THREADS. Any thread may call any function, and no thread owns a heap. A handle takes only one call at a time, and calls on
+ * different heaps need no lock. If several threads call on one heap, each has a handle of its own at a shared heap
+ * (metronome_shared.h). Or they have one handle, and the program orders their calls, by a lock or by starting and joining threads.
+ * The library starts no thread, takes no lock and never waits. Don't call it from a signal handler, or in a child that was forked
+ * by a process with threads.
  *
- *   * It holds a lock of its own around each call.
- *   * It orders the calls by starting and joining threads.
- *   * It gives each thread a seat at a shared heap (metronome_shared.h).
+ * STATUSES. All calls with a `metronome` work on handles of both kinds: of a heap of its own, and at a shared heap. Before the
+ * reasons that are named at a call come these, in this order. They aren't named again:
  *
- * Calls on different heaps need no lock. metronome_text and metronome_version need none either. The library starts no thread,
- * takes no lock and never waits. Don't call it from a signal handler. Don't call it in a child that was forked by a process with
- * threads.
+ *   * NO_HEAP if the handle is closed, or BAD_HANDLE if the memory isn't a handle.
+ *   * OUTSIDE if the heap is shared, and the handle doesn't have the turn.
+ *   * NOT_YOURS if the heap is shared, and the mutator isn't one of the handle's.
  *
  * RULES FOR C. Nothing checks these:
  *
@@ -37,21 +39,19 @@
  *   * Don't pass NULL. The compiler warns if it sees one.
  *   * Don't pass a pointer to something else, or to something that goes away while the call runs.
  *   * Don't pass pointers that overlap to one call.
- *   * Don't replace malloc, realloc and free by functions that don't belong together, or that align less than C
- *     requires.
+ *   * Don't replace malloc, realloc and free by functions that don't belong together, or that align less than C requires.
  *
- * A `metronome` that was never set is refused as BAD_HANDLE. The exception is one that has, by chance, the one value that the
- * library leaves in an open handle. If a call only writes through a pointer, the memory needs no value before.
+ * A `metronome` that was never set is refused as BAD_HANDLE, unless it has by chance one of the two values that the library leaves
+ * in open handles. If a call only writes through a pointer, the memory needs no value before.
  *
- * MEMORY. metronome_create takes all the memory of a heap from malloc, and metronome_destroy gives it back. No other call here
- * asks for any. A page is cleared when the first object is made on it, or by metronome_touch.
+ * MEMORY. The calls that create a heap take all its memory from malloc, and metronome_destroy gives it back. metronome_sit takes a
+ * few hundred bytes; no other call asks for any. A page is cleared when the first object is made on it, or by metronome_touch.
  *
  * OTHER HEADERS. This header includes metronome_lists.h (calls that do a list of commands), metronome_figures.h (figures about a
- * heap) and metronome_keep.h (plans, by which the collector paces itself). Unless METRONOME_CALLS_ALONE is defined, it also
- * includes metronome_over_calls.h (frames of slots, and a pace) and metronome_blocks.h (a walk over objects).
+ * heap), metronome_keep.h (plans, by which the collector paces itself), metronome_over_calls.h (frames of slots, and a pace) and
+ * metronome_blocks.h (a walk over objects).
  *
- * docs/CONTRACTS.md says what is proved of each function. Nothing is proved of the `static inline` functions: they are only
- * tested.
+ * docs/CONTRACTS.md says what is proved of each function. Nothing is proved of the `static inline` functions: they are only tested.
  */
 #ifndef METRONOME_H
 #define METRONOME_H
@@ -65,9 +65,8 @@ extern "C" {
 #endif
 
 /* The version of this header. A library of another version (metronome_version) doesn't fit it: metronome_create then returns
- * OTHER_VERSION. Since version 1 the second field of a handle has changed, and BAD_HANDLE, OTHER_VERSION, metronome_page and
- * metronome_cycle_limit came. */
-#define METRONOME_VERSION 2
+ * OTHER_VERSION. CHANGELOG.md has the changes from version to version. */
+#define METRONOME_VERSION 3
 
 /* Marks a function whose pointers must all point to values: none may be NULL. */
 #ifdef __GNUC__
@@ -76,8 +75,8 @@ extern "C" {
 #define METRONOME_NONNULL
 #endif
 
-/* A handle: it holds a heap, or it is closed. A handle of all zeros, such as METRONOME_CLOSED, is closed. The fields belong to the
- * library. */
+/* A handle: it holds a heap, or a share of one, or it is closed. A handle of all zeros, such as METRONOME_CLOSED, is closed. The
+ * fields belong to the library. */
 typedef struct metronome {
     void *at;
     uint64_t check;
@@ -144,11 +143,11 @@ enum metronome_status {
     METRONOME_BAD_SETTING = 20,     /* A setting is out of its range. The status is 20 plus the place of the first such setting,
                                      * from 0 (pages) to 10 (live). Correct it */
     METRONOME_OTHER_VERSION = 40,   /* The library and this header have different versions. Compile the program again */
-    METRONOME_TAKEN = 41,           /* Another seat has the turn. metronome_gate_enter waits for it. Only seats have statuses 41 to
-                                     * 44 */
-    METRONOME_INSIDE = 42,          /* The seat has the turn, and the call needs it not to. Call metronome_seat_leave first */
-    METRONOME_OUTSIDE = 43,         /* The seat doesn't have the turn. Call metronome_seat_enter first */
-    METRONOME_NOT_YOURS = 44,       /* The mutator belongs to another seat: a mistake */
+    METRONOME_TAKEN = 41,           /* Another handle has the turn. metronome_gate_enter waits for it */
+    METRONOME_INSIDE = 42,          /* The handle has the turn, and the call needs it not to. Call metronome_exit first. A heap of
+                                     * its own always has the turn */
+    METRONOME_OUTSIDE = 43,         /* The handle doesn't have the turn of its shared heap. Call metronome_enter first */
+    METRONOME_NOT_YOURS = 44,       /* The mutator isn't one of the handle's at the shared heap: a mistake */
     METRONOME_NO_PLAN = 46,         /* No plan fits these settings, or the heap can't keep this plan, or it keeps none */
     METRONOME_ABOVE_PLAN = 47,      /* The object, or metronome_prepare, asks for more words than the plan's cycle_words. Use more
                                      * pages, or split the object */
@@ -156,7 +155,10 @@ enum metronome_status {
                                      * tells the two apart */
     METRONOME_SLOTS_USED = 49,      /* No slot is left in the row of a frame, or, in C++ and Rust, in the mutator. Give some back
                                      * */
-    METRONOME_OTHER_MUTATOR = 50    /* A root belongs to another mutator: a mistake. Only C++ and Rust have this status */
+    METRONOME_OTHER_MUTATOR = 50,   /* A root belongs to another mutator: a mistake. Only C++ and Rust have this status */
+    METRONOME_NOT_SHARED = 51,      /* The heap isn't shared. metronome_create_shared makes one that is */
+    METRONOME_IS_SHARED = 52,       /* The heap is shared, and the call needs a heap of its own */
+    METRONOME_IN_USE = 53           /* The shared heap has events in its log already. Make the call before them */
 };
 
 /* The kind of an answer, and the meaning of its number. */
@@ -215,16 +217,11 @@ typedef struct metronome_limit {
 
 /* Makes a heap, if the handle is closed, for a program that was compiled for header version `version`. Programs call
  * metronome_create. All memory that the heap will ever use is asked from malloc: about 17 KB a page. Time grows with the pages.
- * Returns OK, or leaves the handle as it was and returns one of these:
- *   * OPEN: The handle already holds a heap.
- *   * NO_MEMORY: malloc returned no memory.
- *   * BAD_SCHEDULE: collector_ticks * rate isn't 256 to 1000000.
- *   * BAD_HANDLE: The memory that was given as a handle isn't one.
- *   * OTHER_VERSION: `version` isn't the library's; nothing else is checked.
- *   * BAD_SETTING plus the place of the first setting that is out of its range. */
+ * Returns OK; or OPEN, NO_MEMORY, BAD_SCHEDULE, BAD_HANDLE, OTHER_VERSION, or BAD_SETTING plus the place of the first setting that
+ * is out of its range, and leaves the handle as it was. If it returns OTHER_VERSION, nothing else is checked. */
 uint32_t metronome_create_for(metronome *heap, const metronome_settings *settings, uint32_t version) METRONOME_NONNULL;
 
-/* Makes a heap as metronome_create_for does, for the version of this header. Returns the same statuses. */
+/* Does the same for the version of this header. */
 METRONOME_NONNULL static inline uint32_t metronome_create(metronome *heap, const metronome_settings *settings) {
     return metronome_create_for(heap, settings, METRONOME_VERSION);
 }
@@ -234,13 +231,14 @@ METRONOME_NONNULL static inline uint32_t metronome_create(metronome *heap, const
  *
  * A call that makes the first object on an untouched page clears it, 16 KB, and takes the operating system's page faults. The
  * lowest free page is used first, so freed pages are used again before new ones. If a program can't accept this cost in a
- * metronome_new call, it touches its pages once, at its start. That also shows whether the memory is really there: malloc may
- * grant more than the machine has, and the system then ends the program that uses it. Returns OK, or NO_HEAP if the handle is
- * closed. */
+ * metronome_new call, it touches its pages once, at its start. That also shows whether the memory is really there: malloc may grant
+ * more than the machine has, and the system then ends the program that uses it. Returns OK, or IN_USE at a shared heap whose log
+ * has an event already. */
 uint32_t metronome_touch(metronome *heap, size_t pages) METRONOME_NONNULL;
 
-/* Gives the memory of a heap back, and closes the handle, which may then hold another heap. If the handle holds no heap, nothing
- * is done. Time grows with the pages. */
+/* Closes the handle, which may then hold another heap. Gives the memory of its heap back; of a shared heap, only if it was the last
+ * handle. If it has the turn, that is given back first; a thread that waits at a gate isn't woken (metronome_gate_wake). If the
+ * handle holds no heap, nothing is done. Time grows with the pages. */
 void metronome_destroy(metronome *heap) METRONOME_NONNULL;
 
 /* ---- Commands of mutators ----
@@ -251,34 +249,23 @@ void metronome_destroy(metronome *heap) METRONOME_NONNULL;
  * Each command needs a live mutator; only metronome_join needs one that isn't live. At first all mutators are live, or those below
  * the setting `live`. A command may write to a slot whatever the slot holds. A slot that names an object must not hold null.
  *
- * These statuses have the same meaning for each command:
- *   * BAD_SLOT: There is no such mutator, or no such slot.
- *   * NOT_LIVE: The mutator isn't live.
- *   * NO_HEAP: The handle is closed.
- *
- * Each function, here and below, that returns NO_HEAP for a closed handle returns BAD_HANDLE for memory that isn't a handle. */
+ * Each is refused as BAD_SLOT if there is no such mutator or no such slot, and as NOT_LIVE if the mutator isn't live. These aren't
+ * named again. */
 
-/* Makes an object in slot dst, with `refs` reference cells, all null, and `words` word cells, all 0. It may have at most 252
- * cells. Returns MADE with the identity. It is refused as BAD_SLOT, NOT_LIVE or NO_HEAP, or for one of these reasons:
- *   * TOO_LARGE: It has more cells than are allowed.
- *   * IDENTITIES_SPENT: The next identity is above the setting.
- *   * NO_SPACE: There is no room for the object.
- *   * ABOVE_PLAN: The heap keeps a plan, and the object has more words than the plan's cycle_words. */
+/* Makes an object in slot dst, with `refs` reference cells, all null, and `words` word cells, all 0. It may have at most 252 cells.
+ * Returns MADE with the identity. It is refused as TOO_LARGE, IDENTITIES_SPENT, NO_SPACE, or, if the heap keeps a plan, ABOVE_PLAN.
+ * */
 metronome_answer metronome_new_plain(metronome *heap, uint32_t mutator, uint32_t dst, uint32_t refs, uint32_t words) METRONOME_NONNULL;
 
-/* Makes an array in slot dst, with `refs` reference cells, all null. It may have at most 4000000 cells. Time grows with its
- * length. Returns MADE with the identity, or is refused as metronome_new_plain. */
+/* Makes an array in slot dst, with `refs` reference cells, all null. It may have at most 4000000 cells. Time grows with its length.
+ * Returns MADE with the identity, or is refused as metronome_new_plain. */
 metronome_answer metronome_new_refs(metronome *heap, uint32_t mutator, uint32_t dst, uint32_t refs) METRONOME_NONNULL;
 
-/* Makes an array in slot dst, with `words` word cells, all 0. It may have at most 4000000 cells. Time grows with its length.
- * Returns MADE with the identity, or is refused as metronome_new_plain. */
+/* Makes an array of `words` word cells, all 0, as metronome_new_refs does. */
 metronome_answer metronome_new_words(metronome *heap, uint32_t mutator, uint32_t dst, uint32_t words) METRONOME_NONNULL;
 
 /* Loads the reference in reference cell i of slot obj's object into slot dst. Returns REF with the identity, or 0 for null. It is
- * refused as BAD_SLOT, NOT_LIVE or NO_HEAP, or for one of these reasons:
- *   * NULL_SLOT: Slot obj holds null.
- *   * WRONG_KIND: The object has no cells of this kind.
- *   * BAD_INDEX: The object has no cell i of this kind. */
+ * refused as NULL_SLOT if slot obj holds null, as WRONG_KIND, or as BAD_INDEX. */
 metronome_answer metronome_load(metronome *heap, uint32_t mutator, uint32_t dst, uint32_t obj, uint32_t i) METRONOME_NONNULL;
 
 /* Stores the reference in slot src in reference cell i of slot obj's object. Returns DONE, or is refused as metronome_load. */
@@ -300,60 +287,54 @@ metronome_answer metronome_put(metronome *heap, uint32_t mutator, uint32_t obj, 
 metronome_answer metronome_compare_put(metronome *heap, uint32_t mutator, uint32_t obj, uint32_t i, uint64_t old,
                                        uint64_t replacement) METRONOME_NONNULL;
 
-/* Copies the reference in slot src to slot dst. Returns DONE, or is refused as BAD_SLOT, NOT_LIVE or NO_HEAP. */
+/* Copies the reference in slot src to slot dst. Returns DONE. */
 metronome_answer metronome_copy(metronome *heap, uint32_t mutator, uint32_t dst, uint32_t src) METRONOME_NONNULL;
 
-/* Sets slot dst to null. Returns DONE, or is refused as metronome_copy. */
+/* Sets slot dst to null. Returns DONE. */
 metronome_answer metronome_clear(metronome *heap, uint32_t mutator, uint32_t dst) METRONOME_NONNULL;
 
-/* Loads the reference in static k into slot dst. Returns REF with the identity, or 0 for null. It is refused as BAD_SLOT, NOT_LIVE
- * or NO_HEAP, or as BAD_STATIC if there is no static k. */
+/* Loads the reference in static k into slot dst. Returns REF with the identity, or 0 for null, or is refused as BAD_STATIC. */
 metronome_answer metronome_load_static(metronome *heap, uint32_t mutator, uint32_t dst, uint32_t k) METRONOME_NONNULL;
 
-/* Stores the reference in slot src in static k. Returns DONE, or is refused as metronome_load_static. */
+/* Stores the reference in slot src in static k. Returns DONE, or is refused as BAD_STATIC. */
 metronome_answer metronome_store_static(metronome *heap, uint32_t mutator, uint32_t k, uint32_t src) METRONOME_NONNULL;
 
 /* Compares static k with slot expect. If both hold the same, stores the reference in slot replacement in the static. Returns
- * STORED, or KEPT with the identity in the static, or is refused as metronome_load_static. */
+ * STORED, or KEPT with the identity in the static, or is refused as BAD_STATIC. */
 metronome_answer metronome_compare_static(metronome *heap, uint32_t mutator, uint32_t k, uint32_t expect,
                                           uint32_t replacement) METRONOME_NONNULL;
 
-/* Compares slots a and b. Returns IS with 1 if both hold the same object, or both hold null; else IS with 0. It is refused as
- * metronome_copy. */
+/* Compares slots a and b. Returns IS with 1 if both hold the same object, or both hold null; else IS with 0. */
 metronome_answer metronome_same(metronome *heap, uint32_t mutator, uint32_t a, uint32_t b) METRONOME_NONNULL;
 
-/* Stores the shape of slot a's object in *shape. Returns DESCRIBED with the identity. It is refused as BAD_SLOT, NOT_LIVE or
- * NO_HEAP, or as NULL_SLOT if slot a holds null; *shape then stays as it was. */
+/* Stores the shape of slot a's object in *shape. Returns DESCRIBED with the identity. It is refused as NULL_SLOT if slot a holds
+ * null. If it is refused, *shape stays as it was. */
 metronome_answer metronome_describe(metronome *heap, uint32_t mutator, uint32_t a, metronome_shape *shape) METRONOME_NONNULL;
 
-/* Makes a mutator live that wasn't, with null in each slot. Returns DONE. It is refused as BAD_SLOT if there is no such mutator,
- * as ALREADY_LIVE if the mutator is live, or as NO_HEAP. */
+/* Makes a mutator live that wasn't, with null in each slot. Returns DONE, or is refused as ALREADY_LIVE. */
 metronome_answer metronome_join(metronome *heap, uint32_t mutator) METRONOME_NONNULL;
 
-/* Sets each slot of the mutator to null; it is then no longer live. Time grows with the slots of a mutator. Returns DONE. It is
- * refused as BAD_SLOT if there is no such mutator, as NOT_LIVE or as NO_HEAP. */
+/* Sets each slot of the mutator to null; it is then no longer live. Time grows with the slots of a mutator. Returns DONE. */
 metronome_answer metronome_leave(metronome *heap, uint32_t mutator) METRONOME_NONNULL;
 
 /* Returns why a command on this slot would be refused. That is the status of metronome_clear on the slot, except that it is
- * NO_MUTATOR if there is no such mutator. Nothing is done. Returns OK, NO_MUTATOR, NOT_LIVE, BAD_SLOT if there is no such slot, or
- * NO_HEAP. */
+ * NO_MUTATOR if there is no such mutator. Nothing is done, so at a shared heap it may be any mutator's slot. */
 uint32_t metronome_check_slot(metronome *heap, uint32_t mutator, uint32_t slot) METRONOME_NONNULL;
 
 /* ---- The collector. It needs no live mutator ---- */
 
-/* Begins a cycle, and spends no unit. Returns OK, BUSY if a cycle is already running, or NO_HEAP. */
+/* Begins a cycle, and spends no unit. Returns OK, or BUSY if a cycle is already running. */
 uint32_t metronome_begin(metronome *heap) METRONOME_NONNULL;
 
 /* Spends units on the cycle that is running: at most `budget`, which must be 256 to 1000000. It ends when the cycle ends, or when
  * the next piece of work costs more than the rest of the budget; that rest is less than 256 units. If no cycle is running, it
  * spends none. Time grows with the units that are spent. Returns OK, with the units and the phase in *spent. Returns BAD_BUDGET if
- * the budget is out of its range, or NO_HEAP; *spent then stays as it was. */
+ * the budget is out of its range. If it isn't OK, *spent stays as it was. */
 uint32_t metronome_quantum(metronome *heap, uint32_t budget, metronome_spent *spent) METRONOME_NONNULL;
 
 /* Calculates the most that a cycle takes in a heap of these settings: its units, and its quanta if each has collector_ticks * rate
- * units or more. No heap is made. Returns OK, with the result in *limit. Else *limit stays as it was, and it returns one of these:
- *   * BAD_SCHEDULE: collector_ticks * rate isn't 256 to 1000000.
- *   * BAD_SETTING plus the place of the first setting that is out of its range. */
+ * units or more. No heap is made. Returns OK, with the result in *limit; or BAD_SCHEDULE, or BAD_SETTING plus the place of the
+ * first setting that is out of its range, and *limit stays as it was. */
 uint32_t metronome_cycle_limit(const metronome_settings *settings, metronome_limit *limit) METRONOME_NONNULL;
 
 /* ---- Texts ---- */
@@ -371,16 +352,14 @@ static inline size_t metronome_text(uint32_t status, char *text, size_t length) 
 /* Returns the METRONOME_VERSION that the library was made for. */
 uint32_t metronome_version(void);
 
-#ifdef __cplusplus
-}
-#endif
-
 #include "metronome_lists.h"
 #include "metronome_figures.h"
 #include "metronome_keep.h"
-#ifndef METRONOME_CALLS_ALONE
 #include "metronome_over_calls.h"
 #include "metronome_blocks.h"
+
+#ifdef __cplusplus
+}
 #endif
 
 #endif

@@ -1,14 +1,14 @@
 /*
- * metronome_check.h: looks for places where a program in C has written over the memory of a heap, for tests. It is
- * plain C over the calls of metronome.h, and nothing of it is proved. metronome.h doesn't include it.
+ * metronome_check.h: looks for places where a program in C has written over the memory of a heap, for tests. It is plain C over the
+ * calls of metronome.h, and nothing of it is proved. metronome.h doesn't include it.
  *
- * It walks over all pages and blocks, and returns the first oddity. It follows no reference, so an overwritten one
- * doesn't lead it astray. docs/ARCHITECTURE.md ("A block") has the words of a header. It sees these oddities:
+ * It walks over all pages and blocks, and returns the first oddity. It follows no reference, so an overwritten one doesn't lead it
+ * astray. docs/ARCHITECTURE.md ("A block") has the words of a header. It sees these oddities:
  *
  *   * Word 0, by which a block says that it is used or moved: A free block looks used, or a used one looks free. A block looks
  *     moved, but its page isn't being emptied, or no other block has a copy.
- *   * Word 1: No object has such a shape, or no such part. The part doesn't fit the blocks of its page. Another part of
- *     the object has another shape.
+ *   * Word 1: No object has such a shape, or no such part. The part doesn't fit the blocks of its page. Another part of the object
+ *     has another shape.
  *   * Word 2: The identity is 0, or that of another object. One part of an array has another identity than the others.
  *
  * It does NOT see these:
@@ -27,8 +27,8 @@
 #include "metronome_blocks.h"
 #include <stdlib.h>
 
-/* An oddity, and where it is: its page, the block of that page, both from 0, and the block's address. An address counts
- * words of 8 bytes from the first page on. */
+/* An oddity, and where it is: its page, the block of that page, both from 0, and the block's address. An address counts words of 8
+ * bytes from the first page on. */
 typedef struct metronome_oddity {
     const char *text; /* in English; NULL if there is none */
     size_t page;
@@ -51,13 +51,6 @@ typedef struct metronome_checking {
     metronome_checked *blocks;
     size_t count;
 } metronome_checking;
-
-/* Returns the words of a block of the least class that has this many words. */
-static inline uint32_t metronome_check_class(uint32_t words) {
-    uint32_t size = 4;
-    while (size < words) size += size < 16 ? 1 : size / 8;
-    return size < 256 || words > 256 ? size : 256;
-}
 
 /* Returns how many spines the object has: parts that refer to other parts. They come first. */
 static inline uint32_t metronome_check_spines(uint32_t cells) {
@@ -84,7 +77,7 @@ METRONOME_NONNULL static inline const char *metronome_check_block(const metronom
     const int plain = view->shape.kind == METRONOME_PLAIN;
     if (cells < view->shape.refs || cells > (plain ? 252u : 4000000u)) return "word 1: no object has such a shape";
     if (view->part >= metronome_check_parts(cells)) return "word 1: an object of this shape has no such part";
-    if (metronome_check_class(metronome_check_cells(cells, view->part) + 4) != page->size)
+    if (METRONOME_PLAIN_WORDS(metronome_check_cells(cells, view->part)) != page->size)
         return "word 1: the part doesn't fit the blocks of the page";
     if (view->identity == 0 || view->identity > INT64_MAX) return "word 2: no object has this identity";
     if (view->old && !page->leaving) return "word 0: the block looks moved, on a page that isn't being emptied";
@@ -152,10 +145,10 @@ METRONOME_NONNULL static inline void metronome_check_objects(metronome_checking 
     }
 }
 
-/* Looks at all pages and blocks of a heap, and stores the first oddity in *oddity, or NULL as its text if it sees none. It
- * takes memory from malloc for a short time, and changes nothing. Time grows with the size of the heap.
+/* Looks at all pages and blocks of a heap, and stores the first oddity in *oddity, or NULL as its text if it sees none. It takes
+ * memory from malloc for a short time, and changes nothing. Time grows with the size of the heap.
  *
- * Returns OK, or leaves *oddity as it was and returns NO_HEAP if the handle is closed, or NO_MEMORY. */
+ * Returns OK, or leaves *oddity as it was and returns NO_MEMORY, or a status that all calls have. */
 METRONOME_NONNULL static inline uint32_t metronome_check(metronome *heap, metronome_oddity *oddity) {
     metronome_counts counts;
     const metronome_oddity none = { NULL, 0, 0, 0 };

@@ -1,17 +1,13 @@
 /*
  * metronome_figures.h: figures of a heap. A part of metronome.h, which includes it.
  *
- * These calls need no live mutator. Each stores its figures through its last pointer and returns OK. If it returns another
- * status, it stores nothing.
+ * These calls need no live mutator. Each stores its figures through its last pointer and returns OK. If it returns another status,
+ * it stores nothing.
  */
 #include "metronome.h" /* before all else: it includes the other parts, which need this one */
 
 #ifndef METRONOME_FIGURES_H
 #define METRONOME_FIGURES_H
-
-#ifdef __cplusplus
-extern "C" {
-#endif
 
 typedef struct metronome_counts {
     uint64_t pages;
@@ -41,30 +37,23 @@ typedef struct metronome_cycle {
     uint64_t free_after;  /* the free pages when it had ended */
 } metronome_cycle;
 
-/* Stores the phase, a metronome_phase_number. Returns OK, or NO_HEAP if the handle is closed. */
+/* Stores the phase, a metronome_phase_number. */
 uint32_t metronome_phase(metronome *heap, uint32_t *phase) METRONOME_NONNULL;
 
-/* Stores the units spent since the last cycle began. Returns OK, or NO_HEAP if the handle is closed. */
+/* Stores the units spent since the last cycle began. */
 uint32_t metronome_units(metronome *heap, uint64_t *units) METRONOME_NONNULL;
 
-/* Stores the number of free pages. Returns OK, or NO_HEAP if the handle is closed. */
+/* Stores the number of free pages. */
 uint32_t metronome_free_pages(metronome *heap, uint64_t *free_pages) METRONOME_NONNULL;
 
-/* Counts the pages, roots, objects and parts. Time grows with the heap's size, since it looks at each block. Returns OK, or
- * NO_HEAP if the handle is closed. */
+/* Counts the pages, roots, objects and parts. Time grows with the heap's size, since it looks at each block. */
 uint32_t metronome_count(metronome *heap, metronome_counts *counts) METRONOME_NONNULL;
 
 /* Stores the figures of the last cycle that ended, or zeros if none has. For a log, call it after a quantum that ended in
- * METRONOME_IDLE, or, if the heap keeps a plan, after a new object or a metronome_prepare. Returns OK, or NO_HEAP if the
- * handle is closed. */
+ * METRONOME_IDLE, or, if the heap keeps a plan, after a new object or a metronome_prepare. */
 uint32_t metronome_last_cycle(metronome *heap, metronome_cycle *cycle) METRONOME_NONNULL;
 
-/* Stores the figures of page `number`, counted from 0. A page that doesn't exist is reported as free. Returns OK, or NO_HEAP
- * if the handle is closed. */
+/* Stores the figures of page `number`, counted from 0. A page that doesn't exist is reported as free. */
 uint32_t metronome_page(metronome *heap, size_t number, metronome_page_view *page) METRONOME_NONNULL;
-
-#ifdef __cplusplus
-}
-#endif
 
 #endif

@@ -1,6 +1,6 @@
 /*
- * metronome_show.h: writes the objects to which a slot leads as text, for debugging. It is plain C over the calls of
- * metronome.h, and nothing of it is proved. metronome.h doesn't include it.
+ * metronome_show.h: writes the objects to which a slot leads as text, for debugging. It is plain C over the calls of metronome.h,
+ * and nothing of it is proved. metronome.h doesn't include it.
  *
  * For example, a slot that leads to a ring of two objects, shown two references deep:
  *
@@ -9,15 +9,13 @@
  *         0: #1 above
  *         1: null
  *
- * Each object has a line with its identity, its kind, the numbers of its cells, and its words. A line for each
- * reference follows. If the references of an object were written before, its line is "#1 above", so rings end. If they
- * lie too deep, "deeper" stands in their place; also if METRONOME_SHOW_OBJECTS objects were written. ".." stands for
- * cells behind the first METRONOME_SHOW_CELLS of a kind. A program may define both numbers before it includes this
- * header.
+ * Each object has a line with its identity, its kind, the numbers of its cells, and its words. A line for each reference follows.
+ * If the references of an object were written before, its line is "#1 above", so rings end. If they lie too deep, "deeper" stands
+ * in their place; also if METRONOME_SHOW_OBJECTS objects were written. ".." stands for cells behind the first METRONOME_SHOW_CELLS
+ * of a kind. A program may define both numbers before it includes this header.
  *
- * The calls change nothing that a program sees: each slot in use, cell and object stays. They may be made in any phase
- * of a cycle. They load references into slots of a row that aren't taken, and set these to null again. If
- * metronome_record.h is included before, these commands are recorded too.
+ * The calls change nothing that a program sees: each slot in use, cell and object stays. They may be made in any phase of a cycle.
+ * They load references into slots of a row that aren't taken, and set these to null again.
  */
 #ifndef METRONOME_SHOW_H
 #define METRONOME_SHOW_H
@@ -143,9 +141,9 @@ static inline uint32_t metronome_show_from(metronome *heap, metronome_row *row, 
     return row->end - row->next < depth ? (uint32_t)METRONOME_SLOTS_USED : metronome_show_object(it, slot, 0);
 }
 
-/* Writes what a slot of the row's mutator holds to a file: the object, and those to which it leads, `depth` references
- * deep. It takes `depth` slots of the row, and gives them back. For example, METRONOME_ROW(0, 60, 64) has mutator 0's
- * last four of 64 slots, which the program leaves alone. If the program keeps its slots in a row, that row does.
+/* Writes what a slot of the row's mutator holds to a file: the object, and those to which it leads, `depth` references deep. It
+ * takes `depth` slots of the row, and gives them back. For example, METRONOME_ROW(0, 60, 64) has mutator 0's last four of 64 slots,
+ * which the program leaves alone. If the program keeps its slots in a row, that row does.
  *
  * Returns OK. Returns SLOTS_USED if fewer slots of the row are left, or NO_MUTATOR, NOT_LIVE, BAD_SLOT or NO_HEAP; nothing is
  * written then. If the row has slots that the mutator doesn't have, it returns BAD_SLOT after the first lines. */

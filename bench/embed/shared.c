@@ -1,9 +1,9 @@
 /*
  * shared WAY THREADS CALLS_A_TURN CALLS: threads make CALLS calls at one heap, get and put in turn, each at an object of its own. WAY
- * says how a thread gets each turn: `gate`, by a seat that waits at a gate; `fair:TURNS`, by one that waits at a fair gate; `seats`,
- * by one that waits at a mutex; `lends`, at a mutex that lends its holder the priority of waiting threads; or `mutex`, by one handle
- * with a mutex around it. It prints the nanoseconds of a call: the time from the first thread's beginning to the last one's end,
- * divided by the number of calls.
+ * says how a thread gets each turn: `gate`, by a handle of its own at a gate; `fair:TURNS`, at a fair gate; `turns`, at a mutex;
+ * `lends`, at a mutex that lends its holder the priority of waiting threads; or `mutex`, by one handle of a heap of its own with a
+ * mutex around it. It prints the nanoseconds of a call: the time from the first thread's beginning to the last one's end, divided by
+ * the number of calls.
  */
 #define _POSIX_C_SOURCE 200809L
 #include "measure.h"
@@ -13,15 +13,14 @@
 #include <string.h>
 
 enum { MOST = 64 };
-enum way { GATE, SEATS, MUTEX };
+enum way { GATE, TURNS, MUTEX };
 
 static const char FAIR[] = "fair:";
 
 /* Each on a cache line of its own. */
 static struct { _Alignas(128) metronome_gate it; } gate = { METRONOME_GATE };
 static struct { _Alignas(128) pthread_mutex_t it; } lock = { PTHREAD_MUTEX_INITIALIZER };
-static struct { _Alignas(128) metronome_seat it; int64_t began, ended; } seats[MOST];
-static struct { _Alignas(128) metronome it; } heap = { METRONOME_CLOSED };
+static struct { _Alignas(128) metronome it; int64_t began, ended; } handles[MOST];
 
 static enum way way;
 static uint32_t threads, batch;
@@ -34,30 +33,25 @@ static void need(int holds) {
     exit(1);
 }
 
-static void with_seat(metronome_seat *seat, uint32_t m) {
+static void make_calls(metronome *heap, uint32_t m) {
     for (uint32_t n = 0; n < batch; n++)
-        need((n % 2 ? metronome_seat_put(seat, m, 0, 0, n) : metronome_seat_get(seat, m, 0, 0)).kind != METRONOME_REFUSED);
+        need((n % 2 ? metronome_put(heap, m, 0, 0, n) : metronome_get(heap, m, 0, 0)).kind != METRONOME_REFUSED);
 }
 
-static void with_heap(uint32_t m) {
-    for (uint32_t n = 0; n < batch; n++)
-        need((n % 2 ? metronome_put(&heap.it, m, 0, 0, n) : metronome_get(&heap.it, m, 0, 0)).kind != METRONOME_REFUSED);
-}
-
-static void take_turn(metronome_seat *seat, uint32_t m) {
+static void take_turn(metronome *heap, uint32_t m) {
     if (way == GATE) {
-        need(metronome_gate_enter(&gate.it, seat) == METRONOME_OK);
-        with_seat(seat, m);
-        metronome_gate_leave(&gate.it, seat);
+        need(metronome_gate_enter(&gate.it, heap) == METRONOME_OK);
+        make_calls(heap, m);
+        metronome_gate_exit(&gate.it, heap);
         return;
     }
     pthread_mutex_lock(&lock.it);
-    if (way == SEATS) {
-        need(metronome_seat_enter(seat) == METRONOME_OK);
-        with_seat(seat, m);
-        metronome_seat_leave(seat);
+    if (way == TURNS) {
+        need(metronome_enter(heap) == METRONOME_OK);
+        make_calls(heap, m);
+        metronome_exit(heap);
     } else {
-        with_heap(m);
+        make_calls(&handles[0].it, m);
     }
     pthread_mutex_unlock(&lock.it);
 }
@@ -65,40 +59,38 @@ static void take_turn(metronome_seat *seat, uint32_t m) {
 static void *run(void *argument) {
     uint32_t m = (uint32_t)(uintptr_t)argument;
     pthread_barrier_wait(&start);
-    seats[m].began = nanoseconds(CLOCK_MONOTONIC);
-    for (uint64_t turn = 0; turn < turns; turn++) take_turn(&seats[m].it, m);
-    seats[m].ended = nanoseconds(CLOCK_MONOTONIC);
+    handles[m].began = nanoseconds(CLOCK_MONOTONIC);
+    for (uint64_t turn = 0; turn < turns; turn++) take_turn(&handles[m].it, m);
+    handles[m].ended = nanoseconds(CLOCK_MONOTONIC);
     return NULL;
 }
 
 /* How long all threads took. */
 static int64_t taken(void) {
-    int64_t began = seats[0].began, ended = seats[0].ended;
+    int64_t began = handles[0].began, ended = handles[0].ended;
     for (uint32_t m = 1; m < threads; m++) {
-        if (seats[m].began < began) began = seats[m].began;
-        if (seats[m].ended > ended) ended = seats[m].ended;
+        if (handles[m].began < began) began = handles[m].began;
+        if (handles[m].ended > ended) ended = handles[m].ended;
     }
     return ended - began;
 }
 
-/* The heap, an object for each thread in its slot 0, and a seat for each. */
+/* The heap, an object for each thread in its slot 0, and a handle for each if the heap is shared. */
 static void open_heap(void) {
     metronome_settings settings = METRONOME_SETTINGS(16, threads, 1);
-    if (way == MUTEX) {
-        need(metronome_create(&heap.it, &settings) == METRONOME_OK);
-        for (uint32_t m = 0; m < threads; m++) need(metronome_new_words(&heap.it, m, 0, 1).kind == METRONOME_MADE);
-        return;
-    }
-    need(metronome_seat_create(&seats[0].it, &settings) == METRONOME_OK && metronome_seat_enter(&seats[0].it) == METRONOME_OK);
-    for (uint32_t m = 0; m < threads; m++) need(metronome_seat_new_words(&seats[0].it, m, 0, 1).kind == METRONOME_MADE);
-    need(metronome_seat_leave(&seats[0].it) == METRONOME_OK);
-    for (uint32_t m = threads - 1; m > 0; m--) need(metronome_seat_another(&seats[0].it, &seats[m].it, m) == METRONOME_OK);
+    metronome *own = &handles[0].it;
+    if (way == MUTEX) need(metronome_create(own, &settings) == METRONOME_OK);
+    else need(metronome_create_shared(own, &settings, 0) == METRONOME_OK && metronome_enter(own) == METRONOME_OK);
+    for (uint32_t m = 0; m < threads; m++) need(metronome_new_words(own, m, 0, 1).kind == METRONOME_MADE);
+    if (way == MUTEX) return;
+    need(metronome_exit(own) == METRONOME_OK);
+    for (uint32_t m = threads - 1; m > 0; m--) need(metronome_sit(own, &handles[m].it, m) == METRONOME_OK);
 }
 
 /* Takes the way that a word says: makes the gate a fair one, or the mutex one that lends priorities. */
 static void take_way(const char *word) {
     pthread_mutexattr_t kind;
-    way = strcmp(word, "mutex") == 0 ? MUTEX : strcmp(word, "seats") == 0 || strcmp(word, "lends") == 0 ? SEATS : GATE;
+    way = strcmp(word, "mutex") == 0 ? MUTEX : strcmp(word, "turns") == 0 || strcmp(word, "lends") == 0 ? TURNS : GATE;
     if (strncmp(word, FAIR, sizeof FAIR - 1) == 0)
         gate.it = (metronome_gate)METRONOME_GATE_FAIR(atoi(word + sizeof FAIR - 1));
     if (strcmp(word, "lends") != 0) return;
@@ -119,7 +111,6 @@ int main(int count, char **words) {
     for (uintptr_t m = 0; m < threads; m++) need(pthread_create(&running[m], NULL, run, (void *)m) == 0);
     for (uint32_t m = 0; m < threads; m++) pthread_join(running[m], NULL);
     printf("%.1f\n", (double)taken() / (double)(turns * threads * batch));
-    for (uint32_t m = 0; m < threads; m++) metronome_seat_destroy(&seats[m].it);
-    metronome_destroy(&heap.it);
+    for (uint32_t m = 0; m < threads; m++) metronome_destroy(&handles[m].it);
     return 0;
 }

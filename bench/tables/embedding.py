@@ -56,12 +56,12 @@ def gcbench(bench):
 
 # The ways to a turn, by the words of bench/embed/shared.c.
 WAYS = {
-    "gate": "seats at a gate",
+    "gate": "in turns at a gate",
     "fair:0": "at a fair gate of 0",
     "fair:100": "at a fair gate of 100",
-    "seats": "seats at a mutex",
+    "turns": "in turns at a mutex",
     "lends": "at one that lends priorities",
-    "mutex": "a mutex round a handle",
+    "mutex": "a mutex round a heap of its own",
 }
 
 
@@ -74,8 +74,8 @@ def row_of_turns(bench, program, number, batch):
 
 
 def shared(bench):
-    """Calls of threads of C at one heap: at seats, which wait for the turn at a gate, at two fair ones, or at two mutexes of
-    the program, of which one lends priorities; and at one handle with a mutex round it. By the clock over all calls of all
+    """Calls of threads of C at one heap: in turns, for which threads wait at a gate, at two fair ones, or at two mutexes of the
+    program, of which one lends priorities; and on a heap of its own with a mutex round it. By the clock over all calls of all
     threads, the least of 7 runs, the ways in turn."""
     program = bench.built("shared", f"{TOP}/bench/embed/shared.c")
     heads = ["Threads", "calls a turn", *(f"{it}, ns a call" for it in WAYS.values()), "the fastest"]

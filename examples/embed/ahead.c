@@ -3,8 +3,8 @@
  * other, and then makes them without any work of the collector. In other periods it makes them unprepared, and each waits for no more
  * quanta than the plan allows. All figures are compared with a count of the program's own, and so are the words of objects.
  */
-#include "metronome.h"
 #include "checks.h"
+#include "kinds.h"
 
 enum { SLOTS = 64, PIECE = 252, HEADER = 4, COUNTED = 20000, PROGRAMS = 60, PERIODS = 120, MOST_CELLS = 4000000 };
 
@@ -215,10 +215,16 @@ static void run(uint64_t seed) {
     settings.defrag_below = settings.pages + 1;
     check_fewest(settings, live, p.period);
     IS(METRONOME_OK, metronome_plan_for(&settings, live, has_room ? p.period : 0, &p.flow));
-    IS(METRONOME_OK, metronome_create(&p.heap, &settings));
+    IS(METRONOME_OK, make_heap(&p.heap, &settings));
     IS(METRONOME_NO_PLAN, metronome_prepare(&p.heap, 1, &left));
-    if (!has_room) check_lasting(&p);
-    IS(METRONOME_OK, metronome_keep(&p.heap, &p.flow));
+    if (kind == OWN) {
+        if (!has_room) check_lasting(&p);
+        IS(METRONOME_OK, metronome_keep(&p.heap, &p.flow));
+    } else {
+        metronome_destroy(&p.heap);
+        IS(METRONOME_OK, metronome_create_shared_kept(&p.heap, &settings, 0, &p.flow));
+        IS(METRONOME_OK, metronome_enter(&p.heap));
+    }
     IS(METRONOME_ABOVE_PLAN, metronome_prepare(&p.heap, p.flow.cycle_words + 1, &left));
     CHECK(left == 5);
     for (int period = 0; period < PERIODS; period++) {
@@ -236,6 +242,8 @@ static void run(uint64_t seed) {
 
 int main(void) {
     check_words();
-    for (uint64_t seed = 1; seed <= PROGRAMS; seed++) run(seed);
+    FOR_EACH_KIND {
+        for (uint64_t seed = 1; seed <= PROGRAMS; seed++) run(seed);
+    }
     return checked();
 }

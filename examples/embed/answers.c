@@ -2,8 +2,8 @@
  * The answer of each function if nothing refuses it, with numbers that were worked out by hand; its answer on a handle that
  * holds no heap; and the texts. There are two mutators with four slots each, of which the first is live, and a static.
  */
-#include "metronome.h"
 #include "checks.h"
+#include "kinds.h"
 #include <stdio.h>
 #include <string.h>
 
@@ -24,7 +24,7 @@ static metronome_settings small(void) {
 
 static metronome opened(metronome_settings settings) {
     metronome heap = METRONOME_CLOSED;
-    IS(METRONOME_OK, metronome_create(&heap, &settings));
+    IS(METRONOME_OK, make_heap(&heap, &settings));
     return heap;
 }
 
@@ -246,7 +246,7 @@ static void settings_are_refused_in_turn(void) {
     for (uint32_t place = 0; place <= 10; place++) {
         metronome_settings settings = small();
         (&settings.pages)[place] = faulty[place];
-        IS(METRONOME_BAD_SETTING + place, metronome_create(&h, &settings));
+        IS(METRONOME_BAD_SETTING + place, make_heap(&h, &settings));
         ANSWERS(REFUSED, METRONOME_NO_HEAP, get, 0, 0, 0);
     }
 }
@@ -285,7 +285,7 @@ static void a_destroyed_heap_may_be_made_anew(void) {
     metronome_destroy(&h);
     ANSWERS(REFUSED, METRONOME_NO_HEAP, get, 0, 0, 0);
     metronome_destroy(&h);
-    IS(METRONOME_OK, metronome_create(&h, &settings));
+    IS(METRONOME_OK, make_heap(&h, &settings));
     ANSWERS(REFUSED, METRONOME_NULL_SLOT, get, 0, 0, 0);
     metronome_destroy(&h);
 }
@@ -348,20 +348,22 @@ static void statuses_have_texts(void) {
 }
 
 int main(void) {
-    words_are_put_and_compared();
-    references_are_stored_and_compared();
-    slots_and_statics_hold();
-    shapes_are_described();
-    mutators_join_and_leave();
-    sizes_are_tested();
-    a_cycle_frees_what_is_dropped();
-    cycles_are_told();
-    touched_pages_are_the_same();
-    budgets_are_tested();
-    objects_are_counted();
-    settings_are_refused_in_turn();
-    large_heaps_are_made_and_used();
-    a_destroyed_heap_may_be_made_anew();
+    FOR_EACH_KIND {
+        words_are_put_and_compared();
+        references_are_stored_and_compared();
+        slots_and_statics_hold();
+        shapes_are_described();
+        mutators_join_and_leave();
+        sizes_are_tested();
+        a_cycle_frees_what_is_dropped();
+        cycles_are_told();
+        if (kind == OWN) touched_pages_are_the_same();
+        budgets_are_tested();
+        objects_are_counted();
+        settings_are_refused_in_turn();
+        large_heaps_are_made_and_used();
+        a_destroyed_heap_may_be_made_anew();
+    }
     commands_of_a_closed_handle_are_refused();
     nothing_is_told_of_a_closed_handle();
     statuses_have_texts();

@@ -1,8 +1,8 @@
 /*
  * The header's functions over the calls: frames of slots, whole cycles, and a pace at which no object is refused.
  */
-#include "metronome.h"
 #include "checks.h"
+#include "kinds.h"
 #include <stdio.h>
 
 enum { SLOTS = 8, OF_FRAMES = 6, PAGES = 16, CELL_WORDS = 6, BUDGET = 1000, LIVE = 1500 };
@@ -52,7 +52,8 @@ static void check_frames(void) {
 static void check_refused_frames(void) {
     metronome closed = METRONOME_CLOSED;
     metronome_row rows[] = { METRONOME_ROW(1, 0, 2), METRONOME_ROW(2, 0, 2), METRONOME_ROW(0, SLOTS, SLOTS + 1) };
-    static const uint32_t statuses[] = { METRONOME_NOT_LIVE, METRONOME_NO_MUTATOR, METRONOME_BAD_SLOT };
+    const uint32_t no_mutator = kind == OWN ? METRONOME_NO_MUTATOR : METRONOME_NOT_YOURS;
+    const uint32_t statuses[] = { METRONOME_NOT_LIVE, no_mutator, METRONOME_BAD_SLOT };
     for (int i = 0; i < 3; i++) {
         uint32_t slot, before = metronome_open_frame(&rows[i]);
         IS(METRONOME_OK, metronome_take_slot(&rows[i], &slot));
@@ -88,7 +89,7 @@ static void check_whole_cycle_that_moves(void) {
     metronome_settings settings = METRONOME_SETTINGS(4, 1, 64);
     settings.defrag_below = 5;
     settings.defrag_pages = 4;
-    IS(METRONOME_OK, metronome_create(&moving, &settings));
+    IS(METRONOME_OK, make_heap(&moving, &settings));
     IS(METRONOME_OK, metronome_begin(&moving));
     for (uint32_t slot = 0; slot < 24; slot++) CHECK(metronome_new_plain(&moving, 0, slot, 0, 252).kind == METRONOME_MADE);
     for (uint32_t slot = 0; slot < 24; slot++)
@@ -137,15 +138,17 @@ static void check_pace(void) {
 }
 
 int main(void) {
-    metronome_settings settings = METRONOME_SETTINGS(PAGES, 2, SLOTS);
-    settings.live = 1;
-    IS(METRONOME_OK, metronome_create(&heap, &settings));
-    check_frames();
-    check_refused_frames();
-    check_whole_cycle();
-    check_whole_cycle_that_moves();
-    check_refusals();
-    check_pace();
-    metronome_destroy(&heap);
+    FOR_EACH_KIND {
+        metronome_settings settings = METRONOME_SETTINGS(PAGES, 2, SLOTS);
+        settings.live = 1;
+        IS(METRONOME_OK, make_heap(&heap, &settings));
+        check_frames();
+        check_refused_frames();
+        check_whole_cycle();
+        check_whole_cycle_that_moves();
+        check_refusals();
+        check_pace();
+        metronome_destroy(&heap);
+    }
     return checked();
 }

@@ -1,13 +1,8 @@
 /*
- * lists: each call that does a list of commands, with what it tells and what it leaves. Built with -DRECORDED its calls are written
- * down as single commands, and must tell the same.
+ * Each call that does a list of commands, with what it tells and what it leaves, on handles of both kinds.
  */
-#ifdef RECORDED
-#include "metronome_record.h"
-#else
-#include "metronome.h"
-#endif
 #include "checks.h"
+#include "kinds.h"
 
 static metronome heap = METRONOME_CLOSED;
 
@@ -98,32 +93,35 @@ static void each_refused(metronome *handle, uint32_t mutator, uint32_t why) {
     CHECK(told(metronome_new_with(handle, mutator, 0, 1, 1, held, 1, in, 1), 0, why));
 }
 
-/* Handles that hold nothing: one that is closed, and what is none. */
+/* Handles that can do none of it: one that is closed, one that is none, and at a shared heap one that doesn't have the turn, and one
+ * that has it, for another handle's mutator. */
 static void no_heap(void) {
-    metronome closed = METRONOME_CLOSED, none = { &closed, 1 };
+    metronome closed = METRONOME_CLOSED, none = { &closed, 1 }, own = METRONOME_CLOSED, other = METRONOME_CLOSED;
+    metronome_settings settings = METRONOME_SETTINGS(16, 2, 8);
     each_refused(&closed, 0, METRONOME_NO_HEAP);
     each_refused(&none, 0, METRONOME_BAD_HANDLE);
+    CHECK(metronome_create_shared(&own, &settings, 0) == METRONOME_OK && metronome_sit(&own, &other, 1) == METRONOME_OK);
+    each_refused(&other, 1, METRONOME_OUTSIDE);
+    CHECK(metronome_enter(&other) == METRONOME_OK);
+    each_refused(&other, 0, METRONOME_NOT_YOURS);
+    metronome_destroy(&other);
+    metronome_destroy(&own);
 }
 
-int main(void) {
+static void check_kind(void) {
     metronome_settings settings = METRONOME_SETTINGS(16, 2, 8);
     settings.live = 1;
-#ifdef RECORDED
-    FILE *files[] = { fopen("lists.toml", "w"), fopen("lists.trace", "w"), fopen("lists.history", "w") };
-    metronome_record(files[0], files[1], files[2]);
-#endif
-    CHECK(metronome_create(&heap, &settings) == METRONOME_OK);
+    CHECK(make_heap(&heap, &settings) == METRONOME_OK);
     words();
     slots();
     references();
     each_refused(&heap, 1, METRONOME_NOT_LIVE);
-    each_refused(&heap, 2, METRONOME_BAD_SLOT);
+    each_refused(&heap, 2, kind == OWN ? METRONOME_BAD_SLOT : METRONOME_NOT_YOURS);
     metronome_destroy(&heap);
-#ifdef RECORDED
-    CHECK(metronome_record_lost() == 0);
-    metronome_record(NULL, NULL, NULL);
-    for (int i = 0; i < 3; i++) CHECK(fclose(files[i]) == 0);
-#endif
+}
+
+int main(void) {
+    FOR_EACH_KIND check_kind();
     no_heap();
     return checked();
 }

@@ -1,6 +1,6 @@
 /*
  * The library's requests to malloc. It makes all of them in metronome_create, and none later; for a heap that threads share,
- * it makes all of them when a seat is made. Each request is refused in turn: the handle stays closed, and no memory is lost.
+ * it makes all of them when a handle is made. Each request is refused in turn: the handle stays closed, and no memory is lost.
  * Linked with --wrap=malloc, --wrap=realloc and --wrap=free.
  */
 #include "metronome_shared.h"
@@ -77,17 +77,20 @@ static void check_texts(void) {
         { METRONOME_BAD_SETTING + 10, "live is out of range" },
         { METRONOME_BAD_SETTING + 11, "no such status" },
         { METRONOME_OTHER_VERSION, "the program was built for another version" },
-        { METRONOME_TAKEN, "another seat has the turn" },
-        { METRONOME_INSIDE, "the seat has the turn" },
-        { METRONOME_OUTSIDE, "the seat hasn't the turn" },
-        { METRONOME_NOT_YOURS, "the mutator isn't the seat's" },
+        { METRONOME_TAKEN, "another handle has the turn" },
+        { METRONOME_INSIDE, "the handle has the turn" },
+        { METRONOME_OUTSIDE, "the handle doesn't have the turn" },
+        { METRONOME_NOT_YOURS, "the mutator is another handle's" },
         { METRONOME_NOT_YOURS + 1, "no such status" },
         { METRONOME_NO_PLAN, "no plan fits" },
         { METRONOME_ABOVE_PLAN, "the object is above the plan" },
         { METRONOME_NO_MUTATOR, "no such mutator" },
         { METRONOME_SLOTS_USED, "all slots are used" },
         { METRONOME_OTHER_MUTATOR, "the root is another mutator's" },
-        { METRONOME_OTHER_MUTATOR + 1, "no such status" },
+        { METRONOME_NOT_SHARED, "the heap isn't shared" },
+        { METRONOME_IS_SHARED, "the heap is shared" },
+        { METRONOME_IN_USE, "the heap is in use" },
+        { METRONOME_IN_USE + 1, "no such status" },
     };
     for (size_t i = 0; i < sizeof texts / sizeof *texts; i++) {
         char text[64];
@@ -124,39 +127,39 @@ static void check_large(void) {
     check(held == stood, "all of a large heap is given back");
 }
 
-/* A turn of a seat, with quanta, asks malloc for nothing. */
-static void check_turn(metronome_seat *seat, uint32_t mutator) {
+/* A turn of a handle, with quanta, asks malloc for nothing. */
+static void check_turn(metronome *heap, uint32_t mutator) {
     long before = requests;
     metronome_spent spent;
-    check(metronome_seat_enter(seat) == METRONOME_OK, "a turn");
-    check(metronome_seat_new_words(seat, mutator, 7, 1).kind == METRONOME_MADE, "a mutator of the seat's");
+    check(metronome_enter(heap) == METRONOME_OK, "a turn");
+    check(metronome_new_words(heap, mutator, 7, 1).kind == METRONOME_MADE, "a mutator of the handle's");
     for (uint32_t i = 0; i < 1000; i++) {
-        metronome_seat_new_plain(seat, mutator, i % 7, 1, i % 200);
-        metronome_seat_begin(seat);
-        metronome_seat_quantum(seat, 256, &spent);
+        metronome_new_plain(heap, mutator, i % 7, 1, i % 200);
+        metronome_begin(heap);
+        metronome_quantum(heap, 256, &spent);
     }
-    check(metronome_seat_leave(seat) == METRONOME_OK && requests == before, "nothing is asked of malloc in a turn");
+    check(metronome_exit(heap) == METRONOME_OK && requests == before, "nothing is asked of malloc in a turn");
 }
 
-/* Makes two seats at a heap, with the request of this number refused, if there are as many. Returns whether there are. */
+/* Makes two handles at a heap, with the request of this number refused, if there are as many. Returns whether there are. */
 static int is_met(long number, const metronome_settings *settings) {
-    metronome_seat seat = METRONOME_NO_SEAT, other = METRONOME_NO_SEAT;
+    metronome heap = METRONOME_CLOSED, other = METRONOME_CLOSED;
     long stood = held;
     requests = 0;
     refused_at = number;
-    uint32_t made = metronome_seat_create(&seat, settings);
-    uint32_t added = made == METRONOME_OK ? metronome_seat_another(&seat, &other, 1) : METRONOME_OK;
+    uint32_t made = metronome_create_shared(&heap, settings, 0);
+    uint32_t added = made == METRONOME_OK ? metronome_sit(&heap, &other, 1) : METRONOME_OK;
     int met = requests >= number;
     refused_at = 0;
     check((made == METRONOME_NO_MEMORY) + (added == METRONOME_NO_MEMORY) == met, "a request that is refused is told");
-    check(made == METRONOME_OK || seat.check == 0, "a handle without a seat is closed");
-    if (made == METRONOME_OK) check_turn(&seat, 0);
-    if (made == METRONOME_OK && added != METRONOME_OK) check_turn(&seat, 1);
+    check(made == METRONOME_OK || heap.check == 0, "a handle without a heap is closed");
+    if (made == METRONOME_OK) check_turn(&heap, 0);
+    if (made == METRONOME_OK && added != METRONOME_OK) check_turn(&heap, 1);
     if (made == METRONOME_OK && added == METRONOME_OK) check_turn(&other, 1);
     long before = requests;
-    metronome_seat_destroy(&other);
-    metronome_seat_destroy(&seat);
-    check(held == stood && requests == before, "all is given back with the last seat");
+    metronome_destroy(&other);
+    metronome_destroy(&heap);
+    check(held == stood && requests == before, "all is given back with the last handle");
     return met;
 }
 

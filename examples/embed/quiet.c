@@ -1,9 +1,9 @@
 /*
- * quiet: looks whether calls make system calls. None is to make one between metronome_create and metronome_destroy, whether
- * pages were touched or not, and also if the heap keeps a plan. None on seats is to make one, once these are made and if no
- * thread waits at their gate. For each scene a child makes a heap or seats, and asks for the strict mode of seccomp. From
- * then on Linux kills the child if it makes a system call other than read, write and exit. It makes each call, and writes
- * down whether the call answered as expected. The last scene makes a system call, and its child must be killed.
+ * quiet: looks whether calls make system calls. None is to make one on a heap that was made, whether its pages were touched or not,
+ * whether it keeps a plan, and whether it is shared, if no thread waits at its gate. For each scene a child makes a heap, and asks
+ * for the strict mode of seccomp. From then on Linux kills the child if it makes a system call other than read, write and exit. It
+ * makes each call, and writes down whether the call answered as expected. The last scene makes a system call, and its child must be
+ * killed.
  */
 #define _DEFAULT_SOURCE
 #include "metronome_shared.h"
@@ -19,12 +19,12 @@
 
 enum { PAGES = 300, LIVE = 183200, MANY = 3000 };
 
-/* Every cycle moves, and may empty all pages; four statics. */
-static const metronome_settings settings = { PAGES, 2, 16, 4, INT64_MAX, PAGES + 1, PAGES, 10, 12, 100, 2 };
-static metronome heap = METRONOME_CLOSED;
-static metronome_seat seat = METRONOME_NO_SEAT, other = METRONOME_NO_SEAT;
+/* Every cycle moves, and may empty all pages; four statics. The last mutator is that of the other handle, if there is one. */
+static const metronome_settings settings = { PAGES, 3, 16, 4, INT64_MAX, PAGES + 1, PAGES, 10, 12, 100, 3 };
+static metronome heap = METRONOME_CLOSED, other = METRONOME_CLOSED;
 static metronome_gate fast = METRONOME_GATE, fair = METRONOME_GATE_FAIR(0);
 static metronome_flow plan;
+static bool is_shared;
 
 /* ---- The child, which can only write ---- */
 
@@ -41,30 +41,29 @@ static void tell(const char *line) {
 #define ANSWERED(call, expected) IS((call).kind == METRONOME_##expected)
 #define WENT(call) IS((call).status == METRONOME_OK)
 
-/* Does each command of mutators, on a heap or in the turn of a seat. */
-#define COMMANDS(name, at) \
-    do { \
-        metronome_shape shape; \
-        ANSWERED(name##_new_plain(&at, 0, 1, 2, 3), MADE); \
-        ANSWERED(name##_new_refs(&at, 0, 2, 1000), MADE); \
-        ANSWERED(name##_new_words(&at, 0, 3, 20000), MADE); \
-        ANSWERED(name##_store(&at, 0, 2, 999, 1), DONE); \
-        ANSWERED(name##_load(&at, 0, 4, 2, 999), REF); \
-        ANSWERED(name##_compare_store(&at, 0, 1, 0, 5, 2), STORED); \
-        ANSWERED(name##_compare_store(&at, 0, 1, 0, 5, 2), KEPT); \
-        ANSWERED(name##_put(&at, 0, 3, 19999, 7), DONE); \
-        ANSWERED(name##_get(&at, 0, 3, 19999), WORD); \
-        ANSWERED(name##_compare_put(&at, 0, 1, 2, 0, 8), STORED); \
-        ANSWERED(name##_compare_put(&at, 0, 1, 2, 0, 9), KEPT_WORD); \
-        ANSWERED(name##_copy(&at, 0, 5, 1), DONE); \
-        ANSWERED(name##_store_static(&at, 0, 3, 5), DONE); \
-        ANSWERED(name##_load_static(&at, 0, 6, 3), REF); \
-        ANSWERED(name##_compare_static(&at, 0, 3, 5, 2), STORED); \
-        ANSWERED(name##_same(&at, 0, 5, 6), IS); \
-        ANSWERED(name##_describe(&at, 0, 2, &shape), DESCRIBED); \
-        ANSWERED(name##_clear(&at, 0, 6), DONE); \
-        ANSWERED(name##_get(&at, 0, 6, 0), REFUSED); \
-    } while (0)
+/* Does each command of mutators. */
+static void commands(void) {
+    metronome_shape shape;
+    ANSWERED(metronome_new_plain(&heap, 0, 1, 2, 3), MADE);
+    ANSWERED(metronome_new_refs(&heap, 0, 2, 1000), MADE);
+    ANSWERED(metronome_new_words(&heap, 0, 3, 20000), MADE);
+    ANSWERED(metronome_store(&heap, 0, 2, 999, 1), DONE);
+    ANSWERED(metronome_load(&heap, 0, 4, 2, 999), REF);
+    ANSWERED(metronome_compare_store(&heap, 0, 1, 0, 5, 2), STORED);
+    ANSWERED(metronome_compare_store(&heap, 0, 1, 0, 5, 2), KEPT);
+    ANSWERED(metronome_put(&heap, 0, 3, 19999, 7), DONE);
+    ANSWERED(metronome_get(&heap, 0, 3, 19999), WORD);
+    ANSWERED(metronome_compare_put(&heap, 0, 1, 2, 0, 8), STORED);
+    ANSWERED(metronome_compare_put(&heap, 0, 1, 2, 0, 9), KEPT_WORD);
+    ANSWERED(metronome_copy(&heap, 0, 5, 1), DONE);
+    ANSWERED(metronome_store_static(&heap, 0, 3, 5), DONE);
+    ANSWERED(metronome_load_static(&heap, 0, 6, 3), REF);
+    ANSWERED(metronome_compare_static(&heap, 0, 3, 5, 2), STORED);
+    ANSWERED(metronome_same(&heap, 0, 5, 6), IS);
+    ANSWERED(metronome_describe(&heap, 0, 2, &shape), DESCRIBED);
+    ANSWERED(metronome_clear(&heap, 0, 6), DONE);
+    ANSWERED(metronome_get(&heap, 0, 6, 0), REFUSED);
+}
 
 /* Does each list of commands. */
 static void lists(void) {
@@ -137,14 +136,14 @@ static void cycles(void) {
 }
 
 static void on_heap(void) {
-    COMMANDS(metronome, heap);
+    commands();
     lists();
     figures();
     cycles();
     IS(fills());
     ENDED(metronome_clear_slots(&heap, 0, 10, 2).status);
     ENDED(metronome_whole_cycle(&heap, 1000));
-    ENDED(metronome_touch(&heap, PAGES));
+    IS(metronome_touch(&heap, PAGES) == (is_shared ? METRONOME_IN_USE : METRONOME_OK));
 }
 
 /* Makes many objects, each garbage once the next is made: the collector works for them. Returns whether none was refused. */
@@ -157,47 +156,34 @@ static bool makes_many(void) {
 static void on_plan(void) {
     ENDED(metronome_plan(&settings, LIVE, &plan));
     ENDED(metronome_plan_for(&settings, LIVE, 300, &plan));
-    ENDED(metronome_keep(&heap, &plan));
-    COMMANDS(metronome, heap);
+    IS(metronome_keep(&heap, &plan) == (is_shared ? METRONOME_IS_SHARED : METRONOME_OK));
+    commands();
     IS(makes_many());
     figures();
     lists();
     cycles();
 }
 
-/* Makes each call that a seat may make in its turn. */
-static void in_turn(void) {
-    metronome_spent spent;
-    metronome_counts counts;
-    metronome_page_view page;
-    metronome_entry entry;
-    uint32_t phase;
-    uint64_t number;
-    COMMANDS(metronome_seat, seat);
-    ENDED(metronome_seat_begin(&seat));
-    ENDED(metronome_seat_quantum(&seat, 1000, &spent));
-    ENDED(metronome_seat_whole_cycle(&seat, 1000));
-    ENDED(metronome_seat_phase(&seat, &phase));
-    ENDED(metronome_seat_units(&seat, &number));
-    ENDED(metronome_seat_free_pages(&seat, &number));
-    ENDED(metronome_seat_count(&seat, &counts));
-    ENDED(metronome_seat_page(&seat, 0, &page));
-    ENDED(metronome_seat_entry(&seat, 0, &entry));
-    IS(metronome_seat_enter(&other) == METRONOME_TAKEN);
+/* Takes turns at both gates, while no other thread waits there, and makes calls in the turn. */
+static void in_turns(void (*calls)(void)) {
+    uint64_t place;
+    metronome_event event;
+    ENDED(metronome_gate_enter(&fast, &heap));
+    calls();
+    ENDED(metronome_entry(&heap, 0, &event));
+    IS(metronome_enter(&other) == METRONOME_TAKEN);
+    IS(metronome_sit(&heap, &other, 2) == METRONOME_OPEN);
+    ENDED(metronome_gate_exit(&fast, &heap));
+    ENDED(metronome_gate_enter(&fair, &other));
+    ANSWERED(metronome_leave(&other, 2), DONE);
+    ANSWERED(metronome_join(&other, 2), DONE);
+    ENDED(metronome_gate_exit(&fair, &other));
+    ENDED(metronome_place(&heap, &place));
 }
 
-/* Takes turns at both gates, while no other thread waits there. */
-static void on_seats(void) {
-    uint64_t place;
-    ENDED(metronome_gate_enter(&fast, &seat));
-    in_turn();
-    ENDED(metronome_gate_leave(&fast, &seat));
-    ENDED(metronome_gate_enter(&fair, &other));
-    ANSWERED(metronome_seat_retire(&other, 1), DONE);
-    ANSWERED(metronome_seat_join(&other, 1), DONE);
-    ENDED(metronome_gate_leave(&fair, &other));
-    ENDED(metronome_seat_place(&seat, &place));
-}
+static void on_shared(void) { in_turns(on_heap); }
+
+static void on_shared_plan(void) { in_turns(on_plan); }
 
 static void calls_the_system(void) {
     IS(syscall(SYS_getppid) > 0);
@@ -211,9 +197,15 @@ static bool makes_heap(void) { return metronome_create(&heap, &settings) == METR
 
 static bool makes_touched(void) { return makes_heap() && metronome_touch(&heap, PAGES) == METRONOME_OK; }
 
-static bool makes_seats(void) {
-    return metronome_seat_create_logged(&seat, &settings, 100) == METRONOME_OK
-        && metronome_seat_another(&seat, &other, 1) == METRONOME_OK;
+static bool makes_shared(void) {
+    is_shared = true;
+    return metronome_create_shared(&heap, &settings, 100) == METRONOME_OK && metronome_sit(&heap, &other, 2) == METRONOME_OK;
+}
+
+static bool makes_shared_kept(void) {
+    is_shared = true;
+    return metronome_plan_for(&settings, LIVE, 300, &plan) == METRONOME_OK
+        && metronome_create_shared_kept(&heap, &settings, 100, &plan) == METRONOME_OK && metronome_sit(&heap, &other, 2) == METRONOME_OK;
 }
 
 /* ---- The parent, which counts ---- */
@@ -270,7 +262,8 @@ int main(void) {
     static const struct scene scenes[] = {
         { "untouched", makes_heap, on_heap, false }, { "touched", makes_touched, on_heap, false },
         { "plan, untouched", makes_heap, on_plan, false }, { "plan, touched", makes_touched, on_plan, false },
-        { "seats", makes_seats, on_seats, false }, { "a system call", nothing, calls_the_system, true },
+        { "shared", makes_shared, on_shared, false }, { "plan, shared", makes_shared_kept, on_shared_plan, false },
+        { "a system call", nothing, calls_the_system, true },
     };
     for (size_t n = 0; n < sizeof scenes / sizeof *scenes; n++) watch(&scenes[n]);
     printf("%d passed, %d failed\n", passed, failed);

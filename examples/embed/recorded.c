@@ -1,6 +1,6 @@
 /*
- * Each call and each kind of answer, recorded into calls.toml, calls.trace and calls.history; and what isn't recorded: calls of
- * other heaps and of closed handles, a quantum that is refused, and a file that takes nothing.
+ * Each call, each list of commands and each kind of answer, recorded into calls.toml, calls.trace and calls.history, also what the
+ * collector does for a plan; and recordings that lose events, whose heap has no log, and whose file takes nothing.
  */
 #include "metronome_record.h"
 #include "checks.h"
@@ -45,68 +45,89 @@ static void write_slots(void) {
     ANSWERS(METRONOME_REFUSED, metronome_copy(&heap, 1, 0, 0));
 }
 
-/* The collector, by the calls and by what the header has over them. */
+/* Lists of commands: one that is done, one whose second command is refused, and one that is too large. */
+static void write_lists(void) {
+    const uint32_t slots[] = { 0, 1 };
+    uint64_t words[] = { 1, 2, 3 }, many[253] = { 0 };
+    CHECK(metronome_new_with(&heap, 0, 6, 3, 3, slots, 2, words, 3).done == 6);
+    CHECK(metronome_get_words(&heap, 0, 6, 1, words, 3).done == 2 && metronome_put_words(&heap, 0, 6, 0, many, 253).done == 0);
+    CHECK(metronome_copy_refs(&heap, 0, 7, 6, 0, 6, 1, 2).done == 4 && metronome_move(&heap, 0, 5, 6).done == 2);
+    CHECK(metronome_clear_slots(&heap, 0, 6, 3).done == 2);
+}
+
+/* The collector, by the calls, by those over the calls, and by the plan. A quantum that is refused is no line. */
 static void write_collector(void) {
     metronome_spent spent;
     metronome_row row = METRONOME_ROW(0, 5, 8);
-    metronome_pacing pacing = METRONOME_PACING(64, 10, 300);
+    metronome_pacing pacing = METRONOME_PACING(300, 10, 300);
     uint32_t slot = 0;
     CHECK(metronome_begin(&heap) == METRONOME_OK && metronome_begin(&heap) == METRONOME_BUSY);
     CHECK(metronome_quantum(&heap, 256, &spent) == METRONOME_OK);
+    CHECK(metronome_quantum(&heap, 255, &spent) == METRONOME_BAD_BUDGET);
     metronome_frame frame = metronome_open_frame(&row);
     CHECK(metronome_take_slot(&row, &slot) == METRONOME_OK);
     ANSWERS(METRONOME_MADE, metronome_new_plain(&heap, 0, slot, 0, 1));
     CHECK(metronome_close_frame(&heap, &row, frame) == METRONOME_OK);
     CHECK(metronome_pace(&heap, &pacing, 35) == METRONOME_OK);
     CHECK(metronome_whole_cycle(&heap, 1000) == METRONOME_OK);
+    for (int n = 0; n < 100; n++) ANSWERS(METRONOME_MADE, metronome_new_words(&heap, 0, 5, 1000));
 }
 
-/* None of these is a line, and each is counted. */
-static void write_others(const metronome_settings *settings) {
-    metronome other = METRONOME_CLOSED;
-    metronome_spent spent;
-    uint64_t before = metronome_record_lost();
-    CHECK(before == 0);
-    CHECK(metronome_quantum(&heap, 255, &spent) == METRONOME_BAD_BUDGET);
-    ANSWERS(METRONOME_REFUSED, metronome_get(&other, 0, 0, 0));
-    CHECK(metronome_create(&other, settings) == METRONOME_OK);
-    ANSWERS(METRONOME_MADE, metronome_new_plain(&other, 0, 0, 1, 1));
-    CHECK(metronome_begin(&other) == METRONOME_OK);
-    metronome_destroy(&other);
-    CHECK(metronome_record_lost() == 5);
+/* Records a heap that keeps a plan, into three files. */
+static void record_calls(void) {
+    FILE *files[] = { fopen("calls.toml", "w"), fopen("calls.trace", "w"), fopen("calls.history", "w") };
+    metronome_settings settings = METRONOME_SETTINGS_MOVING(300, 2, 8);
+    metronome_recording recording;
+    metronome_flow plan;
+    uint64_t place = 0;
+    settings.statics = 1;
+    settings.live = 1;
+    CHECK(metronome_record_begin(&recording, &settings, files[0], files[1], files[2]));
+    CHECK(metronome_plan(&settings, 20000, &plan) == METRONOME_OK);
+    CHECK(metronome_create_shared_kept(&heap, &settings, 10000, &plan) == METRONOME_OK && metronome_enter(&heap) == METRONOME_OK);
+    CHECK(metronome_record(&recording, &heap) && recording.next == 0);
+    write_cells();
+    CHECK(metronome_record(&recording, &heap) && recording.next > 0);
+    write_slots();
+    write_lists();
+    write_collector();
+    CHECK(metronome_record(&recording, &heap) && recording.lost == 0);
+    CHECK(metronome_exit(&heap) == METRONOME_OK && !metronome_record(&recording, &heap));
+    CHECK(metronome_place(&heap, &place) == METRONOME_OK && recording.next == place);
+    metronome_destroy(&heap);
+    for (int i = 0; i < 3; i++) CHECK(fclose(files[i]) == 0);
 }
 
-/* A file that takes nothing: it is told, and the program goes on. */
-static void check_full(const metronome_settings *settings) {
+/* Records two clears on a heap that keeps the last event, to these files. Returns what metronome_record returns. */
+static bool records_clears(metronome_recording *recording, FILE *settings_file, FILE *trace) {
+    metronome_settings settings = METRONOME_SETTINGS(1, 1, 1);
+    const bool begun = metronome_record_begin(recording, &settings, settings_file, trace, NULL);
+    CHECK(metronome_create_shared(&heap, &settings, 1) == METRONOME_OK && metronome_enter(&heap) == METRONOME_OK);
+    for (int n = 0; n < 2; n++) ANSWERS(METRONOME_DONE, metronome_clear(&heap, 0, 0));
+    const bool holds = metronome_record(recording, &heap);
+    metronome_destroy(&heap);
+    return begun && holds;
+}
+
+/* Events that are gone are counted. A file that is missing or that takes nothing is told, and so is a heap without a log. */
+static void check_losses(void) {
     FILE *full = fopen("/dev/full", "w"), *null = fopen("/dev/null", "w");
+    metronome_settings settings = METRONOME_SETTINGS(1, 1, 1);
+    metronome_recording recording;
     if (full == NULL || null == NULL) return;
     setvbuf(full, NULL, _IONBF, 0);
-    metronome_record(null, full, NULL);
-    CHECK(metronome_create(&heap, settings) == METRONOME_OK);
-    ANSWERS(METRONOME_MADE, metronome_new_plain(&heap, 0, 0, 1, 1));
-    ANSWERS(METRONOME_DONE, metronome_put(&heap, 0, 0, 0, WORD));
-    CHECK(metronome_record_lost() == 3);
-    metronome_destroy(&heap);
-    metronome_record(null, NULL, NULL);
-    CHECK(metronome_create(&heap, settings) == METRONOME_OK && metronome_record_lost() == 0);
+    CHECK(records_clears(&recording, null, null) && recording.next == 2 && recording.lost == 1);
+    CHECK(!records_clears(&recording, null, full) && recording.next == 0);
+    CHECK(!records_clears(&recording, null, NULL) && !records_clears(&recording, NULL, null) && !records_clears(&recording, full, null));
+    CHECK(metronome_record_begin(&recording, &settings, null, null, NULL));
+    CHECK(metronome_create(&heap, &settings) == METRONOME_OK && !metronome_record(&recording, &heap));
     metronome_destroy(&heap);
     fclose(full);
     fclose(null);
 }
 
 int main(void) {
-    FILE *files[] = { fopen("calls.toml", "w"), fopen("calls.trace", "w"), fopen("calls.history", "w") };
-    metronome_settings settings = METRONOME_SETTINGS(16, 2, 8);
-    settings.statics = 1;
-    settings.live = 1;
-    metronome_record(files[0], files[1], files[2]);
-    CHECK(metronome_create(&heap, &settings) == METRONOME_OK);
-    write_cells();
-    write_slots();
-    write_collector();
-    write_others(&settings);
-    metronome_destroy(&heap);
-    for (int i = 0; i < 3; i++) CHECK(fclose(files[i]) == 0);
-    check_full(&settings);
+    record_calls();
+    check_losses();
     return checked();
 }

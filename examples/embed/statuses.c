@@ -1,10 +1,10 @@
 /*
- * Each status that the header names for each function, on handles that are open or closed; misuse.c has the other handles.
+ * Each status that the header names for each function, on open handles of both kinds; misuse.c has the other handles.
  * Slot 0 holds an object with a cell of each kind, slot 1 an array of one word, slot 2 an array of one reference, and slot 3
  * null. Mutator 1 isn't live, and mutator 2 doesn't exist.
  */
-#include "metronome.h"
 #include "checks.h"
+#include "kinds.h"
 #include <stdio.h>
 
 static metronome heap = METRONOME_CLOSED;
@@ -14,10 +14,15 @@ static metronome heap = METRONOME_CLOSED;
         check(answer.kind == METRONOME_REFUSED && answer.number == (status), __LINE__); \
     } while (0)
 
+/* Returns how a command of a mutator that doesn't exist is refused. */
+static uint32_t no_mutator(void) {
+    return kind == OWN ? METRONOME_BAD_SLOT : METRONOME_NOT_YOURS;
+}
+
 /* Commands of a mutator that doesn't exist, and of one that isn't live. */
 #define LIVENESS(name, ...) \
     do { \
-        REFUSED(METRONOME_BAD_SLOT, metronome_##name(&heap, 2, __VA_ARGS__)); \
+        REFUSED(no_mutator(), metronome_##name(&heap, 2, __VA_ARGS__)); \
         REFUSED(METRONOME_NOT_LIVE, metronome_##name(&heap, 1, __VA_ARGS__)); \
     } while (0)
 
@@ -46,7 +51,7 @@ static void check_spent(void) {
 #define CELLS(wrong, call) \
     do { \
         uint32_t m = 0, obj = 0, i = 0; \
-        REFUSED(METRONOME_BAD_SLOT, (m = 2, call)); \
+        REFUSED(no_mutator(), (m = 2, call)); \
         REFUSED(METRONOME_NOT_LIVE, (m = 1, call)); \
         REFUSED(METRONOME_BAD_SLOT, (m = 0, obj = 4, call)); \
         REFUSED(METRONOME_NULL_SLOT, (obj = 3, call)); \
@@ -88,9 +93,9 @@ static void check_slots(void) {
     REFUSED(METRONOME_BAD_STATIC, metronome_load_static(&heap, 0, 3, 1));
     REFUSED(METRONOME_BAD_STATIC, metronome_store_static(&heap, 0, 1, 3));
     REFUSED(METRONOME_BAD_STATIC, metronome_compare_static(&heap, 0, 1, 3, 3));
-    REFUSED(METRONOME_BAD_SLOT, metronome_join(&heap, 2));
+    REFUSED(no_mutator(), metronome_join(&heap, 2));
     REFUSED(METRONOME_ALREADY_LIVE, metronome_join(&heap, 0));
-    REFUSED(METRONOME_BAD_SLOT, metronome_leave(&heap, 2));
+    REFUSED(no_mutator(), metronome_leave(&heap, 2));
     REFUSED(METRONOME_NOT_LIVE, metronome_leave(&heap, 1));
     check(shape.kind == 7 && shape.refs == 7 && shape.words == 7, __LINE__);
 }
@@ -121,10 +126,17 @@ static void check_collector(void) {
     check(spent.units > 0 && spent.units <= 1000000 && spent.phase == METRONOME_IDLE, __LINE__);
 }
 
+/* The pages of a shared heap may be touched before it is used. */
+static void check_touching(uint32_t status) {
+    IS(status, metronome_touch(&heap, 1));
+    IS(status, metronome_touch(&heap, SIZE_MAX));
+}
+
 /* The objects of the slots. */
 static void fill(metronome_settings settings) {
-    IS(METRONOME_OK, metronome_create(&heap, &settings));
-    IS(METRONOME_OPEN, metronome_create(&heap, &settings));
+    IS(METRONOME_OK, make_heap(&heap, &settings));
+    IS(METRONOME_OPEN, make_heap(&heap, &settings));
+    check_touching(METRONOME_OK);
     check(metronome_new_plain(&heap, 0, 0, 1, 1).kind == METRONOME_MADE, __LINE__);
     check(metronome_new_words(&heap, 0, 1, 1).kind == METRONOME_MADE, __LINE__);
     check(metronome_new_refs(&heap, 0, 2, 1).kind == METRONOME_MADE, __LINE__);
@@ -135,15 +147,15 @@ static void check_settings(metronome_settings settings) {
     for (uint32_t place = 0; place <= 10; place++) {
         metronome_settings faulty = settings;
         (&faulty.pages)[place] = -1;
-        IS(METRONOME_BAD_SETTING + place, metronome_create(&heap, &faulty));
+        IS(METRONOME_BAD_SETTING + place, make_heap(&heap, &faulty));
     }
     settings.rate = 25;
-    IS(METRONOME_BAD_SCHEDULE, metronome_create(&heap, &settings));
+    IS(METRONOME_BAD_SCHEDULE, make_heap(&heap, &settings));
     REFUSED(METRONOME_NO_HEAP, metronome_get(&heap, 0, 0, 0));
 }
 
-int main(void) {
-    /* One page is for the cell of two kinds, and one for the two arrays of one cell. None is left for other sizes. */
+/* One page is for the cell of two kinds, and one for the two arrays of one cell. None is left for other sizes. */
+static void check_kind(void) {
     metronome_settings settings = METRONOME_SETTINGS(2, 2, 4);
     settings.statics = 1;
     settings.live = 1;
@@ -153,11 +165,16 @@ int main(void) {
     check_cells();
     check_slots();
     check_places();
+    check_touching(kind == OWN ? METRONOME_OK : METRONOME_IN_USE);
     check_collector();
     metronome_destroy(&heap);
     settings.identities = 3;
     fill(settings);
     check_spent();
     metronome_destroy(&heap);
+}
+
+int main(void) {
+    FOR_EACH_KIND check_kind();
     return checked();
 }

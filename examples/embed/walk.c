@@ -2,8 +2,8 @@
  * A walk over the objects of a heap: in each phase of a cycle, with and without moving, and of arrays in parts, it meets each object
  * that lies there once, with its identity and shape; which of some identities lie there; a block by its number.
  */
-#include "metronome.h"
 #include "checks.h"
+#include "kinds.h"
 #include <stdio.h>
 #include <string.h>
 
@@ -25,7 +25,7 @@ static metronome opened(int64_t moved) {
     settings.statics = STATICS;
     settings.defrag_below = moved ? PAGES + 1 : 0;
     settings.defrag_pages = moved;
-    CHECK(metronome_create(&heap, &settings) == METRONOME_OK);
+    CHECK(make_heap(&heap, &settings) == METRONOME_OK);
     return heap;
 }
 
@@ -116,8 +116,10 @@ static void blocks_are_told(void) {
 }
 
 int main(void) {
-    walks_in_each_phase(0);
-    walks_in_each_phase(PAGES);
-    blocks_are_told();
+    FOR_EACH_KIND {
+        walks_in_each_phase(0);
+        walks_in_each_phase(PAGES);
+        blocks_are_told();
+    }
     return checked();
 }

@@ -17,7 +17,7 @@ sys.path[:0] = [os.path.dirname(os.path.dirname(os.path.abspath(__file__)))]
 from finders import tree
 
 # The odd sentences that the tree still has. Who corrects one lowers the number.
-MOST = 38
+MOST = 32
 
 CALQUES = (
     r"mend(?:s|ed|ing)?|reckon(?:s|ed|ing)?|is dear|so many|told of|tells? so|tells? of|lets? go of|of such|whereof|wherein"

@@ -10,8 +10,9 @@ static uint32_t mutator;
 static const char *where;
 static int pages_of_heap;
 
-#define CALL(function, ...) COUNT(#function, where, metronome_##function(&heap, mutator, __VA_ARGS__))
-#define ASK(function, ...) COUNT(#function, where, metronome_##function(__VA_ARGS__))
+#define NAMED(name, call) COUNT(is_shared ? "shared_" name : name, where, call)
+#define ASK(function, ...) NAMED(#function, metronome_##function(__VA_ARGS__))
+#define CALL(function, ...) ASK(function, &heap, mutator, __VA_ARGS__)
 
 /* Two pages of the smallest blocks, of which each fourth is kept. */
 static void make_objects(void) {
@@ -122,6 +123,21 @@ static void leave_and_join(void) {
     ASK(join, &heap, mutator);
 }
 
+/* Turns, the log, and one more handle. */
+static void of_handles(void) {
+    metronome other = METRONOME_CLOSED;
+    metronome_event event;
+    uint64_t place;
+    need(metronome_exit(&heap) == METRONOME_OK, "no turn");
+    COUNT("place", where, metronome_place(&heap, &place));
+    COUNT("enter", where, metronome_enter(&heap));
+    COUNT("entry", where, metronome_entry(&heap, place - LOG, &event));
+    COUNT("exit", where, metronome_exit(&heap));
+    COUNT("sit", where, metronome_sit(&heap, &other, mutator + 1));
+    ASK(destroy, &other);
+    need(metronome_enter(&heap) == METRONOME_OK, "no turn");
+}
+
 static void of_no_heap(void) {
     char text[200];
     metronome_limit limit;
@@ -135,6 +151,13 @@ static void of_no_heap(void) {
     ASK(create_for, &other, &settings, METRONOME_VERSION);
     COUNT("first_use", where, metronome_new_plain(&other, mutator, NEW, 0, 0));
     ASK(destroy, &other);
+    ASK(create_shared_for, &other, &settings, LOG, METRONOME_VERSION);
+    metronome_destroy(&other);
+    metronome_flow flow;
+    metronome_settings moving = METRONOME_SETTINGS_MOVING(300, (int)mutator + 1, SLOTS);
+    need(metronome_plan(&moving, 2000, &flow) == METRONOME_OK, "no plan");
+    ASK(create_shared_kept_for, &other, &moving, LOG, &flow, METRONOME_VERSION);
+    metronome_destroy(&other);
 }
 
 /* Calls of a heap of 300 pages that keeps a plan; what the collector does for an object isn't counted, which is in quanta. */
@@ -144,13 +167,18 @@ static void of_a_plan(void) {
     metronome_work work;
     uint64_t left;
     metronome_settings settings = METRONOME_SETTINGS_MOVING(300, (int)mutator + 1, SLOTS);
-    ASK(plan_for, &settings, 2000, 1000, &flow);
-    ASK(plan, &settings, 2000, &flow);
-    need(metronome_create(&other, &settings) == METRONOME_OK, "no heap");
-    metronome_touch(&other, SIZE_MAX);
-    ASK(keep, &other, &flow);
+    need(metronome_plan(&settings, 2000, &flow) == METRONOME_OK, "no plan");
+    if (!is_shared) {
+        ASK(plan_for, &settings, 2000, 1000, &flow);
+        ASK(plan, &settings, 2000, &flow);
+        need(metronome_create(&other, &settings) == METRONOME_OK, "no heap");
+        metronome_touch(&other, SIZE_MAX);
+        ASK(keep, &other, &flow);
+        metronome_destroy(&other);
+    }
+    open_heap(&other, &settings, &flow);
     need(metronome_new_plain(&other, mutator, NEW, 0, 0).kind == METRONOME_MADE, "no object");
-    COUNT("kept_new", where, metronome_new_plain(&other, mutator, NEW, 1, 2));
+    NAMED("kept_new", metronome_new_plain(&other, mutator, NEW, 1, 2));
     ASK(kept, &other, &work);
     ASK(prepare, &other, 100, &left);
     metronome_destroy(&other);
@@ -176,7 +204,8 @@ void count_calls(int pages, int mutators, int room, const char *told) {
     CALLGRIND_START_INSTRUMENTATION;
     CALL(new_words, LONG, ARRAY);
     leave_and_join();
-    of_no_heap();
+    if (is_shared) of_handles();
+    else of_no_heap();
     of_a_plan();
     CALLGRIND_STOP_INSTRUMENTATION;
     metronome_destroy(&heap);

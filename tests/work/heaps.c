@@ -7,6 +7,7 @@ enum { MOVED = 14, LEAVES = 250, KEPT = 500 };
 
 metronome heap = METRONOME_CLOSED;
 int scale = 1;
+bool is_shared;
 
 void need(int holds, const char *what) {
     if (holds) return;
@@ -42,13 +43,24 @@ static void fill(int pages, int room) {
     metronome_clear(&heap, 0, 1);
 }
 
+void open_heap(metronome *made, const metronome_settings *settings, const metronome_flow *plan) {
+    uint32_t status;
+    if (is_shared) {
+        status = plan == NULL ? metronome_create_shared(made, settings, LOG) : metronome_create_shared_kept(made, settings, LOG, plan);
+        if (status == METRONOME_OK) status = metronome_enter(made);
+    } else {
+        status = metronome_create(made, settings);
+        if (status == METRONOME_OK && plan != NULL) status = metronome_keep(made, plan);
+    }
+    need(status == METRONOME_OK && metronome_touch(made, SIZE_MAX) == METRONOME_OK, "no heap");
+}
+
 void create(int pages, int mutators, int emptied, int room) {
     metronome_settings settings = METRONOME_SETTINGS(pages, mutators, SLOTS);
     settings.statics = 2;
     settings.defrag_below = emptied ? 4097 : 0;
     settings.defrag_pages = emptied * scale;
-    need(metronome_create(&heap, &settings) == METRONOME_OK, "no heap");
-    metronome_touch(&heap, (size_t)pages);
+    open_heap(&heap, &settings, NULL);
     if (room && pages > room * scale) fill(pages, room * scale);
 }
 

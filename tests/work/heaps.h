@@ -2,9 +2,9 @@
 #ifndef HEAPS_H
 #define HEAPS_H
 
-#include "metronome.h"
+#include "metronome_shared.h"
 
-enum { SLOTS = 256, BUDGET = 256, PAGE_WORDS = 2048, HEADER = 4, RECORDS = 64, LARGEST = 252, SPARE = 4 };
+enum { SLOTS = 256, BUDGET = 256, PAGE_WORDS = 2048, HEADER = 4, RECORDS = 64, LARGEST = 252, SPARE = 4, LOG = 16 };
 
 /* The heap that was made last. */
 extern metronome heap;
@@ -14,8 +14,14 @@ extern metronome heap;
  * enough. */
 extern int scale;
 
+/* Whether heaps are shared ones, whose first handle has the turn, and which keep a log of LOG events. */
+extern bool is_shared;
+
 /* Ends with a message if a condition doesn't hold. */
 void need(int holds, const char *what);
+
+/* Makes a heap of these settings, shared or not, that keeps a plan unless it is NULL. All its pages are touched. */
+void open_heap(metronome *made, const metronome_settings *settings, const metronome_flow *plan);
 
 /* Makes a heap that empties up to `emptied` times `scale` pages. All its pages are touched, so no call clears one.
  * Objects that are made later go on pages that are free now: `room` times `scale` of them, if the heap has more, and

@@ -56,11 +56,12 @@ static void count_kind(const char *name) {
 }
 
 static void count_all_calls(void) {
-    for (int i = 0; i < 2; i++) {
-        int mutators = i ? MUTATORS : 1;
-        count_calls(SPARE, mutators, 0, i ? "few 64" : "few 1");
-        count_calls(PAGES, mutators, SPARE, i ? "4096 64" : "4096 1");
-        count_calls(PAGES, mutators, 0, i ? "4096 64" : "4096 1");
+    for (int i = 0; i < 4; i++) {
+        int mutators = i % 2 ? MUTATORS : 1;
+        is_shared = i > 1;
+        count_calls(SPARE, mutators, 0, i % 2 ? "few 64" : "few 1");
+        count_calls(PAGES, mutators, SPARE, i % 2 ? "4096 64" : "4096 1");
+        count_calls(PAGES, mutators, 0, i % 2 ? "4096 64" : "4096 1");
     }
 }
 

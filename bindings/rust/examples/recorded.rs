@@ -11,8 +11,10 @@ fn written(name: &str) -> std::io::Result<BufWriter<File>> {
 }
 
 fn main() -> Result<(), Box<dyn Error>> {
-    let recording = Recording::new(written("run.toml")?, written("run.trace")?).with_history(written("run.history")?);
-    let heap = Heap::recorded(&Settings::new(16, 1, 8), recording)?;
+    let settings = Settings::new(16, 1, 8);
+    let mut recording =
+        Recording::begin(&settings, written("run.toml")?, written("run.trace")?)?.with_history(written("run.history")?)?;
+    let heap = Heap::logged(&settings, 64)?;
     let mutator = heap.mutator(0)?;
     let first = mutator.new_plain(1, 1)?;
     let last = first.another()?;
@@ -28,10 +30,12 @@ fn main() -> Result<(), Box<dyn Error>> {
             heap.begin();
             heap.quantum(1000)?;
         }
+        recording.record(&heap)?;
     }
     drop((first, last));
     drop(mutator);
-    heap.end_recording()?;
-    println!("1 passed, 0 failed");
+    recording.record(&heap)?;
+    let lost = recording.lost();
+    println!("{} passed, {lost} failed", u32::from(lost == 0));
     Ok(())
 }

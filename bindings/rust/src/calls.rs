@@ -4,10 +4,12 @@ use std::os::raw::c_char;
 
 use crate::flow::{Flow, Work};
 use crate::heap::Cycle;
+use crate::log::EventTold;
 use crate::refusal::{Refusal, Result};
+use crate::root::Compared;
 
 /// The version of metronome.h that these declarations are for.
-pub(crate) const VERSION: u32 = 2;
+pub(crate) const VERSION: u32 = 3;
 
 pub(crate) const OK: u32 = 0;
 
@@ -83,59 +85,45 @@ pub fn version() -> u32 {
     unsafe { metronome_version() }
 }
 
+/// Calls a function of the library on a heap, with further parameters.
+macro_rules! call {
+    ($heap:expr, $name:ident $(, $given:expr)*) => {
+        // SAFETY: the heap is open, and it and the places to which parameters point live through the call. No other call uses it: a
+        // heap isn't `Sync`, and the library calls nothing back.
+        unsafe { $crate::calls::$name($heap.handle() $(, $given)*) }
+    };
+}
+pub(crate) use call;
+
 /// How a command ends.
 #[repr(C)]
 #[derive(Default)]
 pub(crate) struct Answer {
-    kind: u32,
+    pub(crate) kind: u32,
     pub(crate) number: u64,
 }
 
-/// The kinds of answers, in the order of their numbers.
-#[derive(Clone, Copy, PartialEq, Eq)]
-pub(crate) enum Kind {
-    Refused,
-    Made,
-    Ref,
-    Word,
-    Done,
-    Stored,
-    Kept,
-    KeptWord,
-    Is,
-    Described,
-}
+/// Kinds of answers.
+const REFUSED: u32 = 0;
+const STORED: u32 = 5;
 
 impl Answer {
-    /// What kind it is.
-    pub(crate) fn kind(&self) -> Kind {
-        const KINDS: [Kind; 10] = [
-            Kind::Refused,
-            Kind::Made,
-            Kind::Ref,
-            Kind::Word,
-            Kind::Done,
-            Kind::Stored,
-            Kind::Kept,
-            Kind::KeptWord,
-            Kind::Is,
-            Kind::Described,
-        ];
-        KINDS[self.kind as usize]
-    }
-
-    /// The number of the answer, unless the command is refused.
+    /// Returns the number of the answer, unless the command is refused.
     pub(crate) fn number(&self) -> Result<u64> {
-        match self.kind() {
-            Kind::Refused => Err(Refusal::of(self.number as u32)),
+        match self.kind {
+            REFUSED => Err(Refusal::of(self.number as u32)),
             _ => Ok(self.number),
         }
     }
 
-    /// None if a comparison held, or else the number that stands there.
-    pub(crate) fn compared(&self) -> Result<Option<u64>> {
-        let number = self.number()?;
-        Ok(if self.kind() == Kind::Stored { None } else { Some(number) })
+    /// Returns why the command is refused, if it is.
+    pub(crate) fn done(&self) -> Result<()> {
+        self.number().map(drop)
+    }
+
+    /// Returns the outcome of a comparison.
+    pub(crate) fn compared(&self) -> Result<Compared> {
+        self.number().map(|number| if self.kind == STORED { Compared::Stored } else { Compared::Kept(number) })
     }
 }
 
@@ -147,10 +135,9 @@ pub(crate) struct ProgressTold {
 }
 
 impl ProgressTold {
-    /// How many commands were done, unless one was refused.
-    pub(crate) fn all(&self) -> Result<u32> {
-        done(self.status)?;
-        Ok(self.done)
+    /// Returns why a command was refused, if one was.
+    pub(crate) fn all(&self) -> Result<()> {
+        done(self.status)
     }
 }
 
@@ -233,6 +220,15 @@ pub struct CycleLimit {
 
 extern "C" {
     pub(crate) fn metronome_create_for(heap: *mut Handle, settings: *const Settings, version: u32) -> u32;
+    pub(crate) fn metronome_create_shared_for(heap: *mut Handle, settings: *const Settings, log: usize, version: u32) -> u32;
+    pub(crate) fn metronome_create_shared_kept_for(
+        heap: *mut Handle, settings: *const Settings, log: usize, flow: *const Flow, version: u32,
+    ) -> u32;
+    pub(crate) fn metronome_sit(heap: *mut Handle, made: *mut Handle, from: u32) -> u32;
+    pub(crate) fn metronome_enter(heap: *mut Handle) -> u32;
+    pub(crate) fn metronome_exit(heap: *mut Handle) -> u32;
+    pub(crate) fn metronome_place(heap: *mut Handle, place: *mut u64) -> u32;
+    pub(crate) fn metronome_entry(heap: *mut Handle, place: u64, event: *mut EventTold) -> u32;
     pub(crate) fn metronome_touch(heap: *mut Handle, pages: usize) -> u32;
     pub(crate) fn metronome_destroy(heap: *mut Handle);
     pub(crate) fn metronome_new_plain(heap: *mut Handle, mutator: u32, dst: u32, refs: u32, words: u32) -> Answer;
@@ -241,74 +237,36 @@ extern "C" {
     pub(crate) fn metronome_load(heap: *mut Handle, mutator: u32, dst: u32, obj: u32, i: u32) -> Answer;
     pub(crate) fn metronome_store(heap: *mut Handle, mutator: u32, obj: u32, i: u32, src: u32) -> Answer;
     pub(crate) fn metronome_compare_store(
-        heap: *mut Handle,
-        mutator: u32,
-        obj: u32,
-        i: u32,
-        expect: u32,
-        replacement: u32,
+        heap: *mut Handle, mutator: u32, obj: u32, i: u32, expect: u32, replacement: u32,
     ) -> Answer;
     pub(crate) fn metronome_get(heap: *mut Handle, mutator: u32, obj: u32, i: u32) -> Answer;
     pub(crate) fn metronome_put(heap: *mut Handle, mutator: u32, obj: u32, i: u32, word: u64) -> Answer;
-    pub(crate) fn metronome_compare_put(
-        heap: *mut Handle,
-        mutator: u32,
-        obj: u32,
-        i: u32,
-        old: u64,
-        replacement: u64,
-    ) -> Answer;
+    pub(crate) fn metronome_compare_put(heap: *mut Handle, mutator: u32, obj: u32, i: u32, old: u64, replacement: u64) -> Answer;
     pub(crate) fn metronome_copy(heap: *mut Handle, mutator: u32, dst: u32, src: u32) -> Answer;
     pub(crate) fn metronome_clear(heap: *mut Handle, mutator: u32, dst: u32) -> Answer;
     pub(crate) fn metronome_load_static(heap: *mut Handle, mutator: u32, dst: u32, k: u32) -> Answer;
     pub(crate) fn metronome_store_static(heap: *mut Handle, mutator: u32, k: u32, src: u32) -> Answer;
-    pub(crate) fn metronome_compare_static(heap: *mut Handle, mutator: u32, k: u32, expect: u32, replacement: u32)
-        -> Answer;
+    pub(crate) fn metronome_compare_static(heap: *mut Handle, mutator: u32, k: u32, expect: u32, replacement: u32) -> Answer;
     pub(crate) fn metronome_same(heap: *mut Handle, mutator: u32, a: u32, b: u32) -> Answer;
     pub(crate) fn metronome_describe(heap: *mut Handle, mutator: u32, a: u32, shape: *mut ShapeTold) -> Answer;
     pub(crate) fn metronome_join(heap: *mut Handle, mutator: u32) -> Answer;
     pub(crate) fn metronome_leave(heap: *mut Handle, mutator: u32) -> Answer;
-    #[allow(dead_code)] // a root has a slot of a mutator that is there
+    #[allow(dead_code)] // a command is refused for the same reason
     pub(crate) fn metronome_check_slot(heap: *mut Handle, mutator: u32, slot: u32) -> u32;
-    #[allow(dead_code)] // a root clears its own slot
     pub(crate) fn metronome_clear_slots(heap: *mut Handle, mutator: u32, first: u32, count: u32) -> ProgressTold;
     pub(crate) fn metronome_move(heap: *mut Handle, mutator: u32, dst: u32, src: u32) -> ProgressTold;
     pub(crate) fn metronome_get_words_into(
-        heap: *mut Handle,
-        mutator: u32,
-        obj: u32,
-        first: u32,
-        words: *mut u64,
-        count: usize,
+        heap: *mut Handle, mutator: u32, obj: u32, first: u32, words: *mut u64, count: usize,
     ) -> ProgressTold;
     pub(crate) fn metronome_put_words_from(
-        heap: *mut Handle,
-        mutator: u32,
-        obj: u32,
-        first: u32,
-        words: *const u64,
-        count: usize,
+        heap: *mut Handle, mutator: u32, obj: u32, first: u32, words: *const u64, count: usize,
     ) -> ProgressTold;
     pub(crate) fn metronome_copy_refs(
-        heap: *mut Handle,
-        mutator: u32,
-        through: u32,
-        from: u32,
-        from_first: u32,
-        to: u32,
-        to_first: u32,
-        count: u32,
+        heap: *mut Handle, mutator: u32, through: u32, from: u32, from_first: u32, to: u32, to_first: u32, count: u32,
     ) -> ProgressTold;
     pub(crate) fn metronome_new_from(
-        heap: *mut Handle,
-        mutator: u32,
-        dst: u32,
-        refs: u32,
-        words: u32,
-        slots: *const u32,
-        slot_count: usize,
-        contents: *const u64,
-        word_count: usize,
+        heap: *mut Handle, mutator: u32, dst: u32, refs: u32, words: u32, slots: *const u32, slot_count: usize,
+        contents: *const u64, word_count: usize,
     ) -> ProgressTold;
     pub(crate) fn metronome_begin(heap: *mut Handle) -> u32;
     pub(crate) fn metronome_quantum(heap: *mut Handle, budget: u32, spent: *mut SpentTold) -> u32;
@@ -322,8 +280,7 @@ extern "C" {
     pub(crate) fn metronome_block(heap: *mut Handle, page: usize, number: usize, block: *mut BlockTold) -> u32;
     pub(crate) fn metronome_cycle_limit(settings: *const Settings, limit: *mut CycleLimit) -> u32;
     pub(crate) fn metronome_plan(settings: *const Settings, live_words: u64, flow: *mut Flow) -> u32;
-    pub(crate) fn metronome_plan_for(settings: *const Settings, live_words: u64, largest_words: u64, flow: *mut Flow)
-        -> u32;
+    pub(crate) fn metronome_plan_for(settings: *const Settings, live_words: u64, largest_words: u64, flow: *mut Flow) -> u32;
     pub(crate) fn metronome_block_words(kind: u32, refs: u32, words: u32) -> u64;
     pub(crate) fn metronome_keep(heap: *mut Handle, flow: *const Flow) -> u32;
     pub(crate) fn metronome_kept(heap: *mut Handle, work: *mut Work) -> u32;

@@ -1,21 +1,19 @@
 //! The heap, and its collector.
-use std::cell::{Cell, RefCell, UnsafeCell};
+use std::cell::{Cell, UnsafeCell};
 use std::fmt;
-use std::io;
 
-use crate::calls::{self, done, Answer, Counts, Handle, Page, Settings, ShapeTold, SpentTold};
+use crate::calls::{self, call, done, BlockTold, Counts, Handle, Page, Settings, SpentTold};
 use crate::flow::{Flow, Work};
+use crate::log::{EventTold, Logged};
 use crate::mutator::Mutator;
-use crate::record::{Recording, Reply};
 use crate::refusal::{Refusal, Result};
 
-/// A heap. It may go to another thread, and gives its memory back when it is dropped.
+/// A heap of one thread, or that of a [`Turn`](crate::Turn). It may go to another thread, and gives its memory back when it is dropped.
 pub struct Heap {
     handle: UnsafeCell<Handle>,
     slots: u32,
     /// A bit for each number of which there is a `Mutator`.
     used: Cell<u64>,
-    recording: RefCell<Option<Recording>>,
 }
 
 // SAFETY: the library keeps nothing of a thread. A heap isn't `Sync`, so that its calls come one at a time.
@@ -52,7 +50,7 @@ pub struct Spent {
     pub phase: Phase,
 }
 
-/// A cycle of a heap that keeps no plan.
+/// A cycle that has ended.
 #[repr(C)]
 #[derive(Clone, Copy, Debug, Default, PartialEq, Eq)]
 pub struct Cycle {
@@ -91,59 +89,70 @@ impl Heap {
     /// Makes a heap, with all the memory that it will ever use; a page is cleared when it is first used, or by `touch`.
     /// Refused: `BadSetting`, `BadSchedule`, `NoMemory`, `OtherVersion`.
     pub fn new(settings: &Settings) -> Result<Heap> {
-        let mut handle = Handle::CLOSED;
         // SAFETY: both live through the call, and the handle is closed.
-        done(unsafe { calls::metronome_create_for(&mut handle, settings, calls::VERSION) })?;
-        Ok(Heap {
-            handle: UnsafeCell::new(handle),
-            slots: settings.slots as u32,
-            used: Cell::new(0),
-            recording: RefCell::new(None),
+        Heap::opened(settings.slots as u32, |made| unsafe { calls::metronome_create_for(made, settings, calls::VERSION) })
+    }
+
+    /// Makes a heap as [`Heap::new`] does, that keeps the last `log` events, for [`Heap::entry`] and for a
+    /// [`Recording`](crate::Recording). They take 72 bytes each.
+    pub fn logged(settings: &Settings, log: usize) -> Result<Heap> {
+        Heap::shared(settings, log, None)?.entered()
+    }
+
+    /// Makes a heap as [`Heap::logged`] does, that keeps a plan ([`Heap::keep`]). Refused also as `NoPlan`.
+    pub fn planned(settings: &Settings, log: usize, flow: &Flow) -> Result<Heap> {
+        Heap::shared(settings, log, Some(flow))?.entered()
+    }
+
+    /// Makes a heap that seats share. It doesn't have the turn.
+    pub(crate) fn shared(settings: &Settings, log: usize, flow: Option<&Flow>) -> Result<Heap> {
+        // SAFETY: as above.
+        Heap::opened(settings.slots as u32, |made| unsafe {
+            match flow {
+                None => calls::metronome_create_shared_for(made, settings, log, calls::VERSION),
+                Some(flow) => calls::metronome_create_shared_kept_for(made, settings, log, flow, calls::VERSION),
+            }
         })
     }
 
-    /// Makes a heap as [`Heap::new`] does. From now on each call is recorded, until [`Heap::end_recording`] or until
-    /// the heap is dropped.
-    pub fn recorded(settings: &Settings, mut recording: Recording) -> Result<Heap> {
-        let heap = Heap::new(settings)?;
-        recording.begin(settings);
-        heap.recording.replace(Some(recording));
-        Ok(heap)
+    /// Returns the heap, in its turn for ever.
+    fn entered(self) -> Result<Heap> {
+        done(call!(self, metronome_enter))?;
+        Ok(self)
     }
 
-    /// Ends the recording, if there is one. Err if a line wasn't taken: then the recording ends before that line.
-    pub fn end_recording(&self) -> io::Result<()> {
-        self.recording.take().map_or(Ok(()), Recording::end)
+    /// Makes one more seat at a shared heap, which calls for this one's mutators from number `from` on.
+    pub(crate) fn sit(&self, from: u32) -> Result<Heap> {
+        Heap::opened(self.slots, |made| call!(self, metronome_sit, made, from))
     }
 
-    /// Whether the heap is recorded.
-    pub(crate) fn is_recorded(&self) -> bool {
-        self.recording.borrow().is_some()
+    /// Returns the heap that a call makes, with this many slots of each mutator.
+    fn opened(slots: u32, create: impl FnOnce(&mut Handle) -> u32) -> Result<Heap> {
+        let mut handle = Handle::CLOSED;
+        done(create(&mut handle))?;
+        Ok(Heap { handle: UnsafeCell::new(handle), slots, used: Cell::new(0) })
     }
 
-    /// Records a command of a mutator, if the heap is recorded.
-    pub(crate) fn note(&self, mutator: u32, line: fmt::Arguments<'_>, answer: &Answer, shape: &ShapeTold) {
-        if let Some(recording) = self.recording.borrow_mut().as_mut() {
-            recording.command(mutator, line, Reply { answer, shape });
-        }
+    /// Returns the handle for a call.
+    pub(crate) fn handle(&self) -> *mut Handle {
+        self.handle.get()
     }
 
-    /// Records a request to the collector, if the heap is recorded.
-    fn note_collector(&self, line: fmt::Arguments<'_>) {
-        if let Some(recording) = self.recording.borrow_mut().as_mut() {
-            recording.collector(line);
-        }
+    /// Returns what a call stores. Only a heap that is closed, or not in its turn, could refuse it.
+    fn told<T: Default>(&self, call: impl FnOnce(&mut T) -> u32) -> T {
+        let mut told = T::default();
+        call(&mut told);
+        told
     }
 
     /// Clears the first `pages` pages, or all if there are fewer, so that no later call has to: `usize::MAX` for all.
-    /// Nothing else changes.
-    pub fn touch(&self, pages: usize) {
-        // SAFETY: the heap is open, and lives through the call.
-        unsafe { calls::metronome_touch(self.handle(), pages) };
+    /// Nothing else changes. Refused: `InUse` if the heap isn't one of [`Heap::new`], and its log has an event already.
+    pub fn touch(&self, pages: usize) -> Result<()> {
+        done(call!(self, metronome_touch, pages))
     }
 
     /// Makes mutator `number` live, until it goes out of scope. Refused: `AlreadyLive` if there is a [`Mutator`] of that
-    /// number, `NoMutator`.
+    /// number, `NoMutator`, `NotYours`.
     pub fn mutator(&self, number: u32) -> Result<Mutator<'_>> {
         let bit = 1u64.checked_shl(number).ok_or(Refusal::NoMutator)?;
         if self.used.get() & bit != 0 {
@@ -159,25 +168,18 @@ impl Heap {
         self.used.set(self.used.get() & !(1 << number));
     }
 
-    /// The handle for a call. No call uses it while another one runs: a heap isn't `Sync`, and the library calls nothing back.
-    pub(crate) fn handle(&self) -> *mut Handle {
-        self.handle.get()
-    }
-
-    /// Makes the heap keep a plan from here on: before each new object the collector works as much as the plan
-    /// requires. As long as live objects keep to `live_words`, no object is refused for lack of space. That is proved of
-    /// the calls below this crate if the heap was just made, or made and touched. Refused: `NoPlan` if the heap was used
-    /// already, or the plan doesn't fit in it, or doesn't last.
+    /// Makes the heap keep a plan from here on: before each new object the collector works as much as the plan requires. As long
+    /// as live objects keep to `live_words`, no object is refused for lack of space. metronome_keep.h says what is proved.
+    /// Refused: `NoPlan` if the heap was used already, or the plan doesn't fit in it, or doesn't last; `IsShared` if it isn't one
+    /// of [`Heap::new`].
     pub fn keep(&self, flow: &Flow) -> Result<()> {
-        // SAFETY: the heap is open, and both live through the call.
-        done(unsafe { calls::metronome_keep(self.handle(), flow) })
+        done(call!(self, metronome_keep, flow))
     }
 
     /// Returns the work that the collector did for the plan since [`Heap::keep`]. Refused: `NoPlan` if none is kept.
     pub fn kept(&self) -> Result<Work> {
         let mut work = Work::default();
-        // SAFETY: the heap is open, and both live through the call.
-        done(unsafe { calls::metronome_kept(self.handle(), &mut work) })?;
+        done(call!(self, metronome_kept, &mut work))?;
         Ok(work)
     }
 
@@ -187,30 +189,25 @@ impl Heap {
     /// kept.
     pub fn prepare(&self, words: u64) -> Result<u64> {
         let mut left = 0;
-        // SAFETY: the heap is open, and both live through the call.
-        done(unsafe { calls::metronome_prepare(self.handle(), words, &mut left) })?;
+        done(call!(self, metronome_prepare, words, &mut left))?;
         Ok(left)
     }
 
     /// Begins a cycle. Returns whether one began: none was running.
     pub fn begin(&self) -> bool {
-        // SAFETY: the heap is open, and lives through the call.
-        let status = unsafe { calls::metronome_begin(self.handle()) };
-        self.note_collector(format_args!("begin"));
-        status == calls::OK
+        call!(self, metronome_begin) == calls::OK
     }
 
     /// Spends at most `budget` units, 256 to 1000000, on the cycle that is running. Refused: `BadBudget`.
     pub fn quantum(&self, budget: u32) -> Result<Spent> {
         let mut told = SpentTold::default();
-        // SAFETY: the heap is open, and both live through the call.
-        done(unsafe { calls::metronome_quantum(self.handle(), budget, &mut told) })?;
-        self.note_collector(format_args!("quantum {budget}"));
+        done(call!(self, metronome_quantum, budget, &mut told))?;
         Ok(Spent { units: told.units, phase: Phase::of(told.phase) })
     }
 
-    /// Ends the cycle that is running, if one is, and does two more, in quanta of `budget` units. The first of the two frees all
-    /// objects that are unreachable now. The second frees the pages that the first emptied by moving. Refused: `BadBudget`.
+    /// Ends the cycle that is running, if one is, and does two more, in quanta of `budget` units. The first of the two frees
+    /// all objects that are unreachable now. The second frees the pages that the first emptied by moving. Refused:
+    /// `BadBudget`.
     pub fn whole_cycle(&self, budget: u32) -> Result<()> {
         let mut ends = u32::from(self.phase() == Phase::Idle);
         while ends < 3 {
@@ -220,8 +217,9 @@ impl Heap {
         Ok(())
     }
 
-    /// Lets the collector work before `words` words are made, as the pace says: an object of n cells takes n + 4.
-    /// Refused: `BadBudget`.
+    /// Lets the collector work before `words` words are made, as the pace says: an object of n cells takes n + 4. Threads at
+    /// one heap share one pace, behind a lock that is taken only in a turn; or each has a pace for the words that it makes
+    /// itself. Refused: `BadBudget`.
     pub fn pace(&self, pacing: &mut Pacing, words: u64) -> Result<()> {
         if pacing.words == 0 {
             return Err(Refusal::BadBudget);
@@ -241,52 +239,48 @@ impl Heap {
         Ok(())
     }
 
+    /// Returns the event at a place of the log, from 0, as [`Seat::place`](crate::Seat::place) counts them. Refused: `NotShared` if
+    /// the heap is one of [`Heap::new`].
+    pub fn entry(&self, place: u64) -> Result<Logged> {
+        let mut told = EventTold::default();
+        done(call!(self, metronome_entry, place, &mut told))?;
+        Ok(Logged::of(&told))
+    }
+
     /// Returns the phase of the collector.
     pub fn phase(&self) -> Phase {
-        let mut phase = 0;
-        // SAFETY: the heap is open, and both live through the call.
-        unsafe { calls::metronome_phase(self.handle(), &mut phase) };
-        Phase::of(phase)
+        Phase::of(self.told(|phase| call!(self, metronome_phase, phase)))
     }
 
     /// Returns the units that were spent since the last cycle began.
     pub fn units(&self) -> u64 {
-        let mut units = 0;
-        // SAFETY: the heap is open, and both live through the call.
-        unsafe { calls::metronome_units(self.handle(), &mut units) };
-        units
+        self.told(|units| call!(self, metronome_units, units))
     }
 
-    /// How many pages are free.
+    /// Returns how many pages are free.
     pub fn free_pages(&self) -> u64 {
-        let mut pages = 0;
-        // SAFETY: the heap is open, and both live through the call.
-        unsafe { calls::metronome_free_pages(self.handle(), &mut pages) };
-        pages
+        self.told(|pages| call!(self, metronome_free_pages, pages))
     }
 
     /// Counts the pages, roots, objects and parts. It looks at each block, so its time grows with the heap's size.
     pub fn count(&self) -> Counts {
-        let mut counts = Counts::default();
-        // SAFETY: the heap is open, and both live through the call.
-        unsafe { calls::metronome_count(self.handle(), &mut counts) };
-        counts
+        self.told(|counts| call!(self, metronome_count, counts))
     }
 
-    /// The last cycle that ended, for a program's log; `None` before one has.
+    /// Returns the last cycle that ended, for a program's log; `None` before one has.
     pub fn last_cycle(&self) -> Option<Cycle> {
-        let mut cycle = Cycle::default();
-        // SAFETY: the heap is open, and both live through the call.
-        unsafe { calls::metronome_last_cycle(self.handle(), &mut cycle) };
+        let cycle: Cycle = self.told(|cycle| call!(self, metronome_last_cycle, cycle));
         (cycle.number > 0).then_some(cycle)
     }
 
     /// Returns a page, by its number from 0. A page that doesn't exist is reported as free.
     pub fn page(&self, number: usize) -> Page {
-        let mut page = Page::default();
-        // SAFETY: the heap is open, and both live through the call.
-        unsafe { calls::metronome_page(self.handle(), number, &mut page) };
-        page
+        self.told(|page| call!(self, metronome_page, number, page))
+    }
+
+    /// Returns a block of a page.
+    pub(crate) fn block(&self, page: usize, number: u32) -> BlockTold {
+        self.told(|block| call!(self, metronome_block, page, number as usize, block))
     }
 }
 
@@ -298,9 +292,6 @@ impl fmt::Debug for Heap {
 
 impl Drop for Heap {
     fn drop(&mut self) {
-        // A caller that must know whether every line was taken ends the recording before.
-        let _ = self.end_recording();
-        // SAFETY: the handle lives through the call, and nothing borrows the heap any more.
-        unsafe { calls::metronome_destroy(self.handle()) }
+        call!(self, metronome_destroy);
     }
 }

@@ -42,6 +42,7 @@
 #![warn(missing_docs)]
 
 mod calls;
+mod commands;
 mod flow;
 mod heap;
 mod log;
@@ -50,18 +51,15 @@ mod record;
 mod refusal;
 mod root;
 mod seat;
-mod seat_calls;
-mod turn;
 mod walk;
 
 pub use calls::{version, Counts, CycleLimit, Page, Settings};
 pub use flow::{Flow, Work};
 pub use heap::{Cycle, Heap, Pacing, Phase, Spent};
-pub use log::{Command, Entry, Logged};
+pub use log::{Command, Entry, Logged, Reply};
 pub use mutator::Mutator;
 pub use record::Recording;
 pub use refusal::{Refusal, Result};
 pub use root::{Compared, Description, Root, Shape};
-pub use seat::{Seat, Shared};
-pub use turn::Turn;
+pub use seat::{Seat, Shared, Turn};
 pub use walk::Objects;

@@ -1,21 +1,23 @@
-//! The log of a shared heap: the last events of it.
-use crate::calls::{Answer, Kind, ShapeTold};
+//! The log of a heap: its last events.
+use std::fmt;
+
+use crate::calls::{Answer, ShapeTold};
 use crate::heap::{Phase, Spent};
-use crate::refusal::Result;
+use crate::refusal::{Refusal, Result};
 use crate::root::Shape;
 
-/// An entry at a place of a log, or why there is none.
+/// An event at a place of a log, or why there is none.
 #[derive(Clone, Copy, Debug, PartialEq, Eq)]
 pub enum Logged {
-    /// The entry is gone: it isn't one of the last that are kept.
+    /// The event is gone: it isn't one of the last that are kept.
     Gone,
     /// A command.
     Entered(Entry),
-    /// A beginning, for which a seat or a plan asked: whether a cycle began, because none was running.
+    /// A beginning, for which the program or a plan asked: whether a cycle began, because none was running.
     Begin(bool),
     /// A quantum of this budget: its outcome, or that it is refused as `BadBudget`.
     Quantum(u32, Result<Spent>),
-    /// No entry yet: this is the place behind the last one.
+    /// No event yet: this is the place behind the last one.
     NotYet,
 }
 
@@ -26,10 +28,33 @@ pub struct Entry {
     pub mutator: u32,
     /// The command.
     pub command: Command,
-    /// The number of its answer, or why it was refused.
-    pub answer: Result<u64>,
-    /// The shape that was returned.
-    pub shape: Option<Shape>,
+    /// Its reply.
+    pub reply: Reply,
+}
+
+/// The reply to a command.
+#[derive(Clone, Copy, Debug, PartialEq, Eq)]
+pub enum Reply {
+    /// It was refused.
+    Refused(Refusal),
+    /// The identity of a new object.
+    Made(u64),
+    /// The identity that was loaded, 0 for null.
+    Ref(u64),
+    /// The word that was read.
+    Word(u64),
+    /// It was done.
+    Done,
+    /// The comparison held, and the cell was written.
+    Stored,
+    /// The comparison failed: the identity in the cell, 0 for null.
+    Kept(u64),
+    /// The comparison failed: the word in the cell.
+    KeptWord(u64),
+    /// Whether two slots hold the same.
+    Is(bool),
+    /// The identity and the shape of an object.
+    Described(u64, Shape),
 }
 
 /// A command of a mutator. Objects are named by their slots: `dst` is the slot that gets a value, `obj` the slot of the
@@ -68,7 +93,7 @@ pub enum Command {
     /// Makes the mutator live.
     Join,
     /// Sets each slot of the mutator to null; the mutator is then no longer live.
-    Retire,
+    Leave,
 }
 
 /// Requests to the collector, among the kinds of commands.
@@ -89,7 +114,7 @@ struct CommandTold {
 
 #[repr(C)]
 #[derive(Default)]
-pub(crate) struct EntryTold {
+pub(crate) struct EventTold {
     kind: u32,
     mutator: u32,
     command: CommandTold,
@@ -98,21 +123,36 @@ pub(crate) struct EntryTold {
 }
 
 impl Logged {
-    pub(crate) fn of(told: &EntryTold) -> Logged {
-        match (told.kind, told.command.kind) {
+    pub(crate) fn of(told: &EventTold) -> Logged {
+        let CommandTold { kind, first, second, third, .. } = told.command;
+        match (told.kind, kind) {
             (0, _) => Logged::Gone,
-            (1, BEGIN) => Logged::Begin(told.answer.kind() == Kind::Done),
-            (1, QUANTUM) => {
-                let CommandTold { first: budget, second: units, third: phase, .. } = told.command;
-                Logged::Quantum(budget, told.answer.number().map(|_| Spent { units, phase: Phase::of(phase) }))
-            }
+            (1, BEGIN) => Logged::Begin(told.answer.done().is_ok()),
+            (1, QUANTUM) => Logged::Quantum(first, told.answer.done().map(|()| Spent { units: second, phase: Phase::of(third) })),
             (1, _) => Logged::Entered(Entry {
                 mutator: told.mutator,
                 command: Command::of(&told.command),
-                answer: told.answer.number(),
-                shape: (told.answer.kind() == Kind::Described).then(|| Shape::of(&told.shape)),
+                reply: Reply::of(&told.answer, &told.shape),
             }),
             _ => Logged::NotYet,
+        }
+    }
+}
+
+impl Reply {
+    fn of(told: &Answer, shape: &ShapeTold) -> Reply {
+        let number = told.number;
+        match told.kind {
+            0 => Reply::Refused(Refusal::of(number as u32)),
+            1 => Reply::Made(number),
+            2 => Reply::Ref(number),
+            3 => Reply::Word(number),
+            4 => Reply::Done,
+            5 => Reply::Stored,
+            6 => Reply::Kept(number),
+            7 => Reply::KeptWord(number),
+            8 => Reply::Is(number != 0),
+            _ => Reply::Described(number, Shape::of(shape)),
         }
     }
 }
@@ -136,7 +176,60 @@ impl Command {
             12 => Command::Same { a, b },
             13 => Command::Describe { a },
             14 => Command::Join,
-            _ => Command::Retire,
+            _ => Command::Leave,
+        }
+    }
+}
+
+/// Writes a command as a line of a trace ends.
+impl fmt::Display for Command {
+    fn fmt(&self, out: &mut fmt::Formatter<'_>) -> fmt::Result {
+        match self {
+            Command::New { dst, shape } => write!(out, "new {dst} {shape}"),
+            Command::Load { dst, obj, i } => write!(out, "load {dst} {obj} {i}"),
+            Command::Store { obj, i, src } => write!(out, "store {obj} {i} {src}"),
+            Command::CompareStore { obj, i, expect, replacement } => write!(out, "cas {obj} {i} {expect} {replacement}"),
+            Command::Get { obj, i } => write!(out, "get {obj} {i}"),
+            Command::Put { obj, i, word } => write!(out, "put {obj} {i} {word}"),
+            Command::ComparePut { obj, i, old, replacement } => write!(out, "casput {obj} {i} {old} {replacement}"),
+            Command::Copy { dst, src } => write!(out, "copy {dst} {src}"),
+            Command::Clear { dst } => write!(out, "clear {dst}"),
+            Command::LoadStatic { dst, k } => write!(out, "loadstatic {dst} {k}"),
+            Command::StoreStatic { k, src } => write!(out, "storestatic {k} {src}"),
+            Command::CompareStatic { k, expect, replacement } => write!(out, "casstatic {k} {expect} {replacement}"),
+            Command::Same { a, b } => write!(out, "same {a} {b}"),
+            Command::Describe { a } => write!(out, "describe {a}"),
+            Command::Join => out.write_str("join"),
+            Command::Leave => out.write_str("leave"),
+        }
+    }
+}
+
+/// Writes a reply as a line of a history ends.
+impl fmt::Display for Reply {
+    fn fmt(&self, out: &mut fmt::Formatter<'_>) -> fmt::Result {
+        match self {
+            Reply::Refused(why) => write!(out, "refused {}", why.status()),
+            Reply::Made(identity) => write!(out, "made {identity}"),
+            Reply::Ref(identity) => write!(out, "ref {identity}"),
+            Reply::Word(word) => write!(out, "word {word}"),
+            Reply::Done => out.write_str("done"),
+            Reply::Stored => out.write_str("stored"),
+            Reply::Kept(identity) => write!(out, "kept {identity}"),
+            Reply::KeptWord(word) => write!(out, "keptword {word}"),
+            Reply::Is(is) => out.write_str(if *is { "is yes" } else { "is no" }),
+            Reply::Described(identity, shape) => write!(out, "described {identity} {shape}"),
+        }
+    }
+}
+
+/// Writes a shape as a line of a trace has it.
+impl fmt::Display for Shape {
+    fn fmt(&self, out: &mut fmt::Formatter<'_>) -> fmt::Result {
+        match self {
+            Shape::Plain { refs, words } => write!(out, "plain {refs} {words}"),
+            Shape::Refs(refs) => write!(out, "refs {refs}"),
+            Shape::Words(words) => write!(out, "words {words}"),
         }
     }
 }

@@ -1,5 +1,4 @@
 //! A walk over the objects that lie in a heap.
-use crate::calls::{self, BlockTold};
 use crate::heap::Heap;
 use crate::root::{Description, Shape};
 
@@ -19,13 +18,6 @@ impl Heap {
     /// size. If calls change the heap during the walk, it may miss an object, or show one twice.
     pub fn objects(&self) -> Objects<'_> {
         Objects { heap: self, pages: self.count().pages as usize, page: 0, number: 0 }
-    }
-
-    fn block(&self, page: usize, number: u32) -> BlockTold {
-        let mut block = BlockTold::default();
-        // SAFETY: the heap is open, and both live through the call.
-        unsafe { calls::metronome_block(self.handle(), page, number as usize, &mut block) };
-        block
     }
 }
 

@@ -103,14 +103,17 @@ fn lines(with_replies: bool, with_collector: bool) -> String {
 }
 
 #[test]
-fn each_call_is_a_line() -> Result<()> {
+fn each_event_is_a_line() -> io::Result<()> {
     let (settings, trace, history) = (Page::default(), Page::default(), Page::default());
-    let heap = Heap::recorded(&SMALL, Recording::new(settings.clone(), trace.clone()).with_history(history.clone()))?;
-    run(&heap)?;
-    assert!(heap.end_recording().is_ok());
+    let mut recording = Recording::begin(&SMALL, settings.clone(), trace.clone())?.with_history(history.clone())?;
+    let heap = Heap::logged(&SMALL, 100).expect("a heap");
+    run(&heap).expect("a run");
+    recording.record(&heap)?;
     heap.begin();
-    assert_eq!(trace.text(), lines(false, true));
-    assert_eq!(history.text(), lines(true, false));
+    assert_eq!((trace.text(), history.text()), (lines(false, true), lines(true, false)));
+    recording.record(&heap)?;
+    recording.record(&heap)?;
+    assert_eq!((trace.text(), recording.lost()), (lines(false, true) + "begin\n", 0));
     let keys = "pages = 8\nmutators = 1\nslots = 4\nstatics = 1\nidentities = 9223372036854775807\ndefrag_below = 0\n\
         defrag_pages = 0\ncollector_ticks = 10\nmutator_ticks = 12\nrate = 100\nlive = 1\n";
     assert_eq!(settings.text(), keys);
@@ -118,40 +121,52 @@ fn each_call_is_a_line() -> Result<()> {
 }
 
 #[test]
-fn a_line_that_is_not_taken_ends_the_recording_alone() -> Result<()> {
-    for taken in 0..26 {
-        let heap = Heap::recorded(&SMALL, Recording::new(Page::default(), Full(taken)))?;
-        run(&heap)?;
-        assert_eq!(heap.end_recording().map_err(|fault| fault.to_string()), Err("full".to_owned()));
-        assert!(heap.end_recording().is_ok());
-    }
-    let heap = Heap::recorded(&SMALL, Recording::new(Page::default(), Full(26)))?;
-    run(&heap)?;
-    assert!(heap.end_recording().is_ok());
-    Ok(())
-}
-
-#[test]
-fn lists_of_commands_are_refused_as_they_are_unrecorded() -> Result<()> {
-    let settings = Settings { mutators: 2, live: 2, ..SMALL };
-    let recorded = Heap::recorded(&settings, Recording::new(Page::default(), Page::default()))?;
-    for heap in [Heap::new(&settings)?, recorded] {
-        let (mutator, other) = (heap.mutator(0)?, heap.mutator(1)?);
-        let (cell, through, strange) = (mutator.new_plain(1, 2)?, mutator.null()?, other.new_refs(1)?);
-        cell.store(0, &cell)?;
-        assert_eq!(cell.get_words(u32::MAX, &mut [0; 2]).err(), Some(Refusal::BadIndex));
-        assert_eq!(cell.put_words(u32::MAX, &[0; 2]).err(), Some(Refusal::BadIndex));
-        assert_eq!(cell.copy_refs(0, &strange, 0, 1, &through).err(), Some(Refusal::OtherMutator));
-        assert!(through.is_null());
+fn a_line_that_is_not_taken_is_told() -> io::Result<()> {
+    assert!(Recording::begin(&SMALL, Page::default(), Full(0)).is_err());
+    for taken in 1..27 {
+        let mut recording = Recording::begin(&SMALL, Page::default(), Full(taken))?;
+        let heap = Heap::logged(&SMALL, 100).expect("a heap");
+        run(&heap).expect("a run");
+        assert_eq!(recording.record(&heap).is_ok(), taken == 26);
     }
     Ok(())
 }
 
+/// Lists are recorded command by command, and events that are gone are counted.
 #[test]
-fn what_is_refused_records_nothing() {
+fn lists_are_recorded() -> io::Result<()> {
     let trace = Page::default();
-    let faulty = Settings { pages: 0, ..SMALL };
-    let made = Heap::recorded(&faulty, Recording::new(Page::default(), trace.clone()));
-    assert_eq!(made.err(), Some(Refusal::BadSetting(0)));
-    assert_eq!(trace.text(), "");
+    let mut recording = Recording::begin(&SMALL, Page::default(), trace.clone())?;
+    let heap = Heap::logged(&SMALL, 4).expect("a heap");
+    heap.new_with(0, 0, 1, 2, &[1], &[7, 8]).expect("an object");
+    assert_eq!(heap.get_words(0, 0, 1, &mut [0; 2]).err(), Some(Refusal::BadIndex));
+    recording.record(&heap)?;
+    assert_eq!(recording.lost(), 2);
+    assert_eq!(trace.text(), "version 2\n0 put 0 0 7\n0 put 0 1 8\n0 get 0 1\n0 get 0 2\n");
+    Ok(())
+}
+
+/// Each quantum for a plan is a line.
+#[test]
+fn the_work_for_a_plan_is_recorded() -> io::Result<()> {
+    let (settings, trace) = (Settings::moving(200, 1, 4), Page::default());
+    let mut recording = Recording::begin(&settings, Page::default(), trace.clone())?;
+    let heap = Heap::planned(&settings, 1 << 16, &settings.plan(4000).expect("a plan")).expect("a heap");
+    for _ in 0..1000 {
+        heap.new_words(0, 0, 1000).expect("an object");
+    }
+    recording.record(&heap)?;
+    let (work, lines) = (heap.kept().expect("a plan"), trace.text());
+    assert!(work.cycles > 0 && lines.matches("begin\n").count() as u64 == work.cycles);
+    assert_eq!(lines.matches("quantum 1000\n").count() as u64, work.quanta);
+    Ok(())
+}
+
+#[test]
+fn a_heap_without_a_log_is_told() -> io::Result<()> {
+    let mut recording = Recording::begin(&SMALL, Page::default(), Page::default())?;
+    let heap = Heap::new(&SMALL).expect("a heap");
+    assert_eq!(heap.entry(0).err(), Some(Refusal::NotShared));
+    assert!(recording.record(&heap).is_err());
+    Ok(())
 }

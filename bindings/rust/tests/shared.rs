@@ -4,7 +4,7 @@ use std::sync::mpsc;
 use std::thread;
 
 use metronome::{
-    Command, Compared, Description, Entry, Logged, Pacing, Page, Phase, Refusal, Result, Seat, Settings, Shape, Shared,
+    Command, Compared, Description, Entry, Logged, Pacing, Page, Phase, Refusal, Reply, Result, Seat, Settings, Shape, Shared,
 };
 
 /// Four mutators of four slots, and one static.
@@ -20,7 +20,7 @@ fn mutators_go_to_seats() -> Result<()> {
     let mut very_last = last.another(3)?;
     assert_eq!(last.another(1).err(), Some(Refusal::NotYours));
     for (seat, own, strange) in [(&mut last, 2, 3), (&mut very_last, 3, 2)] {
-        let mut turn = seat.enter();
+        let turn = seat.enter();
         turn.clear(own, 0)?;
         assert_eq!(turn.clear(strange, 0).err(), Some(Refusal::NotYours));
         assert_eq!(turn.clear(0, 0).err(), Some(Refusal::NotYours));
@@ -36,39 +36,39 @@ fn the_last_entries_are_logged() -> Result<()> {
     let shared = Shared::logged(&SMALL, 4)?;
     let mut seat = shared.seat(1)?;
     let shape = Shape::Plain { refs: 1, words: 2 };
-    let mut turn = seat.enter();
-    assert_eq!(turn.entry(0), Logged::NotYet);
+    let turn = seat.enter();
+    assert_eq!(turn.entry(0)?, Logged::NotYet);
     turn.clear(1, 3)?;
     turn.new_plain(1, 0, 1, 2)?;
     assert_eq!(turn.compare_put(1, 0, 1, 5, 6)?, Compared::Kept(0));
     drop(turn);
-    let mut turn = shared.enter();
+    let turn = shared.enter();
     assert_eq!(turn.describe(0, 2).err(), Some(Refusal::NullSlot));
     assert!(turn.begin() && !turn.begin());
     assert_eq!(turn.quantum(255).err(), Some(Refusal::BadBudget));
-    assert_eq!((turn.entry(2), turn.entry(7)), (Logged::Gone, Logged::NotYet));
-    assert_eq!((turn.entry(4), turn.entry(5)), (Logged::Begin(true), Logged::Begin(false)));
-    assert_eq!(turn.entry(6), Logged::Quantum(255, Err(Refusal::BadBudget)));
+    assert_eq!((turn.entry(2)?, turn.entry(7)?), (Logged::Gone, Logged::NotYet));
+    assert_eq!((turn.entry(4)?, turn.entry(5)?), (Logged::Begin(true), Logged::Begin(false)));
+    assert_eq!(turn.entry(6)?, Logged::Quantum(255, Err(Refusal::BadBudget)));
     let spent = turn.quantum(256)?;
-    assert_eq!(turn.entry(7), Logged::Quantum(256, Ok(spent)));
+    assert_eq!(turn.entry(7)?, Logged::Quantum(256, Ok(spent)));
     drop(turn);
-    let mut turn = seat.enter();
+    let turn = seat.enter();
     turn.new_plain(1, 0, 1, 2)?;
     assert_eq!(turn.compare_put(1, 0, 1, 5, 6)?, Compared::Kept(0));
     assert_eq!(turn.describe(1, 2).err(), Some(Refusal::NullSlot));
     turn.describe(1, 0)?;
     let entries = [
-        (Command::New { dst: 0, shape }, Ok(2), None),
-        (Command::ComparePut { obj: 0, i: 1, old: 5, replacement: 6 }, Ok(0), None),
-        (Command::Describe { a: 2 }, Err(Refusal::NullSlot), None),
-        (Command::Describe { a: 0 }, Ok(2), Some(shape)),
+        (Command::New { dst: 0, shape }, Reply::Made(2)),
+        (Command::ComparePut { obj: 0, i: 1, old: 5, replacement: 6 }, Reply::KeptWord(0)),
+        (Command::Describe { a: 2 }, Reply::Refused(Refusal::NullSlot)),
+        (Command::Describe { a: 0 }, Reply::Described(2, shape)),
     ];
-    for (place, (command, answer, shape)) in (8..).zip(entries) {
-        assert_eq!(turn.entry(place), Logged::Entered(Entry { mutator: 1, command, answer, shape }));
+    for (place, (command, reply)) in (8..).zip(entries) {
+        assert_eq!(turn.entry(place)?, Logged::Entered(Entry { mutator: 1, command, reply }));
     }
-    assert_eq!((turn.entry(7), turn.entry(12)), (Logged::Gone, Logged::NotYet));
+    assert_eq!((turn.entry(7)?, turn.entry(12)?), (Logged::Gone, Logged::NotYet));
     drop(turn);
-    assert_eq!(Shared::new(&SMALL)?.enter().entry(0), Logged::NotYet);
+    assert_eq!(Shared::new(&SMALL)?.enter().entry(0)?, Logged::NotYet);
     assert_eq!(Shared::logged(&SMALL, usize::MAX).err(), Some(Refusal::NoMemory));
     Ok(())
 }
@@ -78,18 +78,19 @@ fn the_last_entries_are_logged() -> Result<()> {
 fn a_plan_is_kept_by_all_seats() -> Result<()> {
     let settings = Settings::moving(200, 2, 4);
     let flow = settings.plan(4000)?;
-    assert_eq!(Shared::kept(&SMALL, 0, &flow).err(), Some(Refusal::NoPlan));
-    let shared = Shared::kept(&settings, 1 << 16, &flow)?;
+    assert_eq!(Shared::planned(&SMALL, 0, &flow).err(), Some(Refusal::NoPlan));
+    let shared = Shared::planned(&settings, 1 << 16, &flow)?;
+    assert_eq!(shared.enter().keep(&flow).err(), Some(Refusal::IsShared));
     let mut seat = shared.seat(1)?;
     for _ in 0..2000 {
         seat.enter().new_words(1, 0, 1000)?;
         shared.enter().new_words(0, 0, 1000)?;
     }
-    let mut turn = shared.enter();
+    let turn = shared.enter();
     assert_eq!(turn.new_words(0, 0, 4_000_000).err(), Some(Refusal::AbovePlan));
     let (kept, last) = (turn.kept()?, turn.last_cycle().expect("a cycle has ended"));
     assert!(kept.cycles > 1 && kept.quanta >= kept.most_quanta && last.number + 1 >= kept.cycles && last.quanta > 0);
-    let log: Vec<Logged> = (0..).map(|place| turn.entry(place)).take_while(|entry| *entry != Logged::NotYet).collect();
+    let log: Vec<Logged> = (0..).map_while(|place| turn.entry(place).ok()).take_while(|entry| *entry != Logged::NotYet).collect();
     assert_eq!(log.iter().filter(|entry| **entry == Logged::Begin(true)).count() as u64, kept.cycles);
     assert_eq!(log.iter().filter(|entry| matches!(entry, Logged::Quantum(1000, Ok(_)))).count() as u64, kept.quanta);
     assert_eq!(Shared::new(&SMALL)?.enter().kept().err(), Some(Refusal::NoPlan));
@@ -103,7 +104,7 @@ fn the_turn_is_one_seats() -> Result<()> {
     let turn = shared.enter();
     let taken = thread::scope(|scope| scope.spawn(|| seat.try_enter().err()).join().expect("the thread ends"));
     assert_eq!(taken, Some(Refusal::Taken));
-    assert_eq!(Refusal::Taken.status(), Some(41));
+    assert_eq!(Refusal::Taken.status(), 41);
     assert_eq!(seat.place(), 0);
     drop(turn);
     seat.try_enter()?.clear(1, 0)?;
@@ -128,7 +129,7 @@ fn who_panics_gives_the_turn_back() -> Result<()> {
 #[test]
 fn cells_are_read_and_written() -> Result<()> {
     let shared = Shared::new(&SMALL)?;
-    let mut turn = shared.enter();
+    let turn = shared.enter();
     assert_eq!((turn.new_plain(0, 0, 2, 1)?, turn.new_refs(0, 1, 300)?, turn.new_words(0, 2, 1)?), (1, 2, 3));
     assert_eq!(turn.describe(0, 0)?, Description { identity: 1, shape: Shape::Plain { refs: 2, words: 1 } });
     assert_eq!(turn.describe(0, 1)?.shape, Shape::Refs(300));
@@ -146,17 +147,42 @@ fn cells_are_read_and_written() -> Result<()> {
     assert!(turn.is_same(0, 2, 3)? && !turn.is_same(0, 0, 3)?);
     turn.copy(0, 3, 0)?;
     assert_eq!((turn.get(0, 3, 0)?, turn.get(0, 3, 1).err()), (2, Some(Refusal::BadIndex)));
-    turn.retire(0)?;
+    turn.leave(0)?;
     assert_eq!(turn.clear(0, 0).err(), Some(Refusal::NotLive));
     turn.join(0)?;
     assert_eq!(turn.describe(0, 0).err(), Some(Refusal::NullSlot));
     Ok(())
 }
 
+/// Roots live in a turn, and what statics hold stays.
+#[test]
+fn a_turn_has_mutators_and_lists() -> Result<()> {
+    let shared = Shared::new(&SMALL)?;
+    let mut seat = shared.seat(1)?;
+    let turn = seat.enter();
+    assert_eq!(turn.mutator(0).err(), Some(Refusal::NotYours));
+    let mutator = turn.mutator(1)?;
+    let (cell, other) = (mutator.new_with(1, 2, &[], &[7, 8])?, mutator.new_refs(1)?);
+    cell.store(0, &other)?;
+    mutator.store_static(0, &cell)?;
+    drop((cell, other));
+    drop(mutator);
+    drop(turn);
+    let turn = shared.enter();
+    let mut words = [0; 2];
+    turn.load_static(0, 3, 0)?;
+    turn.get_words(0, 3, 0, &mut words)?;
+    assert_eq!((words, turn.objects().count()), ([7, 8], 2));
+    turn.clear_slots(0, 0, 4)?;
+    assert_eq!(turn.touch(usize::MAX).err(), Some(Refusal::InUse));
+    Shared::new(&SMALL)?.enter().touch(usize::MAX)?;
+    Ok(())
+}
+
 #[test]
 fn cycles_go_by_quanta() -> Result<()> {
     let shared = Shared::new(&SMALL)?;
-    let mut turn = shared.enter();
+    let turn = shared.enter();
     assert_eq!((turn.phase(), turn.units(), turn.free_pages()), (Phase::Idle, 0, 16));
     assert!(turn.begin() && !turn.begin());
     assert_eq!(turn.quantum(255).err(), Some(Refusal::BadBudget));
@@ -172,11 +198,11 @@ fn nothing_is_refused_at_a_pace() -> Result<()> {
     let mut pacing = Pacing::new(16, (1000 - 255) / 20, 1000);
     let mut seat = shared.seat(0)?;
     for _ in 0..20_000 {
-        let mut turn = seat.enter();
+        let turn = seat.enter();
         turn.pace(&mut pacing, 6)?;
         turn.new_plain(0, 0, 1, 1)?;
     }
-    let mut turn = seat.enter();
+    let turn = seat.enter();
     assert_eq!(turn.pace(&mut Pacing::new(16, 0, 1000), 6).err(), Some(Refusal::BadBudget));
     turn.clear(0, 0)?;
     turn.whole_cycle(1000)?;
@@ -187,7 +213,7 @@ fn nothing_is_refused_at_a_pace() -> Result<()> {
 #[test]
 fn a_whole_cycle_in_a_turn_frees_the_pages_that_moving_emptied() -> Result<()> {
     let shared = Shared::new(&Settings { defrag_below: 5, defrag_pages: 4, ..Settings::new(4, 1, 64) })?;
-    let mut turn = shared.enter();
+    let turn = shared.enter();
     assert!(turn.begin());
     for slot in 0..24 {
         turn.new_plain(0, slot, 0, 252)?;
@@ -215,7 +241,7 @@ fn nobody_calls_for_a_dropped_seats_mutators() -> Result<()> {
 fn add(seat: &mut Seat, mutator: u32) -> Result<()> {
     seat.enter().load_static(mutator, 0, 0)?;
     for _ in 0..ROUNDS {
-        let mut turn = seat.enter();
+        let turn = seat.enter();
         let word = turn.get(mutator, 0, 0)?;
         turn.put(mutator, 0, 0, word + 1)?;
         turn.new_plain(mutator, 1, 1, 1)?;
@@ -227,7 +253,7 @@ fn add(seat: &mut Seat, mutator: u32) -> Result<()> {
 fn collect(mut seat: Seat, ends: &mpsc::Receiver<()>) -> Result<u64> {
     let mut calls = 0;
     while ends.try_recv() == Err(mpsc::TryRecvError::Empty) {
-        let mut turn = seat.enter();
+        let turn = seat.enter();
         turn.begin();
         turn.quantum(1000)?;
         calls += 2;

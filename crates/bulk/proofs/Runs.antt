@@ -9,16 +9,14 @@ use Rattle.graph_heap.specs.declared.command.Command.{Command}
 use Rattle.graph_heap.specs.declared.command.Command.TheVariants as commands
 use Rattle.graph_heap.specs.declared.command.Reply.{Reply}
 use Rattle.graph_heap.specs.declared.command.Reply.TheVariants as replies
-use Rattle.heap_model.specs.State.{HeapState}
-use Rattle.machine.specs.Runs.{StepsEach}
-use Rattle.bulk.specs.InOrder.{DoesWith, DoesFront, words_told}
+use Rattle.bulk.specs.InOrder.{DoesWithBy, DoesFrontBy, EachBy, words_told}
 use Rattle.bulk.specs.Lists.{upto, number_after}
 use Rattle.bulk.proofs.InOrder.{none_done}
 use Rattle.bulk.proofs.Lists.{clear_at}
 use Rattle.bulk.proofs.Rows.{goes_on, goes_on_with}
 
 -- the numbers of a run stay below the greatest
-pub number_in : (first i n k begin : ℕ) → begin ≡ number_after first i → begin + n < 2 ^ 32 → k < n → begin + k ≡ number_after first (i + k)
+pub number_in : (first i n k begin : ℕ) → begin ≡ number_after first i → begin + n ≤ 2 ^ 32 → k < n → begin + k ≡ number_after first (i + k)
 number_in first i n k begin is few l = omega (arith, is, few, l)
 
 pub number_first : (first i begin : ℕ) → begin ≡ number_after first i → begin + 0 ≡ number_after first i
@@ -39,40 +37,40 @@ told_more front words n l =
     take_more (x ∷ xs) zero b = refl
     take_more (x ∷ xs) (suc k) b = ap (λ ys. x ∷ ys) (take_more xs k (omega arith))
 
-module _ (f : ℕ → Command) (h mid : HeapState) (m i : ℕ) (c : ℕ → Command) where
+module _ {S : Type 0} (step : S → Command → Reply → S → Type 0) (f : ℕ → Command) (h mid : S) (i : ℕ) (c : ℕ → Command) where
   -- A run reads words.
-  pub reads_on : (n : ℕ) (after : HeapState) (front words : List ℕ) → n ≤ length words → ((k : ℕ) → k < n → c k ≡ f (i + k)) → DoesWith h m (map f (upto i)) (words_told front) (record { done = i; refused = None }) mid
-      → StepsEach mid m c (λ k. replies.Word (get_or words k 0)) n after → DoesWith h m (map f (upto (i + n))) (words_told (front ++ take n words)) (record { done = i + n; refused = None }) after
+  pub reads_on : (n : ℕ) (after : S) (front words : List ℕ) → n ≤ length words → ((k : ℕ) → k < n → c k ≡ f (i + k)) → DoesWithBy step h (map f (upto i)) (words_told front) (record { done = i; refused = None }) mid
+      → EachBy step mid c (λ k. replies.Word (get_or words k 0)) n after → DoesWithBy step h (map f (upto (i + n))) (words_told (front ++ take n words)) (record { done = i + n; refused = None }) after
   reads_on zero after front words few is w e =
       let same : i ≡ i + 0 = omega arith in
-      subst (λ k. DoesWith h m (map f (upto k)) (words_told (front ++ [])) (record { done = k; refused = None }) after) same
-      (subst (λ xs. DoesWith h m (map f (upto i)) (words_told xs) (record { done = i; refused = None }) after) (sym (append_nil front))
-      (subst (λ (x : HeapState). DoesWith h m (map f (upto i)) (words_told front) (record { done = i; refused = None }) x) (sym e) w))
+      subst (λ k. DoesWithBy step h (map f (upto k)) (words_told (front ++ [])) (record { done = k; refused = None }) after) same
+      (subst (λ xs. DoesWithBy step h (map f (upto i)) (words_told xs) (record { done = i; refused = None }) after) (sym (append_nil front))
+      (subst (λ x. DoesWithBy step h (map f (upto i)) (words_told front) (record { done = i; refused = None }) x) (sym e) w))
   reads_on (suc n) after front words few is w (next, s, last) =
       let before = reads_on n next front words (omega arith) (λ k l. is k (omega arith)) w s in
       let sum : i + n + 1 ≡ i + suc n = omega arith in
-      subst (λ k. DoesWith h m (map f (upto k)) (words_told (front ++ take (suc n) words)) (record { done = k; refused = None }) after) sum
-      (subst (λ (rs : List Reply). DoesWith h m (map f (upto (i + n + 1))) rs (record { done = i + n + 1; refused = None }) after) (sym (told_more front words n (omega arith)))
-      (goes_on_with f h next after m (i + n) (c n) (replies.Word (get_or words n 0)) (is n (omega arith)) last (words_told (front ++ take n words)) before refl))
+      subst (λ k. DoesWithBy step h (map f (upto k)) (words_told (front ++ take (suc n) words)) (record { done = k; refused = None }) after) sum
+      (subst (λ (rs : List Reply). DoesWithBy step h (map f (upto (i + n + 1))) rs (record { done = i + n + 1; refused = None }) after) (sym (told_more front words n (omega arith)))
+      (goes_on_with step f h next after (i + n) (c n) (replies.Word (get_or words n 0)) (is n (omega arith)) last (words_told (front ++ take n words)) before refl))
 
   -- A run of commands that are done is told so.
-  pub does_on : (n : ℕ) (after : HeapState) → ((k : ℕ) → k < n → c k ≡ f (i + k)) → DoesFront h m (map f (upto i)) (record { done = i; refused = None }) mid
-      → StepsEach mid m c (λ k. replies.Done) n after → DoesFront h m (map f (upto (i + n))) (record { done = i + n; refused = None }) after
+  pub does_on : (n : ℕ) (after : S) → ((k : ℕ) → k < n → c k ≡ f (i + k)) → DoesFrontBy step h (map f (upto i)) (record { done = i; refused = None }) mid
+      → EachBy step mid c (λ k. replies.Done) n after → DoesFrontBy step h (map f (upto (i + n))) (record { done = i + n; refused = None }) after
   does_on zero after is w e =
       let same : i ≡ i + 0 = omega arith in
-      subst (λ k. DoesFront h m (map f (upto k)) (record { done = k; refused = None }) after) same (subst (λ (x : HeapState). DoesFront h m (map f (upto i)) (record { done = i; refused = None }) x) (sym e) w)
+      subst (λ k. DoesFrontBy step h (map f (upto k)) (record { done = k; refused = None }) after) same (subst (λ x. DoesFrontBy step h (map f (upto i)) (record { done = i; refused = None }) x) (sym e) w)
   does_on (suc n) after is w (next, s, last) =
       let sum : i + n + 1 ≡ i + suc n = omega arith in
-      subst (λ k. DoesFront h m (map f (upto k)) (record { done = k; refused = None }) after) sum
-      (goes_on f h next after m (i + n) (c n) replies.Done (is n (omega arith)) last (does_on n next (λ k l. is k (omega arith)) w s) refl)
+      subst (λ k. DoesFrontBy step h (map f (upto k)) (record { done = k; refused = None }) after) sum
+      (goes_on step f h next after (i + n) (c n) replies.Done (is n (omega arith)) last (does_on n next (λ k l. is k (omega arith)) w s) refl)
 
 -- The first run cleared these slots.
-pub first_clears : (h after : HeapState) (m first n : ℕ) → first + n < 2 ^ 32 → StepsEach h m (λ k. commands.Clear (first + k)) (λ k. replies.Done) n after
-    → DoesFront h m (map (clear_at first) (upto n)) (record { done = n; refused = None }) after
-first_clears h after m first n few s =
+pub first_clears : {S : Type 0} (step : S → Command → Reply → S → Type 0) (h after : S) (first n : ℕ) → first + n ≤ 2 ^ 32 → EachBy step h (λ k. commands.Clear (first + k)) (λ k. replies.Done) n after
+    → DoesFrontBy step h (map (clear_at first) (upto n)) (record { done = n; refused = None }) after
+first_clears step h after first n few s =
     let same : 0 + n ≡ n = omega arith in
-    subst (λ k. DoesFront h m (map (clear_at first) (upto k)) (record { done = k; refused = None }) after) same
-    (does_on (clear_at first) h h m 0 (λ k. commands.Clear (first + k)) n after (λ k b. ap (λ z. commands.Clear z) (number k b)) (none_done h m) s)
+    subst (λ k. DoesFrontBy step h (map (clear_at first) (upto k)) (record { done = k; refused = None }) after) same
+    (does_on step (clear_at first) h h 0 (λ k. commands.Clear (first + k)) n after (λ k b. ap (λ z. commands.Clear z) (number k b)) (none_done step h) s)
   where
     number : (k : ℕ) → k < n → first + k ≡ number_after first (0 + k)
     number k b = omega (arith, few, b)

@@ -40,6 +40,10 @@ copies through from from_first to to_first count = flat_map
     (λ i. commands.Load through from (number_after from_first i) ∷ commands.Store to (number_after to_first i) through ∷ [])
     (upto count)
 
--- Makes an object, and writes its first reference cells and its first word cells.
+-- Writes the first reference cells and the first word cells of an object.
+abbrev pub fills : ℕ → List ℕ → List ℕ → List Command
+fills obj refs words = stores obj refs ++ puts obj 0 words
+
+-- Makes an object, and fills its first cells.
 abbrev pub makes : ℕ → Shape → List ℕ → List ℕ → List Command
-makes dst shape refs words = commands.New dst shape ∷ (stores dst refs ++ puts dst 0 words)
+makes dst shape refs words = commands.New dst shape ∷ fills dst refs words

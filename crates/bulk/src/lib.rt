@@ -3,6 +3,7 @@
 //! a list of events of a heap with its history (`bulk_calls_are_events`).
 #![tactic(auto)]
 
+mod commands;
 mod laws;
 mod making;
 mod progress;
@@ -10,8 +11,9 @@ mod refs;
 mod slots;
 mod words;
 
+pub use commands::Commands;
 pub use laws::bulk_calls_are_events;
-pub use making::new_with;
+pub use making::{fill_made, new_with};
 pub use progress::Progress;
 pub use refs::copy_refs;
 pub use slots::{clear_slots, move_slot};

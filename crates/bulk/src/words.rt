@@ -1,18 +1,24 @@
 //! Reads and writes words of an object in a row.
 ghost use Rattle.std.specs.Prelude.{◌≡◌, ◌≤◌, length, take, drop};
-ghost use Rattle.bulk.specs.InOrder.{DoesFront, DoesWith, words_told};
+ghost use Rattle.bulk.specs.InOrder.{DoesFrontBy, DoesWithBy, words_told};
 ghost use Rattle.bulk.specs.Lists.{gets, puts};
 
+use crate::commands::Commands;
 use crate::progress::{Progress, refusal_in};
 use graph_heap::PLAIN_CELLS;
-use machine::Heap;
 
 /// Reads word cells of the object in slot obj, from the first on, until the slice is full: at most 252. The progress
 /// counts the words read. They stand at the front of the slice, and the rest of it stays. The first cell that the object
 /// doesn't have is refused as BadIndex. A number of 2^32 or more counts as 2^32 - 1, which no cell has.
-pub fn get_words(heap: &mut Heap, mutator: u32, obj: u32, first: u32, words: &mut [u64]) -> Progress
+pub fn get_words<H: Commands>(
+    heap: &mut H,
+    mutator: u32,
+    obj: u32,
+    first: u32,
+    words: &mut [u64],
+) -> Progress
     requires { length words.old ≤ PLAIN_CELLS }
-    ensures reads { DoesWith heap.old mutator (gets obj first (length words.old))
+    ensures reads { DoesWithBy (H.does mutator) heap.old (gets obj first (length words.old))
         (words_told (take result.done words.new)) result heap.new }
     ensures rest { drop result.done words.new ≡ drop result.done words.old }
 {
@@ -32,9 +38,15 @@ pub fn get_words(heap: &mut Heap, mutator: u32, obj: u32, first: u32, words: &mu
 /// words written. The first cell that the object doesn't have is refused as BadIndex. A number of 2^32 or more counts as
 /// 2^32 - 1, which no cell has.
 #[inline(always)]
-pub fn put_words(heap: &mut Heap, mutator: u32, obj: u32, first: u32, words: &[u64]) -> Progress
+pub fn put_words<H: Commands>(
+    heap: &mut H,
+    mutator: u32,
+    obj: u32,
+    first: u32,
+    words: &[u64],
+) -> Progress
     requires { length words.now ≤ PLAIN_CELLS }
-    ensures { DoesFront heap.old mutator (puts obj first words.now) result heap.new }
+    ensures { DoesFrontBy (H.does mutator) heap.old (puts obj first words.now) result heap.new }
 {
     let count = words.len() as u32;
     let mut done = 0;
@@ -50,15 +62,15 @@ pub fn put_words(heap: &mut Heap, mutator: u32, obj: u32, first: u32, words: &[u
 
 /// Writes words by single commands. For one or two words that takes less than a run.
 #[inline(always)]
-pub(crate) fn put_each(
-    heap: &mut Heap,
+pub(crate) fn put_each<H: Commands>(
+    heap: &mut H,
     mutator: u32,
     obj: u32,
     first: u32,
     words: &[u64],
 ) -> Progress
     requires { length words.now ≤ PLAIN_CELLS }
-    ensures { DoesFront heap.old mutator (puts obj first words.now) result heap.new }
+    ensures { DoesFrontBy (H.does mutator) heap.old (puts obj first words.now) result heap.new }
 {
     let count = words.len() as u32;
     for i in 0..count {
@@ -72,9 +84,14 @@ pub(crate) fn put_each(
 
 /// Writes the first words of a new object, by single commands or by runs, whichever takes less.
 #[inline(always)]
-pub(crate) fn fill_words(heap: &mut Heap, mutator: u32, obj: u32, words: &[u64]) -> Progress
+pub(crate) fn fill_words<H: Commands>(
+    heap: &mut H,
+    mutator: u32,
+    obj: u32,
+    words: &[u64],
+) -> Progress
     requires { length words.now ≤ PLAIN_CELLS }
-    ensures { DoesFront heap.old mutator (puts obj 0 words.now) result heap.new }
+    ensures { DoesFrontBy (H.does mutator) heap.old (puts obj 0 words.now) result heap.new }
 {
     if words.len() < 3 {
         return put_each(heap, mutator, obj, 0, words);
@@ -84,9 +101,9 @@ pub(crate) fn fill_words(heap: &mut Heap, mutator: u32, obj: u32, words: &[u64])
 
 /// Writes the first words of a new object by runs.
 #[inline(never)]
-fn put_many(heap: &mut Heap, mutator: u32, obj: u32, words: &[u64]) -> Progress
+fn put_many<H: Commands>(heap: &mut H, mutator: u32, obj: u32, words: &[u64]) -> Progress
     requires { length words.now ≤ PLAIN_CELLS }
-    ensures { DoesFront heap.old mutator (puts obj 0 words.now) result heap.new }
+    ensures { DoesFrontBy (H.does mutator) heap.old (puts obj 0 words.now) result heap.new }
 {
     put_words(heap, mutator, obj, 0, words)
 }

@@ -9,7 +9,10 @@ pub mod Rejoining
 pub mod Pasts
 pub mod Paid
 pub mod Plans
+pub mod Listing
+pub mod Replies
 pub mod Members
+pub mod Changes
 pub mod Merging
 pub mod Refuted
 pub mod Sending

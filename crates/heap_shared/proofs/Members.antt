@@ -1,5 +1,5 @@
 -- Members before and after their steps.
-use Rattle.std.proofs.Common.{◌≡◌, ◌≢◌, ℕ, ◌+◌, ◌*◌, ◌%◌, ◌<◌, ◌≤◌, Bool, true, false, true≢false, List, [], ◌∷◌, ◌++◌, length, drop, get_or, refl, sym, ap, ◌∙◌, subst, arith, append-nil, length-append, Some, None, Ok, Err}
+use Rattle.std.proofs.Common.{◌≡◌, ◌≢◌, ℕ, ◌*◌, ◌%◌, ◌≤◌, Bool, true, false, true≢false, List, [], ◌∷◌, ◌++◌, length, drop, get_or, refl, sym, ap, ◌∙◌, subst, arith, append-nil, length-append, Some, None, Ok, Err}
 use Rattle.std.specs.Prelude.{Option, Result, IfSome}
 use Rattle.std.specs.List.{All}
 use Rattle.std.specs.Option.{option_map}
@@ -11,7 +11,7 @@ use Rattle.atomic_table.specs.Seated.{TableId}
 use Rattle.graph_heap.specs.declared.command.Command.{Command}
 use Rattle.graph_heap.specs.declared.command.Command.TheVariants as commands
 use Rattle.graph_heap.specs.declared.command.Reply.{Reply}
-use Rattle.heap_model.specs.Event.{Event, Command_done}
+use Rattle.heap_model.specs.Event.{Course, Event, Command_done}
 use Rattle.space.specs.Room.{asks}
 use Rattle.fragmentation.specs.Flow.{words_of}
 use Rattle.paced.specs.declared.pacer.AbovePlan.{AbovePlan}
@@ -28,17 +28,19 @@ use Rattle.heap_shared.specs.declared.deed.Deed.{Deed}
 use Rattle.heap_shared.specs.declared.rule.Account.{Account}
 use Rattle.heap_shared.specs.declared.rule.Known.{Known}
 use Rattle.heap_shared.specs.declared.shared_heap.SharedConfig.{SharedConfig}
-use Rattle.heap_shared.specs.Past.{IsLed}
+use Rattle.heap_shared.specs.declared.rule.Last.{Last}
+use Rattle.heap_shared.specs.Past.{IsTouched, IsLed}
+use Rattle.heap_shared.specs.Lists.{WorksBefore}
 use Rattle.heap_shared.specs.Accounts.{IsWithin, IsAllowed, GoesOn, events_of, signed}
 use Rattle.paced.specs.declared.logged.Logged.{Logged}
 use Rattle.heap_shared.specs.declared.fault.NoEntry.{NoEntry}
 use Rattle.heap_shared.specs.declared.fault.NotDone.TheVariants as undone
 use Rattle.heap_shared.specs.Ring.{Ringed, IsAsAsked, HasKept, Goes, GoesBy, figures_of, IsAbove, Makes, TellsEntry}
 use Rattle.heap_shared.specs.Turns.{done_since, seen_now, put_back, Told, HasTurn}
-use Rattle.heap_shared.specs.Members.{MemberView, turn_of, shown_by, HasHeap, IsMember, events_up_to, BearsAll, Enters, Leaves, Places, DoesIn, DoesInTurn, FindsEntry, WorksBefore, Calls, IsPromised}
+use Rattle.heap_shared.specs.Members.{MemberView, turn_of, shown_by, HasHeap, IsMember, events_up_to, BearsAll, Enters, Leaves, Places, DoesIn, DoesInTurn, FindsEntry, Calls, ChangesIn, IsPromised}
 use Rattle.heap_shared.proofs.Accounts.{goes_none, goes_more, all_one, command_allowed}
 use Rattle.heap_shared.proofs.Paid.{work_allowed}
-use Rattle.heap_shared.proofs.Pasts.{led_more, led_course, done_is}
+use Rattle.heap_shared.proofs.Pasts.{led_more, led_course, done_is, touched_then}
 use Rattle.heap_shared.proofs.Plans.{plan_still, kept_still, room_kept}
 
 abbrev M : Type 0
@@ -81,6 +83,19 @@ asked_still c r k es d asked =
           (kept_still r.pacer k.pacer (c.config.collector_ticks * c.config.rate) r.course.heap k.course.heap r.events es same d.keeps asked.kept);
     }
 
+-- it is the heap that was found, except for touched pages, unless something was done
+abbrev pub Still : Option Last → ℕ → Ringed → Type 0
+Still last n r = length r.events ≡ n → IfSome last (λ x. IsTouched x.heap r.course)
+
+still_after : (last : Option Last) (n : ℕ) (r k : Ringed) (es : List Event) → Goes r es k → n ≤ length r.events → Still last n r → Still last n k
+still_after last n r k [] d long was same =
+    subst (λ (x : Course). IfSome last (λ y. IsTouched y.heap x)) (sym d.runs) (was (let e = ap length d.events in let l = length-append r.events [] in omega (arith, same, e, l)))
+still_after last n r k (x ∷ es) d long was same = absurd (let e = ap length d.events in let l = length-append r.events (x ∷ es) in omega (arith, same, e, l, long))
+
+still_touched : (last : Option Last) (a b : Course) → IfSome last (λ x. IsTouched x.heap a) → IsTouched a b → IfSome last (λ x. IsTouched x.heap b)
+still_touched None a b was on = was
+still_touched (Some x) a b was on = touched_then x.heap a b was on
+
 module _ (c : SharedConfig) (b : Bool) (m : M) (now k : Ringed) (yes : b ≡ true) (is : IsMember c b m) (at : m.1 ≡ (0, now) ∷ rest m.1) where
   abbrev one : HasHeap c m
   one = carries_one c b m yes is
@@ -100,6 +115,12 @@ module _ (c : SharedConfig) (b : Bool) (m : M) (now k : Ringed) (yes : b ≡ tru
   pub goes_now : GoesOn m.0.from m.0.to (events_of m.0.seen) now.events
   goes_now = subst (λ (r : Ringed). GoesOn m.0.from m.0.to (events_of m.0.seen) r.events) same one.goes
 
+  pub still_now : Still m.0.last (length m.0.seen) now
+  still_now = subst (Still m.0.last (length m.0.seen)) same one.still
+
+  long_now : length m.0.seen ≤ length now.events
+  long_now = omega (arith, ap length goes_now.1, length-append (events_of m.0.seen) goes_now.0, length-map m.0.seen (λ (x : Deed). x.event))
+
   -- the heap that is lent lies where it was
   abbrev pub carried_now : HasHeap c (m.0, (0, now) ∷ rest m.1)
   carried_now = record {
@@ -108,27 +129,44 @@ module _ (c : SharedConfig) (b : Bool) (m : M) (now k : Ringed) (yes : b ≡ tru
     carried = ap (λ (l : List (ℕ × Ringed)). (0, now) ∷ l) none_left;
     goes = goes_now;
     asked = asked_now;
-    still = subst (λ (r : Ringed). length r.events ≡ length m.0.seen → m.0.last ≡ Some (record { length = length m.0.seen; heap = r.course })) same one.still;
+    still = still_now;
   }
 
   -- events were done
-  pub gone_by : (es : List Event) → 0 < length es → All (IsAllowed m.0.from m.0.to) es → Goes now es k → IsMember c b (m.0, (0, k) ∷ rest m.1)
-  gone_by es some may d = inside_still c b _ yes (record {
+  pub gone_by : (es : List Event) → All (IsAllowed m.0.from m.0.to) es → Goes now es k → IsMember c b (m.0, (0, k) ∷ rest m.1)
+  gone_by es may d = inside_still c b _ yes (record {
     held = k;
     inside = one.inside;
     carried = ap (λ (l : List (ℕ × Ringed)). (0, k) ∷ l) none_left;
     goes = subst (GoesOn m.0.from m.0.to (events_of m.0.seen)) (sym d.events) (goes_more m.0.from m.0.to (events_of m.0.seen) now.events es may goes_now);
     asked = asked_still c now k es d asked_now;
-    still = λ same. absurd (let g = ap length goes_now.1 in let a = length-append (events_of m.0.seen) goes_now.0 in let l = length-map m.0.seen (λ (x : Deed). x.event) in let n = ap length d.events in let b = length-append now.events es in omega (arith, same, g, a, l, n, b, some));
+    still = still_after m.0.last (length m.0.seen) now k es d long_now still_now;
   })
+
+  -- the heap was changed without an event
+  pub changed : k.events ≡ now.events → IsTouched now.course k.course → IsAsAsked c k → IsMember c b (m.0, (0, k) ∷ rest m.1)
+  changed same_events touched asked = inside_still c b _ yes (record {
+    held = k;
+    inside = one.inside;
+    carried = ap (λ (l : List (ℕ × Ringed)). (0, k) ∷ l) none_left;
+    goes = subst (GoesOn m.0.from m.0.to (events_of m.0.seen)) (sym same_events) goes_now;
+    asked = asked;
+    still = λ e. still_touched m.0.last now.course k.course (still_now (sym (ap length same_events) ∙ e)) touched;
+  })
+
+  pub changed_in : (id : TableId) (v : MemberView) → shown_by id c m ≡ v → {A : Type 0} (change : Ringed → A → Ringed → Type 0) (a : A) → k.events ≡ now.events → change now a k
+      → ChangesIn change v (Some a) (shown_by id c (m.0, (0, k) ∷ rest m.1))
+  changed_in id v shows change a same_events does =
+      let did : drop (length m.0.seen) k.events ≡ done_since m.0.seen m.1 = ap (drop (length m.0.seen)) same_events ∙ sym (ap (done_since m.0.seen) at) in
+      subst (λ (x : MemberView). ChangesIn change x (Some a) (shown_by id c (m.0, (0, k) ∷ rest m.1))) shows
+      (now, k, turn_was, does, ap (λ (xs : List Event). record (shown_by id c m) { turn = Some k; did = xs }) did)
 
   -- more events are done in this turn
   did_more : (es : List Event) → Goes now es k → drop (length m.0.seen) k.events ≡ done_since m.0.seen m.1 ++ es
   did_more es d =
-      let long : length m.0.seen ≤ length now.events = omega (arith, ap length goes_now.1, length-append (events_of m.0.seen) goes_now.0, length-map m.0.seen (λ (x : Deed). x.event)) in
-      ap (drop (length m.0.seen)) d.events ∙ (drop-append-le (length m.0.seen) now.events es long ∙ ap (λ (xs : List Event). xs ++ es) (sym (ap (done_since m.0.seen) at)))
+      ap (drop (length m.0.seen)) d.events ∙ (drop-append-le (length m.0.seen) now.events es long_now ∙ ap (λ (xs : List Event). xs ++ es) (sym (ap (done_since m.0.seen) at)))
 
-  shows_more : (id : TableId) (es : List Event) → Goes now es k → shown_by id c (m.0, (0, k) ∷ rest m.1) ≡ record (shown_by id c m) { turn = Some k; did = done_since m.0.seen m.1 ++ es }
+  pub shows_more : (id : TableId) (es : List Event) → Goes now es k → shown_by id c (m.0, (0, k) ∷ rest m.1) ≡ record (shown_by id c m) { turn = Some k; did = done_since m.0.seen m.1 ++ es }
   shows_more id es d = ap (λ (xs : List Event). record (shown_by id c m) { turn = Some k; did = xs }) (did_more es d)
 
   -- one was done in the turn
@@ -161,9 +199,13 @@ module _ (c : SharedConfig) (b : Bool) (m : M) (now k : Ringed) (yes : b ≡ tru
   made_still mu command (Err why) within d = above_still d.1
   made_still mu command (Ok reply) within d =
       let e = Command_done mu command reply in
-      let l = length-append d.0 (e ∷ []) in
-      gone_by (d.0 ++ e ∷ []) (omega (arith, l))
+      gone_by (d.0 ++ e ∷ [])
       (All-append (IsAllowed m.0.from m.0.to) d.0 (e ∷ []) (work_allowed m.0.from m.0.to now.pacer now.course.heap (words_of (asks command)) d.0 d.1) (all_one m.0.from m.0.to e (command_allowed m.0.from m.0.to mu command reply within))) d.2
+
+-- a member that may call has the turn
+pub has_inside : (c : SharedConfig) (b : Bool) (m : M) → IsMember c b m → turn_of m.1 ≢ None → b ≡ true
+has_inside c true m is some = refl
+has_inside c false m is some = absurd (some (ap turn_of is.0))
 
 -- a command that makes no object needs no work before it
 pub no_work : (command : Command) (r k : Ringed) → MakesNothing command → k.pacer ≡ r.pacer → WorksBefore command r [] k
@@ -182,11 +224,6 @@ empty_handed c true m none is = absurd (let z : Some is.held ≡ None = sym (ap 
 -- a fact about a member before and after a step is one about its views
 pub shown_so : (P : MemberView → MemberView → Type 0) (id new : TableId) (c : SharedConfig) (was m : M) (v : MemberView) → new ≡ id → shown_by id c was ≡ v → P (shown_by id c was) (shown_by id c m) → P v (shown_by new c m)
 shown_so P id new c was m v same shows p = subst (λ (x : MemberView). P x (shown_by new c m)) shows (subst (λ (t : TableId). P (shown_by id c was) (shown_by t c m)) (sym same) p)
-
--- a member that gave the turn back doesn't have it
-pub left_none : (old : MemberView) (had : Bool) (new : MemberView) → Leaves old had new → new.turn ≡ None
-left_none old false new l = ap (λ (v : MemberView). v.turn) l.1 ∙ l.0
-left_none old true new l = ap (λ (v : MemberView). v.turn) l.3
 
 -- a member that learns keeps its turn
 pub learnt_still : (c : SharedConfig) (b : Bool) (m : M) (l : List Account) → IsMember c b m → IsMember c b (record m.0 { learnt = l }, m.1)
@@ -207,7 +244,7 @@ module _ (c : SharedConfig) (v : Known) (found : ℕ) (m : M) (config : v.config
     carried = refl;
     goes = subst (GoesOn v.from v.to (events_of h.log)) h.events (goes_none v.from v.to (events_of h.log));
     asked = h.asked c config;
-    still = λ same. refl;
+    still = λ same. ([], refl);
   })
 
 -- a member learns this of the log, as its view has it

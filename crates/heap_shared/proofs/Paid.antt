@@ -1,6 +1,6 @@
 -- Commands at a shared heap, after they were paid for.
-use Rattle.std.proofs.Common.{◌≡◌, ◌≤◌, ℕ, List, [], ◌∷◌, ◌++◌, Some, None, Ok, refl, sym, ap, ◌∙◌, subst}
-use Rattle.std.specs.Prelude.{Option}
+use Rattle.std.proofs.Common.{◌≡◌, ◌≤◌, ℕ, List, [], ◌∷◌, ◌++◌, Some, None, Ok, Err, refl, sym, ap, ◌∙◌, subst}
+use Rattle.std.specs.Prelude.{Option, Result}
 use Rattle.std.specs.List.{All}
 use Rattle.std.specs.Option.{option_map}
 use Rattle.std.proofs.lemmas.List.Elements.{All-cons, All-nil}
@@ -15,11 +15,15 @@ use Rattle.paced.specs.declared.cycles.Cycles.{Cycles}
 use Rattle.paced.specs.declared.figures.Figures.{Figures}
 use Rattle.paced.specs.Cycles.{CountsCycles}
 use Rattle.paced.specs.Logged.{Enters}
-use Rattle.paced.specs.Pacing.{PacerView, PacedState, paced_by, state_by, worked, Path, WorksFor, Pays}
-use Rattle.paced.proofs.Paths.{cycles_then, call_path}
+use Rattle.paced.specs.Pacing.{PacerView, PacedState, PacedView, paced_by, state_by, worked, Path, WorksFor, Pays}
+use Rattle.paced.specs.Bounds.{Prepares, PreparesUnless}
+use Rattle.paced.proofs.Paths.{cycles_then, call_path, work_paces}
+use Rattle.paced.specs.declared.pacer.AbovePlan.{AbovePlan}
+use Rattle.heap_shared.specs.declared.fault.NotPrepared.{NotPrepared}
+use Rattle.heap_shared.specs.declared.fault.NotPrepared.TheVariants as unprepared
 use Rattle.heap_shared.specs.Accounts.{IsAllowed}
 use Rattle.heap_shared.specs.Past.{LogView, PastView, course_of, with_event, with_events, IsLed}
-use Rattle.heap_shared.specs.Ring.{Ringed, KeepsBy, GoesBy, figures_of, IsWorkFor, Makes}
+use Rattle.heap_shared.specs.Ring.{Ringed, KeepsBy, GoesBy, figures_of, IsWorkFor, IsAbove, WorksAhead, PreparesBy, Makes}
 use Rattle.heap_shared.proofs.Pasts.{led_now, goes_now}
 
 -- a log with more events
@@ -76,6 +80,46 @@ module _ (h mid k : HeapState) (c d : Cycles) (a b : PacerView) (m : ℕ) (comma
       ap Some paid.figures ∙ ap (λ (r : Ringed). option_map (λ (f : Figures). worked f paid.work) (figures_of r)) shows,
     )
 
+-- the collector worked ahead
+module _ (h k : HeapState) (c d : Cycles) (a b : PacerView) (words left : ℕ) (p : Prepares (paced_by a h c) words left (paced_by b k d)) (l new : LogView) (led : IsLed l.past.events (course_of h l.past))
+    (entered : Enters logs l p.work new) where
+  work_at : new.past ≡ with_events l.past p.work
+  work_at = ap (λ (x : LogView). x.past) (logged_all p.work l new entered)
+
+  pub ahead_led : IsLed new.past.events (course_of k new.past)
+  ahead_led = led_now p.work h k l.past new.past c d work_at led p.cycles
+
+  pub ahead : (old : Ringed) → ringed h l c (Some a) ≡ old → words ≤ a.counts.plan.cycle_words → WorksAhead old words left (ringed k new d (Some b))
+  ahead old shows fits = subst (λ (r : Ringed). WorksAhead r words left (ringed k new d (Some b))) shows (record {
+    before = a;
+    after = b;
+    was = refl;
+    is = refl;
+    fits = fits;
+    prepares = p;
+    goes = goes_now p.work h k l.past new.past c d work_at led p.cycles (ringed h l c (Some a)) l.kept new.kept (Some a) (Some b) refl (ap (λ (x : LogView). x.kept) (logged_all p.work l new entered))
+        (work_paces words p.work (state_by a h) (state_by b k) p.works);
+  })
+
+-- what the pacer says of work ahead
+abbrev pub as_prepared : Result ℕ AbovePlan → Result ℕ NotPrepared
+as_prepared (Ok left) = Ok left
+as_prepared (Err above) = Err unprepared.AbovePlan
+
+module _ (h k : HeapState) (c d : Cycles) (a b : PacerView) (words : ℕ) (l new : LogView) (led : IsLed l.past.events (course_of h l.past)) where
+  pub prepared_led : (told : Result ℕ AbovePlan) → PreparesUnless (λ es. Enters logs l es new) (paced_by a h c) words told (paced_by b k d) → IsLed new.past.events (course_of k new.past)
+  prepared_led (Ok left) w = ahead_led h k c d a b words left w.1 l new led w.2
+  prepared_led (Err above) w =
+      subst (λ (x : LogView). IsLed x.past.events (course_of k x.past)) (sym w.2) (subst (λ (x : HeapState). IsLed l.past.events (course_of x l.past)) (ap (λ (v : PacedView). v.heap) (sym w.1)) led)
+
+  pub prepared_by : (told : Result ℕ AbovePlan) → PreparesUnless (λ es. Enters logs l es new) (paced_by a h c) words told (paced_by b k d) → (old : Ringed) → ringed h l c (Some a) ≡ old
+      → PreparesBy old words (as_prepared told) (ringed k new d (Some b))
+  prepared_by (Ok left) w old shows = ahead h k c d a b words left w.1 l new led w.2 old shows w.0
+  prepared_by (Err above) w old shows = (
+    subst (λ (r : Ringed). IsAbove r.pacer words) shows w.0,
+    (λ i. ringed (w.1 i).heap (w.2 i) (w.1 i).cycles (Some (w.1 i).pacer)) ∙ shows,
+  )
+
 -- if no plan is kept, an object needs no work
 pub unpaid : (old new : Ringed) (m : ℕ) (command : Command) (reply : Reply) → old.pacer ≡ None → new.pacer ≡ None → GoesBy old (Command_done m command reply) new → Makes old m command (Ok reply) new
 unpaid old new m command reply none still goes = (
@@ -93,7 +137,7 @@ piece_allowed from to words v Begin_refused w = absurd w
 piece_allowed from to words v (Quantum_done budget units phase) w = λ m of. absurd of
 piece_allowed from to words v (Quantum_refused budget) w = absurd w
 
-works_allowed : (from to words : ℕ) (es : List Event) (old new : PacedState) → Path (WorksFor words) old es new → All (IsAllowed from to) es
+pub works_allowed : (from to words : ℕ) (es : List Event) (old new : PacedState) → Path (WorksFor words) old es new → All (IsAllowed from to) es
 works_allowed from to words [] old new p = All-nil (IsAllowed from to)
 works_allowed from to words (e ∷ es) old new p = All-cons (IsAllowed from to) e es (piece_allowed from to words old e p.1) (works_allowed from to words es p.0 new p.4)
 

@@ -15,7 +15,7 @@ use Rattle.paced.specs.declared.cycles.Cycles.{Cycles}
 use Rattle.paced.specs.Cycles.{DoesOn, cycles_after, CountsCycles}
 use Rattle.paced.specs.Pacing.{PacerView}
 use Rattle.heap_shared.specs.declared.deed.Deed.{Deed}
-use Rattle.heap_shared.specs.Past.{PastView, course_of, history_of, with_event, with_events, IsLed}
+use Rattle.heap_shared.specs.Past.{PastView, course_of, history_of, with_event, with_events, touched_heap, touched_all, IsTouched, IsLed}
 use Rattle.heap_shared.specs.Accounts.{events_of, signed}
 use Rattle.heap_shared.specs.Ring.{Ringed, Goes, KeepsBy}
 
@@ -99,3 +99,25 @@ done_is seen did es is =
 
 pub events_then : (seen : List Deed) (n : ℕ) (did : List Event) → events_of (seen ++ signed n did) ≡ events_of seen ++ did
 events_then seen n did = map-append (λ (d : Deed). d.event) seen (signed n did) ∙ ap (λ (es : List Event). events_of seen ++ es) (events_signed n did)
+
+-- pages are touched one time after the other
+touched_append : (h : HeapState) (xs ys : List ℕ) → touched_all h (xs ++ ys) ≡ touched_all (touched_all h xs) ys
+touched_append h [] ys = refl
+touched_append h (x ∷ xs) ys = touched_append (touched_heap h x) xs ys
+
+pub touched_then : (a b c : Course) → IsTouched a b → IsTouched b c → IsTouched a c
+touched_then a b c p q = (
+  p.0 ++ q.0,
+  q.1 ∙ (ap (λ (x : Course). record x { heap = touched_all x.heap q.0 }) p.1 ∙ ap (λ (h : HeapState). record a { heap = h }) (sym (touched_append a.heap p.0 q.0))),
+)
+
+-- a heap that was just made is as one, once pages were touched
+pub touched_led : (es : List Event) (r : Course) (pages : ℕ) → es ≡ [] → IsLed es r → IsLed es (record r { heap = touched_heap r.heap pages })
+touched_led es r pages none led =
+    let o = led.opening in record {
+      first = touched_heap led.first pages;
+      opening = record { pages = o.pages; roots = o.roots; live = o.live; next = o.next; phase = o.phase; units = o.units; grey = o.grey };
+      pages = led.pages;
+      runs = subst (λ (xs : List Event). Runs (opened (touched_heap led.first pages)) xs (record r { heap = touched_heap r.heap pages })) (sym none)
+          (ap (λ (x : Course). record x { heap = touched_heap x.heap pages }) (subst (λ (xs : List Event). Runs (opened led.first) xs r) none led.runs));
+    }

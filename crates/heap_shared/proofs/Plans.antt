@@ -19,8 +19,9 @@ use Rattle.paced.specs.Rooms.{planned_flow, first_counts, first_pacer, no_figure
 use Rattle.paced.proofs.Opened.{finds_room}
 use Rattle.paced.proofs.Paths.{path_then, path_plan, other_path}
 use Rattle.heap_shared.specs.declared.shared_heap.SharedConfig.{SharedConfig}
-use Rattle.heap_shared.specs.Past.{LogView, course_of}
-use Rattle.heap_shared.specs.Ring.{KeepsBy, HasKept, IsAsAsked}
+use Rattle.heap_shared.specs.Past.{LogView, course_of, touched_heap}
+use Rattle.heap_shared.specs.Ring.{Ringed, KeepsBy, HasKept, IsAsAsked}
+use Rattle.heap_shared.proofs.Pasts.{touched_led}
 
 -- if a plan is asked for, the new pacer has it
 pub plan_first : (plan : Option Plan) (budget : ℕ) → option_map (λ (p : PacerView). p.counts.plan) (option_map (λ (x : Plan). first_pacer budget x) plan) ≡ plan
@@ -81,3 +82,37 @@ room_kept (Some p) config plan live budget h es planned is same moves fits kept 
     let at : p.counts.plan ≡ plan = (let z : Some p.counts.plan ≡ Some plan = planned in cc) in
     let old : PacedState = record { heap = kept.0; counts = first_counts budget p.counts.plan } in
     (kept.0, kept.1, finds_room config plan live old (state_by p h) es (record { heap = kept.1; settings = kept.2 ∙ same; counts = ap (λ n. first_counts n p.counts.plan) is ∙ ap (first_counts (config.collector_ticks * config.rate)) at }) moves fits kept.3)
+
+-- events of which each keeps the plan
+pub keeps_then : (p q s : Option PacerView) (h mid k : HeapState) (es fs : List Event) → KeepsBy p h es q mid → KeepsBy q mid fs s k → KeepsBy p h (es ++ fs) s k
+keeps_then None None s h mid k es fs a b = b
+keeps_then None (Some q) s h mid k es fs a b = absurd (let z : Some q ≡ None = a in cc)
+keeps_then (Some p) None s h mid k es fs a b = absurd a
+keeps_then (Some p) (Some q) None h mid k es fs a b = absurd b
+keeps_then (Some p) (Some q) (Some s) h mid k es fs a b = path_then KeepsPlan es fs (state_by p h) (state_by q mid) (state_by s k) a b
+
+pub keeps_none : (p : Option PacerView) (h : HeapState) → KeepsBy p h [] p h
+keeps_none None h = refl
+keeps_none (Some p) h = refl
+
+-- pages are touched before the first event
+kept_touched : (p : Option PacerView) (budget : ℕ) (h : HeapState) (pages : ℕ) (es : List Event) → es ≡ [] → HasKept p budget es h → HasKept p budget es (touched_heap h pages)
+kept_touched None budget h pages es none kept = tt
+kept_touched (Some p) budget h pages es none was =
+    let o = was.1 in
+    let counts = first_counts budget p.counts.plan in (
+      touched_heap was.0 pages,
+      record { pages = o.pages; roots = o.roots; live = o.live; next = o.next; phase = o.phase; units = o.units; grey = o.grey },
+      was.2,
+      subst (λ (xs : List Event). Path KeepsPlan (record { heap = touched_heap was.0 pages; counts = counts }) xs (state_by p (touched_heap h pages))) (sym none)
+          (ap (λ (v : PacedState). record v { heap = touched_heap v.heap pages }) (subst (λ (xs : List Event). Path KeepsPlan (record { heap = was.0; counts = counts }) xs (state_by p h)) none was.3)),
+    )
+
+pub touched_asked : (c : SharedConfig) (r : Ringed) (pages : ℕ) → r.events ≡ [] → IsAsAsked c r → IsAsAsked c (record r { course = record r.course { heap = touched_heap r.course.heap pages } })
+touched_asked c r pages none asked = record {
+  settings = asked.settings;
+  ring = asked.ring;
+  plan = asked.plan;
+  led = touched_led r.events r.course pages none asked.led;
+  kept = kept_touched r.pacer (c.config.collector_ticks * c.config.rate) r.course.heap pages r.events none asked.kept;
+}

@@ -1,5 +1,5 @@
 -- A member takes back what it gave to another, which did nothing.
-use Rattle.std.proofs.Common.{◌≡◌, ◌≢◌, ℕ, ◌+◌, ◌-◌, ◌%◌, ◌<◌, ◌≤◌, ◌⊎◌, inl, inr, ⊎_elim, true, false, List, [], ◌++◌, set, refl, sym, ap, ◌∙◌, subst, arith, Some, None, Ok}
+use Rattle.std.proofs.Common.{◌≡◌, ◌≢◌, ℕ, ◌+◌, ◌-◌, ◌%◌, ◌<◌, ◌≤◌, ◌⊎◌, inl, inr, ⊎_elim, true, false, List, [], ◌++◌, length, set, refl, sym, ap, ◌∙◌, subst, arith, Some, None, Ok}
 use Rattle.std.specs.List.{All}
 use Rattle.std.proofs.lemmas.List.{append_cancel_left}
 use mathlib.Core.Option.{Option, none, some, some-ne-none}
@@ -95,7 +95,7 @@ turn_rejoined c s log id other v w apart at (free r) is = (is.0, is.1, is.2, is.
 turn_rejoined c s log id other v w apart at (taken by found) is = (
   is.0,
   is.1,
-  others_two (λ k u. u.inside ≡ true → (k ≡ by) × (u.seen ≡ log)) s.views id other (rejoined v w) nobody (λ so. is.2 id v at so) (λ so. absurd (both_ways false refl so)) (λ k u off far e. is.2 k u e) apart,
+  others_two (λ k u. u.inside ≡ true → (k ≡ by) × (u.seen ≡ log) × (u.last ≡ Some (record { length = length log; heap = found }))) s.views id other (rejoined v w) nobody (λ so. is.2 id v at so) (λ so. absurd (both_ways false refl so)) (λ k u off far e. is.2 k u e) apart,
 )
 
 -- a member takes back what it gave away
@@ -157,9 +157,3 @@ as_before old from made new adds =
     let step : got.number - cut.number ≡ old.step = omega arith in
     let back : before_giving cut got ≡ old = ap (λ (n : ℕ). record old { step = n }) step in
     ap (λ (v : MemberView). before_giving v made) adds.3 ∙ (ap (before_giving cut) adds.4 ∙ back)
-
--- so it may take that back
-pub may_rejoin : (old : MemberView) (from : ℕ) (made new : MemberView) → Adds old from (Ok made) new → Adds (before_giving new made) made.from (Ok made) new
-may_rejoin old from made new adds =
-    let at : from ≡ made.from = sym (ap (λ (v : MemberView). v.from) adds.4) in
-    subst (λ (v : MemberView). Adds v made.from (Ok made) new) (sym (as_before old from made new adds)) (subst (λ (n : ℕ). Adds old n (Ok made) new) at adds)

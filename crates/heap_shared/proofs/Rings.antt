@@ -1,6 +1,6 @@
 -- The last events of a log that grows by one, and their places in it.
-use Rattle.std.proofs.Common.{◌≡◌, ◌≢◌, ℕ, ◌+◌, ◌-◌, ◌%◌, ◌<◌, ◌≤◌, Bool, true, false, List, [], ◌∷◌, ◌++◌, length, drop, map, refl, sym, ap, ◌∙◌, subst, arith, Some, None, length-append, length-drop, drop-drop}
-use Rattle.std.specs.Prelude.{Option, slice_get, nat_le, ok_or, if◌then◌else◌}
+use Rattle.std.proofs.Common.{◌≡◌, ◌≢◌, ℕ, ◌+◌, ◌-◌, ◌%◌, ◌<◌, ◌≤◌, Bool, true, false, true≢false, List, [], ◌∷◌, ◌++◌, length, drop, map, refl, sym, ap, ◌∙◌, subst, arith, Some, None, length-append, length-drop, drop-drop}
+use Rattle.std.specs.Prelude.{◌↔◌, IsTrue, Option, slice_get, nat_le, ok_or, if◌then◌else◌}
 use Rattle.std.proofs.lemmas.Bool.Decides.{nat_tests}
 use Rattle.std.proofs.lemmas.List.{drop-append-le, drop-map, length-map, map-append}
 use Rattle.std.proofs.lemmas.Option.{slice_get-map}
@@ -39,6 +39,14 @@ kept_on old new log e is was =
 -- the length of a log with one more event, as it wraps
 pub more_by_one : (log more : List Event) (e : Event) (count after : ℕ) → count ≡ length log % 18446744073709551616 → after ≡ (count + 1) % 18446744073709551616 → more ≡ log ++ e ∷ [] → after ≡ length more % 18446744073709551616
 more_by_one log more e count after was is grown = let n = ap length grown in let l = length-append log (e ∷ []) in omega (arith, was, is, n, l)
+
+-- and it isn't empty
+some_event : (log : List Event) (e : Event) → log ++ e ∷ [] ≡ [] → ⊥
+some_event [] e is = cc
+some_event (x ∷ log) e is = cc
+
+pub never_empty : (log more : List Event) (e : Event) → more ≡ log ++ e ∷ [] → IsTrue false ↔ (more ≡ [])
+never_empty log more e grown = ((λ no. absurd (true≢false (sym no))), λ none. absurd (some_event log e (sym grown ∙ none)))
 
 -- the event of that long ago is found
 ago_in : (items : List Logged) (ago n : ℕ) (b : Bool) → option_map event_of (if b then slice_get items (n - ago) else None) ≡ (if b then slice_get (map event_of items) (n - ago) else None)

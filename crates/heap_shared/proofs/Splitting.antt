@@ -90,7 +90,7 @@ turn_split c s log id v out (free r) is = (is.0, is.1, is.2, is.3, others_and_ne
 turn_split c s log id v out (taken by found) is = (
   is.0,
   is.1,
-  others_and_new (λ k u. u.inside ≡ true → (k ≡ by) × (u.seen ≡ log)) s.views id (before_cut v) (behind_cut v) (λ so. absurd (both_ways v.inside out so)) (λ so. absurd (both_ways false refl so)) (λ k u apart below e. is.2 k u e),
+  others_and_new (λ k u. u.inside ≡ true → (k ≡ by) × (u.seen ≡ log) × (u.last ≡ Some (record { length = length log; heap = found }))) s.views id (before_cut v) (behind_cut v) (λ so. absurd (both_ways v.inside out so)) (λ so. absurd (both_ways false refl so)) (λ k u apart below e. is.2 k u e),
 )
 
 -- a member's mutators are cut in two
@@ -139,7 +139,7 @@ turn_spared c s log id v at (free r) is = (is.0, is.1, is.2, is.3, others_and_ne
 turn_spared c s log id v at (taken by found) is = (
   is.0,
   is.1,
-  others_and_new (λ k u. u.inside ≡ true → (k ≡ by) × (u.seen ≡ log)) s.views id v nobody (is.2 id v at) (λ so. absurd (both_ways false refl so)) (λ k u apart below e. is.2 k u e),
+  others_and_new (λ k u. u.inside ≡ true → (k ≡ by) × (u.seen ≡ log) × (u.last ≡ Some (record { length = length log; heap = found }))) s.views id v nobody (is.2 id v at) (λ so. absurd (both_ways false refl so)) (λ k u apart below e. is.2 k u e),
 )
 
 -- a spare seat is made
@@ -193,7 +193,7 @@ turn_learnt c s log id other v w apart at (free r) is = (is.0, is.1, is.2, is.3,
 turn_learnt c s log id other v w apart at (taken by found) is = (
   is.0,
   is.1,
-  others_two (λ k u. u.inside ≡ true → (k ≡ by) × (u.seen ≡ log)) s.views id other (learning v w) nobody (λ so. is.2 id v at so) (λ so. absurd (both_ways false refl so)) (λ k u off far e. is.2 k u e) apart,
+  others_two (λ k u. u.inside ≡ true → (k ≡ by) × (u.seen ≡ log) × (u.last ≡ Some (record { length = length log; heap = found }))) s.views id other (learning v w) nobody (λ so. is.2 id v at so) (λ so. absurd (both_ways false refl so)) (λ k u off far e. is.2 k u e) apart,
 )
 
 -- the view of another member stays

@@ -1,6 +1,6 @@
 -- Each step keeps the rule of the word.
 use Rattle.std.proofs.Common.{◌≡◌, ◌≢◌, ℕ, zero, suc, eq-eqb, ne_eqb, ◌+◌, ◌/◌, ◌%◌, ◌<◌, eqb, Bool, true, false, true≢false, List, [], ◌∷◌, ◌++◌, length, get_or, set, refl, sym, ap, ◌∙◌, subst, arith, Some, None, length-append}
-use Rattle.std.specs.Prelude.{Option as Maybe}
+use Rattle.std.specs.Prelude.{Option as Maybe, IfSome}
 use Rattle.std.specs.List.{All}
 use Rattle.std.proofs.lemmas.List.{length-map, set-get_or, get_or-set_same, length-set}
 use Rattle.std.proofs.lemmas.List.Elements.{All-append, All-map, All-nil}
@@ -19,11 +19,12 @@ use Rattle.heap_shared.specs.declared.rule.Last.{Last}
 use Rattle.heap_shared.specs.declared.rule.TheConstants.{TURN_WORD}
 use Rattle.heap_shared.specs.declared.shared_heap.SharedConfig.{SharedConfig}
 use Rattle.heap_shared.specs.Accounts.{Doer, Has, IsOthers, BearsOut, IsAllowed, GoesOn, AreBelow, account_of, events_of, signed}
+use Rattle.heap_shared.specs.Past.{IsTouched}
 use Rattle.heap_shared.specs.Ring.{Ringed, IsAsAsked}
 use Rattle.heap_shared.specs.Turns.{Turn, free, taken, newcomer, word_of, heap_at, IsTurn, Knows, Remembers, Keeps, Told, HasTurn, Entered, seen_now, Left, Looked, Cut}
 use Rattle.heap_shared.proofs.Accounts.{bears_more, bears_all, not_theirs}
 use Rattle.heap_shared.proofs.Owners.{own_number}
-use Rattle.heap_shared.proofs.Pasts.{done_is, events_then}
+use Rattle.heap_shared.proofs.Pasts.{done_is, events_then, touched_then}
 use Rattle.heap_shared.proofs.Views.{others}
 use Rattle.heap_shared.proofs.Words.{odd, half, half_odd}
 
@@ -104,7 +105,7 @@ first_knows c (suc k) v e = absurd (some-ne-none v (sym e))
 remembers_new : (log : List Deed) (heap : Course) (v : Known) → v.last ≡ Some (record { length = length log; heap = heap }) → Remembers log heap v
 remembers_new log heap v is x has =
     let e : record { length = length log; heap = heap } ≡ x = (let z : Some (record { length = length log; heap = heap }) ≡ Some x = sym is ∙ has in cc) in
-    ((let l = ap (λ (y : Last). y.length) e in omega (arith, l)), λ _. sym (ap (λ (y : Last). y.heap) e))
+    ((let l = ap (λ (y : Last). y.length) e in omega (arith, l)), λ _. subst (λ (y : Last). IsTouched y.heap heap) e ([], refl))
 
 -- a member that has found none yet remembers none
 pub remembers_none : (log : List Deed) (heap : Course) (v : Known) → v.last ≡ None → Remembers log heap v
@@ -154,7 +155,7 @@ module _ (c : SharedConfig) (slots : ℕ) where
           stands = (
             new_word s.words (n + 1) kept.has_word ∙ ap (λ (x : ℕ). x + 1) number,
             ap (λ (hs : List (Option Ringed)). set hs 0 none) is.1,
-            others (λ k u. u.inside ≡ true → (k ≡ id) × (u.seen ≡ log)) s.views id w (λ _. (refl, refl)) (λ k u apart e inside. absurd (both_ways u.inside (is.4 k u e) inside)),
+            others (λ k u. u.inside ≡ true → (k ≡ id) × (u.seen ≡ log) × (u.last ≡ Some now)) s.views id w (λ _. (refl, refl, refl)) (λ k u apart e inside. absurd (both_ways u.inside (is.4 k u e) inside)),
           );
           known = others (Knows c log kept.owner) s.views id w (whole c log kept.owner id v true (Some now) (kept.known id v at)) (λ k u apart e. kept.known k u e);
           remembered = others (λ k u. Remembers log r.course u) s.views id w (remembers_new log r.course w refl) (λ k u apart e. rem k u e);
@@ -222,25 +223,24 @@ module _ (c : SharedConfig) (slots : ℕ) where
     gone = knows.gone;
   }
 
-  -- if nothing was done yet, it is the heap that was found
+  -- if nothing was done yet, it is the heap that was found, except for touched pages
   abbrev Still : Known → Ringed → Type 0
-  Still v r = length r.events ≡ length v.seen → v.last ≡ Some (record { length = length v.seen; heap = r.course })
+  Still v r = length r.events ≡ length v.seen → IfSome v.last (λ x. IsTouched x.heap r.course)
 
   -- the member put back that heap last
   abbrev behind : Known → Ringed → Known
   behind v r = record v { seen = seen_now (v, (0, r) ∷ []); inside = false; last = Some (record { length = length (seen_now (v, (0, r) ∷ [])); heap = r.course }) }
 
-  -- others remember the heap that was put back as they did the one that was found: it is the same, or the log went on
-  others_remember : (log now : List Deed) (id : ℕ) (v : Known) (r : Ringed) (found : Course) (did : List Event) → length now ≡ length log + length did → length r.events ≡ length v.seen + length did
-      → v.seen ≡ log → Still v r → Remembers log found v → (u : Known) → Remembers log found u → Remembers now r.course u
-  others_remember log now id v r found did long events saw still mine u theirs x has =
+  -- others remember the heap that was put back as they did the one that was found: only pages were touched, or the log went on
+  others_remember : (log now : List Deed) (v : Known) (r : Ringed) (found : Course) (did : List Event) → length now ≡ length log + length did → length r.events ≡ length v.seen + length did
+      → v.last ≡ Some (record { length = length log; heap = found }) → Still v r → (u : Known) → Remembers log found u → Remembers now r.course u
+  others_remember log now v r found did long events mine still u theirs x has =
       let was = theirs x has in (
         (let l = was.0 in omega (arith, l, long)),
         λ same.
             let none : length did ≡ 0 = (let l = was.0 in omega (arith, l, long, same)) in
-            let first : v.last ≡ Some (record { length = length v.seen; heap = r.course }) = still (omega (arith, events, none)) in
-            let very : r.course ≡ found = (mine (record { length = length v.seen; heap = r.course }) first).1 (ap length saw) in
-            was.1 (omega (arith, same, long, none)) ∙ sym very,
+            let on : IsTouched found r.course = subst (λ (l : Maybe Last). IfSome l (λ y. IsTouched y.heap r.course)) mine (still (omega (arith, events, none))) in
+            touched_then x.heap found r.course (was.1 (omega (arith, same, long, none))) on,
       )
 
   give_turn : (s : S) (new id : ℕ) (v : Known) (r : Ringed) (kept : Keeps c s) (t : Turn) → IsTurn c s kept.log t → AllRemember s kept.log t → get_elem? s.views id ≡ some v → v.inside ≡ true
@@ -282,7 +282,7 @@ module _ (c : SharedConfig) (slots : ℕ) where
             (subst (λ (xs : List Deed). Knows c xs kept.owner id (record v { seen = xs; inside = false; last = w.last })) grown (knows_after log added kept.owner id v foreign knows w.last))
             (λ k u apart e. subst (λ (xs : List Deed). Knows c xs kept.owner k u) grown (others_know log added kept.owner id k u foreign apart (kept.known k u e)));
         remembered = others (λ k u. Remembers now r.course u) s.views id w (remembers_new now r.course w refl)
-            (λ k u apart e. others_remember log now id v r found did more all mine.1 still (rem id v at) u (rem k u e));
+            (λ k u apart e. others_remember log now v r found did more all mine.2 still u (rem k u e));
         below = subst (AreBelow c.config.mutators) grown below_new;
       }
 
@@ -303,7 +303,7 @@ module _ (c : SharedConfig) (slots : ℕ) where
   turn_stays s id w log (free r) is out =
       (ap (λ (ws : List ℕ). get_or ws TURN_WORD 0) (same_word s.words) ∙ is.0, is.1, is.2, is.3, others (λ k u. u.inside ≡ false) s.views id w out (λ k u apart e. is.4 k u e))
   turn_stays s id w log (taken by found) is out =
-      (ap (λ (ws : List ℕ). get_or ws TURN_WORD 0) (same_word s.words) ∙ is.0, is.1, others (λ k u. u.inside ≡ true → (k ≡ by) × (u.seen ≡ log)) s.views id w (λ so. absurd (both_ways w.inside out so)) (λ k u apart e. is.2 k u e))
+      (ap (λ (ws : List ℕ). get_or ws TURN_WORD 0) (same_word s.words) ∙ is.0, is.1, others (λ k u. u.inside ≡ true → (k ≡ by) × (u.seen ≡ log) × (u.last ≡ Some (record { length = length log; heap = found }))) s.views id w (λ so. absurd (both_ways w.inside out so)) (λ k u apart e. is.2 k u e))
 
   view_changes : (s : S) (kept : Keeps c s) (id : ℕ) (w : Known) → w.inside ≡ false → Knows c kept.log kept.owner id w → Remembers kept.log (heap_at kept.turn) w → Keeps c (stepped s TURN_WORD (get_or s.words TURN_WORD 0) id [] w keeps)
   view_changes s kept id w out knows remembers = record {

@@ -1,5 +1,5 @@
 -- Deeds at a shared heap, and the account of them that a member has.
-use Rattle.std.specs.Prelude.{ℕ, ◌≡◌, ◌+◌, ◌%◌, ◌<◌, ◌≤◌, List, ◌++◌, map}
+use Rattle.std.specs.Prelude.{ℕ, ◌≡◌, ◌%◌, ◌<◌, ◌≤◌, List, ◌++◌, map}
 use Rattle.std.specs.List.{All}
 use Rattle.graph_heap.specs.declared.command.Entry.{Entry}
 use Rattle.heap_model.specs.Event.{Event, Command_done}

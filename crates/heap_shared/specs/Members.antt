@@ -1,9 +1,8 @@
 -- The view of a member of a shared heap, and the effects of its calls.
-use Rattle.std.specs.Prelude.{ℕ, ◌≡◌, ◌≢◌, ◌+◌, ◌-◌, ◌*◌, ◌≤◌, ◌%◌, Bool, true, false, List, [], ◌∷◌, ◌++◌, length, Option, Some, None, Result, Ok, Err}
+use Rattle.std.specs.Prelude.{ℕ, ◌≡◌, ◌≢◌, ◌+◌, ◌-◌, ◌*◌, ◌≤◌, ◌%◌, Bool, true, false, List, [], ◌∷◌, ◌++◌, length, take, Option, Some, None, IfSome, Result, Ok, Err}
 use Rattle.std.specs.List.{All}
 use Rattle.std.specs.Option.{option_map}
 use Rattle.graph_heap.specs.declared.command.Command.{Command}
-use Rattle.graph_heap.specs.declared.command.Command.TheVariants as commands
 use Rattle.graph_heap.specs.declared.command.Reply.{Reply}
 use Rattle.atomic_table.specs.Table.{Me}
 use Rattle.atomic_table.specs.Seated.{TableId}
@@ -18,8 +17,9 @@ use Rattle.fragmentation.specs.Configured.{MovesAll, FlowFitsIn}
 use Rattle.machine.specs.Headline.{AlwaysHolds}
 use Rattle.machine.specs.Space.{SpaceSuffices}
 use Rattle.paced.specs.declared.plan.Plan.{Plan}
-use Rattle.paced.specs.Pacing.{worked}
 use Rattle.paced.specs.Rooms.{planned_flow, FindsRoom}
+use Rattle.bulk.specs.declared.progress.Progress.{Progress}
+use Rattle.bulk.specs.InOrder.{with_refusal, words_told, events_of as commands_done}
 use Rattle.heap_shared.specs.declared.deed.Deed.{Deed}
 use Rattle.paced.specs.declared.logged.Logged.{Logged}
 use Rattle.heap_shared.specs.declared.rule.Account.{Account}
@@ -31,11 +31,14 @@ use Rattle.heap_shared.specs.declared.fault.NoMember.{NoMember}
 use Rattle.heap_shared.specs.declared.fault.NoMember.TheVariants as members
 use Rattle.heap_shared.specs.declared.fault.NotDone.{NotDone}
 use Rattle.heap_shared.specs.declared.fault.NotDone.TheVariants as undone
+use Rattle.heap_shared.specs.declared.fault.NotPrepared.{NotPrepared}
+use Rattle.heap_shared.specs.declared.fault.NotPrepared.TheVariants as unprepared
 use Rattle.heap_shared.specs.declared.fault.NoEntry.{NoEntry}
 use Rattle.heap_shared.specs.declared.shared_heap.SharedConfig.{SharedConfig}
-use Rattle.heap_shared.specs.Past.{IsLed}
+use Rattle.heap_shared.specs.Past.{IsTouched, IsLed}
 use Rattle.heap_shared.specs.Accounts.{IsWithin, BearsOut, GoesOn, AreBelow, IsAllowed, events_of, signed}
-use Rattle.heap_shared.specs.Ring.{Ringed, IsAsAsked, Goes, GoesBy, figures_of, IsWorkFor, IsAbove, TellsEntry}
+use Rattle.heap_shared.specs.Lists.{WorksBefore, words_first, DoesList}
+use Rattle.heap_shared.specs.Ring.{Ringed, IsAsAsked, Goes, GoesBy, IsAbove, WorksAhead, TellsEntry}
 use Rattle.heap_shared.specs.Turns.{done_since}
 
 -- The view of a member has these parts:
@@ -86,14 +89,14 @@ shown_by id c m = record {
 }
 
 -- A member that has the turn carries the heap, which is as it was asked for. The events that the member has seen, and then events
--- that it may do, led to it. If it did none yet, it is the heap that the member found.
+-- that it may do, led to it. If it did none yet, it is the heap that the member found, except for touched pages.
 pub record HasHeap (c : SharedConfig) (m : Me Ringed Known) : Type 0 where
   pub held : Ringed
   pub inside : m.0.inside ≡ true
   pub carried : m.1 ≡ (0, held) ∷ []
   pub goes : GoesOn m.0.from m.0.to (events_of m.0.seen) held.events
   pub asked : IsAsAsked c held
-  pub still : length held.events ≡ length m.0.seen → m.0.last ≡ Some (record { length = length m.0.seen; heap = held.course })
+  pub still : length held.events ≡ length m.0.seen → IfSome m.0.last (λ x. IsTouched x.heap held.course)
 
 -- whether a member has the turn
 abbrev pub IsMember : SharedConfig → Bool → Me Ringed Known → Type 0
@@ -116,14 +119,15 @@ pub record BearsAll (log : List Deed) (v : MemberView) : Type 0 where
 
 -- A member asks for the turn. If it has the turn already, or another member has it, nothing changes. Else the member gets it, with
 -- a heap to which exactly a log led, from a heap that was just made. This log bears out all accounts that the member has. If nothing
--- was done since the member found or put back a heap, it finds the very same. The heap keeps the plan that was asked for.
+-- was done since the member found or put back a heap, it finds the same one, except for touched pages. The heap keeps the plan
+-- that was asked for.
 abbrev pub Enters : MemberView → Result (Unit {0}) NoTurn → MemberView → Type 0
 Enters old (Err turns.Inside) new = (old.turn ≢ None) × (new ≡ old)
 Enters old (Err turns.Taken) new = (old.turn ≡ None) × (new ≡ old)
 Enters old (Ok done) new = (log : List Deed) × (r : Ringed) × (old.turn ≡ None)
     × (new ≡ record old { seen = log; turn = Some r; did = []; last = Some (record { length = length log; heap = r.course }) })
     × BearsAll log old × IsLed (events_of log) r.course × (settings_of r.course.heap ≡ old.settings)
-    × ((x : Last) → old.last ≡ Some x → x.length ≡ length log → x.heap ≡ r.course)
+    × ((x : Last) → old.last ≡ Some x → x.length ≡ length log → IsTouched x.heap r.course)
     × (option_map (λ p. p.counts.plan) r.pacer ≡ old.plan)
 
 -- A member gives the turn and the heap back. It has seen the log, which went on with its events of the turn alone: commands of its
@@ -162,24 +166,64 @@ abbrev pub FindsEntry : ℕ → MemberView → Option (Result Logged NoEntry) �
 FindsEntry place old None new = (old.turn ≡ None) × (new ≡ old)
 FindsEntry place old (Some told) new = (old.turn ≢ None) × TellsEntry old.ring (events_up_to old) place told × (new ≡ old)
 
--- The collector works before a new object as much as the plan requires, and the figures have that work. Before any other command
--- it doesn't work.
-abbrev pub WorksBefore : Command → Ringed → List Event → Ringed → Type 0
-WorksBefore (commands.New dst shape) r work k =
-    IsWorkFor r.pacer r.course.heap (words_of (asks (commands.New dst shape))) work
-    × (figures_of k ≡ option_map (λ f. worked f work) (figures_of r))
-WorksBefore c r work k = (work ≡ []) × (figures_of k ≡ figures_of r)
+-- Nothing is done for mutator m. The member doesn't have the turn, the mutator isn't its own, or the new object has more words than
+-- the plan has for a whole cycle.
+abbrev pub Refuses : MemberView → ℕ → ℕ → NotDone → MemberView → Type 0
+Refuses old m words undone.Outside new = (old.turn ≡ None) × (new ≡ old)
+Refuses old m words undone.NotYours new = (old.turn ≢ None) × (¬ IsWithin old.from old.to m) × (new ≡ old)
+Refuses old m words undone.AbovePlan new = (r : Ringed) × (old.turn ≡ Some r) × IsWithin old.from old.to m
+    × IsAbove r.pacer words × (new ≡ old)
+
+-- a member may call for mutator m: it has the turn, and the mutator is its own
+abbrev pub MayCall : MemberView → ℕ → Result (Unit {0}) NotDone → Type 0
+MayCall v m (Ok may) = (v.turn ≢ None) × IsWithin v.from v.to m
+MayCall v m (Err undone.Outside) = v.turn ≡ None
+MayCall v m (Err undone.NotYours) = (v.turn ≢ None) × (¬ IsWithin v.from v.to m)
+MayCall v m (Err undone.AbovePlan) = ⊥
 
 -- A command of one of the member's mutators is one event of the heap with its history, after the collector's work if a plan
 -- requires any. Without the turn, for another mutator, or for an object above the plan, nothing is done.
 abbrev pub Calls : MemberView → ℕ → Command → Result Reply NotDone → MemberView → Type 0
-Calls old m c (Err undone.Outside) new = (old.turn ≡ None) × (new ≡ old)
-Calls old m c (Err undone.NotYours) new = (old.turn ≢ None) × (¬ IsWithin old.from old.to m) × (new ≡ old)
-Calls old m c (Err undone.AbovePlan) new = (r : Ringed) × (old.turn ≡ Some r) × IsWithin old.from old.to m
-    × IsAbove r.pacer (words_of (asks c)) × (new ≡ old)
+Calls old m c (Err why) new = Refuses old m (words_of (asks c)) why new
 Calls old m c (Ok reply) new = (r : Ringed) × (k : Ringed) × (work : List Event) × (old.turn ≡ Some r)
     × IsWithin old.from old.to m × WorksBefore c r work k × Goes r (work ++ Command_done m c reply ∷ []) k
     × (new ≡ record old { turn = Some k; did = old.did ++ (work ++ Command_done m c reply ∷ []) })
+
+-- the front of a list of commands is done in the turn, for one of the member's mutators
+abbrev pub DoesListIn : MemberView → ℕ → List Command → List Reply → Progress → MemberView → Type 0
+DoesListIn old m cs rs p new = (r : Ringed) × (k : Ringed) × (old.turn ≡ Some r) × IsWithin old.from old.to m
+    × (d : DoesList r m cs rs p k)
+    × (new ≡ record old { turn = Some k; did = old.did ++ (d.work ++ commands_done m cs (with_refusal rs p.refused)) })
+
+-- The front of a list of commands is done so, whatever was replied. Without the turn, for another mutator, or for an object above
+-- the plan, nothing is done.
+abbrev pub CallsList : MemberView → ℕ → List Command → Result Progress NotDone → MemberView → Type 0
+CallsList old m cs (Err why) new = Refuses old m (words_first cs) why new
+CallsList old m cs (Ok p) new = (rs : List Reply) × DoesListIn old m cs rs p new
+
+-- So it is of reads, and the replies are the words at the front of a row, as many as were read.
+abbrev pub ReadsList : MemberView → ℕ → List Command → List ℕ → Result Progress NotDone → MemberView → Type 0
+ReadsList old m cs words (Err why) new = Refuses old m (words_first cs) why new
+ReadsList old m cs words (Ok p) new = DoesListIn old m cs (words_told (take p.done words)) p new
+
+-- the number of commands of a list that were done
+abbrev pub done_of : Result Progress NotDone → ℕ
+done_of (Ok p) = p.done
+done_of (Err why) = 0
+
+-- In its turn a member has the collector work ahead for words. Without the turn nothing is done.
+abbrev pub PreparesIn : MemberView → ℕ → Result ℕ NotPrepared → MemberView → Type 0
+PreparesIn old words (Err unprepared.Outside) new = (old.turn ≡ None) × (new ≡ old)
+PreparesIn old words (Err unprepared.NoPlan) new = (r : Ringed) × (old.turn ≡ Some r) × (r.pacer ≡ None) × (new ≡ old)
+PreparesIn old words (Err unprepared.AbovePlan) new = (r : Ringed) × (old.turn ≡ Some r) × IsAbove r.pacer words × (new ≡ old)
+PreparesIn old words (Ok left) new = (r : Ringed) × (k : Ringed) × (old.turn ≡ Some r) × (w : WorksAhead r words left k)
+    × (new ≡ record old { turn = Some k; did = old.did ++ w.prepares.work })
+
+-- In its turn a member changes the heap without an event. Without the turn nothing is done.
+abbrev pub ChangesIn : {A : Type 0} → (Ringed → A → Ringed → Type 0) → MemberView → Option A → MemberView → Type 0
+ChangesIn change old None new = (old.turn ≡ None) × (new ≡ old)
+ChangesIn change old (Some a) new = (r : Ringed) × (k : Ringed) × (old.turn ≡ Some r) × change r a k
+    × (new ≡ record old { turn = Some k })
 
 -- Out of its turn a member gets the length of the log, as it wraps. It has then seen this log, which bears out all accounts that
 -- it has. In its turn nothing changes.

@@ -1,10 +1,11 @@
 -- The past of a heap: the events that led to it, and the place of its history at which the last cycle began.
-use Rattle.std.specs.Prelude.{ℕ, ◌<◌, List, [], ◌∷◌, ◌++◌, length}
+use Rattle.std.specs.Prelude.{ℕ, ◌≡◌, ◌<◌, List, [], ◌∷◌, ◌++◌, length}
 use Rattle.graph_heap.specs.declared.command.Entry.{Entry}
 use Rattle.heap_model.specs.Event.{Course, Event, Command_done, Cycle_begun, Runs}
 use Rattle.heap_model.specs.Opening.{IsOpening}
 use Rattle.heap_model.specs.ReachedFrom.{opened}
 use Rattle.heap_model.specs.State.{HeapState}
+use Rattle.nodes.specs.Touching.{touched}
 
 -- the history that events make: an entry for each command
 abbrev pub history_of : List Event → List Entry
@@ -20,6 +21,19 @@ pub record PastView : Type 0 where
 -- a heap with the history of its past
 abbrev pub course_of : HeapState → PastView → Course
 course_of h p = record { heap = h; history = history_of p.events; place = p.place }
+
+-- a heap whose first pages have their words, this many pages or all
+abbrev pub touched_heap : HeapState → ℕ → HeapState
+touched_heap h pages = record h { store = touched h.store pages }
+
+-- pages of a heap were touched, one time after the other
+abbrev pub touched_all : HeapState → List ℕ → HeapState
+touched_all h [] = h
+touched_all h (pages ∷ more) = touched_all (touched_heap h pages) more
+
+-- a heap with its history is the same as before, except for touched pages
+abbrev pub IsTouched : Course → Course → Type 0
+IsTouched old new = (pages : List ℕ) × (new ≡ record old { heap = touched_all old.heap pages })
 
 -- one more event was done
 abbrev pub with_event : PastView → Event → PastView

@@ -1,5 +1,5 @@
 -- A shared heap with its past, its plan, and the last entries of its log.
-use Rattle.std.specs.Prelude.{ℕ, ◌≡◌, ◌≢◌, ◌<◌, ◌≤◌, ◌+◌, ◌-◌, ◌*◌, ◌%◌, List, [], ◌∷◌, ◌++◌, length, slice_get, Option, Some, None, Result, Ok, Err, if◌then◌else◌, nat_le}
+use Rattle.std.specs.Prelude.{ℕ, ◌≡◌, ◌≢◌, ◌<◌, ◌≤◌, ◌+◌, ◌-◌, ◌*◌, ◌%◌, Bool, true, false, List, [], ◌∷◌, ◌++◌, length, slice_get, Option, Some, None, Result, Ok, Err, if◌then◌else◌, nat_le}
 use Rattle.std.specs.Option.{option_map}
 use Rattle.circular_buffer.specs.Buffer.{keep_last}
 use Rattle.graph_heap.specs.declared.command.Command.{Command}
@@ -12,16 +12,19 @@ use Rattle.space.specs.Room.{asks}
 use Rattle.fragmentation.specs.Flow.{words_of}
 use Rattle.paced.specs.declared.cycles.Cycles.{Cycles}
 use Rattle.paced.specs.declared.figures.Figures.{Figures}
-use Rattle.paced.specs.declared.pacer.AbovePlan.{AbovePlan}
+use Rattle.paced.specs.declared.pacer.AbovePlan.{AbovePlan as Above}
 use Rattle.paced.specs.Cycles.{CountsCycles}
-use Rattle.paced.specs.Pacing.{PacerView, PacedState, state_by, worked, Path, KeepsPlan, MayAsk, WorksFor}
+use Rattle.paced.specs.Pacing.{PacerView, PacedState, paced_by, state_by, worked, Path, KeepsPlan, MayAsk, WorksFor}
+use Rattle.paced.specs.Bounds.{Prepares}
 use Rattle.paced.specs.Rooms.{first_counts}
 use Rattle.paced.specs.declared.logged.Logged.{Logged}
+use Rattle.heap_shared.specs.declared.fault.NotPrepared.{NotPrepared}
+use Rattle.heap_shared.specs.declared.fault.NotPrepared.TheVariants.{Outside, NoPlan, AbovePlan}
 use Rattle.heap_shared.specs.declared.fault.NoEntry.{NoEntry}
 use Rattle.heap_shared.specs.declared.fault.NoEntry.TheVariants.{NotYet, Gone}
 use Rattle.heap_shared.specs.declared.shared_heap.SharedConfig.{SharedConfig}
 use Rattle.paced.specs.Logged.{event_of}
-use Rattle.heap_shared.specs.Past.{IsLed}
+use Rattle.heap_shared.specs.Past.{touched_heap, IsLed}
 
 -- A heap with its history, the events that led to it, and how many of the last events it keeps. It has its cycles, and a pacer if
 -- it keeps a plan.
@@ -82,10 +85,34 @@ IsAbove (Some p) words = p.counts.plan.cycle_words < words
 
 -- A command that makes an object is done after its words were paid for. If they are more than the plan has for a whole cycle,
 -- nothing is done.
-abbrev pub Makes : Ringed → ℕ → Command → Result Reply AbovePlan → Ringed → Type 0
+abbrev pub Makes : Ringed → ℕ → Command → Result Reply Above → Ringed → Type 0
 Makes r m c (Err above) k = IsAbove r.pacer (words_of (asks c)) × (k ≡ r)
 Makes r m c (Ok reply) k = (work : List Event) × IsWorkFor r.pacer r.course.heap (words_of (asks c)) work
     × Goes r (work ++ Command_done m c reply ∷ []) k × (figures_of k ≡ option_map (λ f. worked f work) (figures_of r))
+
+-- The collector works ahead for these words. It does at most one piece of the work that the plan requires for them, and says how
+-- many are left.
+pub record WorksAhead (r : Ringed) (words left : ℕ) (k : Ringed) : Type 0 where
+  pub before : PacerView
+  pub after : PacerView
+  pub was : r.pacer ≡ Some before
+  pub is : k.pacer ≡ Some after
+  pub fits : words ≤ before.counts.plan.cycle_words
+  pub prepares : Prepares (paced_by before r.course.heap r.cycles) words left (paced_by after k.course.heap k.cycles)
+  pub goes : Goes r prepares.work k
+
+-- So it is. If no plan is kept, or the words are more than the plan has for a whole cycle, nothing is done.
+abbrev pub PreparesBy : Ringed → ℕ → Result ℕ NotPrepared → Ringed → Type 0
+PreparesBy r words (Err Outside) k = ⊥
+PreparesBy r words (Err NoPlan) k = (r.pacer ≡ None) × (k ≡ r)
+PreparesBy r words (Err AbovePlan) k = IsAbove r.pacer words × (k ≡ r)
+PreparesBy r words (Ok left) k = WorksAhead r words left k
+
+-- The first pages get their words, this many pages or all, exactly if no event was done yet. Nothing else changes.
+abbrev pub TouchesBy : ℕ → Ringed → Bool → Ringed → Type 0
+TouchesBy pages r true k = (r.events ≡ [])
+    × (k ≡ record r { course = record r.course { heap = touched_heap r.course.heap pages } })
+TouchesBy pages r false k = (r.events ≢ []) × (k ≡ r)
 
 -- the event that was entered this many events ago, 1 for the last, if it is one of the last events that the ring keeps
 abbrev pub entry_ago : ℕ → List Event → ℕ → Option Event

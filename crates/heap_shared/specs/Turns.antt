@@ -12,6 +12,7 @@ use Rattle.heap_shared.specs.declared.rule.Last.{Last}
 use Rattle.heap_shared.specs.declared.rule.TheConstants.{TURN_WORD}
 use Rattle.heap_shared.specs.declared.shared_heap.SharedConfig.{SharedConfig}
 use Rattle.heap_shared.specs.Accounts.{Doer, Has, BearsOut, AreBelow, account_of, events_of, signed}
+use Rattle.heap_shared.specs.Past.{IsTouched}
 use Rattle.heap_shared.specs.Ring.{Ringed, IsAsAsked}
 
 -- a member that has seen nothing of the log, and has all mutators and all numbers
@@ -69,13 +70,14 @@ heap_at (free r) = r.course
 heap_at (taken by found) = found
 
 -- The table at a log, while nobody has the turn or a member has it. A heap in the slot is one to which exactly this log led. Only
--- the member that has the turn is inside, and it has seen the whole log.
+-- the member that has the turn is inside. It has seen the whole log, and remembers the heap that it found.
 abbrev pub IsTurn : SharedConfig → State Ringed Known → List Deed → Turn → Type 0
 IsTurn c s log (free r) = (slice_index s.words TURN_WORD ≡ word_of (length log)) × (s.homes ≡ home.some r ∷ [])
     × (events_of log ≡ r.events) × IsAsAsked c r
     × ((k : ℕ) (v : Known) → get_elem? s.views k ≡ home.some v → v.inside ≡ false)
 IsTurn c s log (taken by found) = (slice_index s.words TURN_WORD ≡ word_of (length log) + 1) × (s.homes ≡ home.none ∷ [])
-    × ((k : ℕ) (v : Known) → get_elem? s.views k ≡ home.some v → v.inside ≡ true → (k ≡ by) × (v.seen ≡ log))
+    × ((k : ℕ) (v : Known) → get_elem? s.views k ≡ home.some v → v.inside ≡ true
+    → (k ≡ by) × (v.seen ≡ log) × (v.last ≡ Some (record { length = length log; heap = found })))
 
 -- The knowledge of member k, at a log, if each mutator and each number belongs to one member or to none. Its own number is one of
 -- its numbers. The log bears out its account, and those that it has learnt. Its mutators and numbers belong to it, and those of
@@ -89,9 +91,9 @@ pub record Knows (c : SharedConfig) (log : List Deed) (owner : Doer → home.Opt
   pub learnt : All (BearsOut log) v.learnt
   pub gone : All (λ a. (x : Doer) → Has a x → owner x ≡ home.none) v.learnt
 
--- the heap that a member found or put back last is the heap that is there, unless the log went on since
+-- the heap that a member found or put back last is the heap that is there, except for touched pages, unless the log went on since
 abbrev pub Remembers : List Deed → Course → Known → Type 0
-Remembers log heap v = (x : Last) → v.last ≡ Some x → (x.length ≤ length log) × (x.length ≡ length log → x.heap ≡ heap)
+Remembers log heap v = (x : Last) → v.last ≡ Some x → (x.length ≤ length log) × (x.length ≡ length log → IsTouched x.heap heap)
 
 -- The rule of the word: there is one log, with commands of the heap's mutators alone. At most one member has the turn. All that a
 -- member knows is so.
@@ -113,12 +115,12 @@ pub record Told (log : List Deed) (v : Known) : Type 0 where
   pub below : (d : SharedConfig) → v.config ≡ Some d → AreBelow d.config.mutators log
 
 -- A member has got the turn, and the heap to which exactly the log led. If the log is as long as when the member found or put back a
--- heap last, it is the very same heap.
+-- heap last, it is the same heap, except for touched pages.
 pub record HasTurn (v : Known) (found : ℕ) (m : Me Ringed Known) : Type 0 where
   pub log : List Deed
   pub held : Ringed
   pub has : m ≡ (record v { seen = log; inside = true; last = Some (record { length = length log; heap = held.course }) }, (0, held) ∷ [])
-  pub same : (x : Last) → v.last ≡ Some x → x.length ≡ length log → x.heap ≡ held.course
+  pub same : (x : Last) → v.last ≡ Some x → x.length ≡ length log → IsTouched x.heap held.course
   pub told : Told log v
   pub events : events_of log ≡ held.events
   pub asked : (d : SharedConfig) → v.config ≡ Some d → IsAsAsked d held

@@ -26,6 +26,20 @@ pub enum NotDone {
     AbovePlan,
 }
 
+/// A reason why the collector doesn't work ahead.
+#[derive(Clone, Copy, Debug, PartialEq, Eq, Error)]
+pub enum NotPrepared {
+    /// The member doesn't have the turn.
+    #[error("outside a turn")]
+    Outside,
+    /// The heap keeps no plan.
+    #[error("no plan")]
+    NoPlan,
+    /// The words are more than the heap's plan has for a whole cycle.
+    #[error("words above those of a cycle")]
+    AbovePlan,
+}
+
 /// A reason why there is no entry at a place.
 #[derive(Clone, Copy, Debug, PartialEq, Eq, Error)]
 pub enum NoEntry {

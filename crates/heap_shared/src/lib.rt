@@ -8,6 +8,7 @@ mod deed;
 mod fault;
 mod fitting;
 mod laws;
+mod lists;
 mod log;
 mod member;
 mod pacing;
@@ -18,7 +19,7 @@ mod shared_heap;
 
 pub use crossing::members_cross;
 pub use deed::{Deed, Happened, Stood};
-pub use fault::{NoEntry, NoMember, NoTurn, NotDone};
+pub use fault::{NoEntry, NoMember, NoTurn, NotDone, NotPrepared};
 pub use laws::{histories_merge, logs_merge, no_event_is_hidden, nothing_is_done_between};
 pub use log::HeapLog;
 pub use member::Member;

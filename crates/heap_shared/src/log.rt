@@ -1,5 +1,5 @@
 //! The log of a heap.
-ghost use Rattle.std.specs.Prelude.{◌≡◌, ◌<◌, ◌%◌, [], length, IfOk};
+ghost use Rattle.std.specs.Prelude.{◌≡◌, ◌↔◌, ◌<◌, ◌%◌, [], length, IfOk, IsTrue};
 ghost use Rattle.std.specs.Option.{option_map};
 ghost use Rattle.heap_model.specs.Event.{Command_done};
 ghost use Rattle.paced.specs.Logged.{event_of};
@@ -14,11 +14,13 @@ use paced::{Log, Logged};
 use std::alloc::Global;
 use std::marker::Model;
 
-/// The log of a heap. Proofs alone have all of it. A program has its length, modulo 2^64, and its last entries.
+/// The log of a heap. Proofs alone have all of it. A program has its length, modulo 2^64, its last entries, and whether it is
+/// empty.
 pub struct HeapLog {
     past: Ghost<Past>,
     ring: Ring,
     count: u64,
+    empty: bool,
 }
 
 impl Drop for HeapLog {
@@ -27,12 +29,13 @@ impl Drop for HeapLog {
             past: _,
             ring: _,
             count: _,
+            empty: _,
         } = self;
     }
 }
 
 impl Model for HeapLog {
-    ghost use Rattle.std.specs.Prelude.{◌≡◌, ◌%◌, length, map};
+    ghost use Rattle.std.specs.Prelude.{◌≡◌, ◌↔◌, ◌%◌, [], IsTrue, length, map};
     ghost use Rattle.circular_buffer.specs.Buffer.{keep_last};
     ghost use Rattle.paced.specs.Logged.{event_of};
     ghost use Rattle.heap_shared.specs.Past.{LogView};
@@ -42,7 +45,8 @@ impl Model for HeapLog {
     ghost view = { λ a. record { past = a.past.value; kept = a.ring.entries.capacity } };
 
     ghost invariant = { λ a. (map event_of a.ring.entries.items ≡ keep_last a.ring.entries.capacity a.past.value.events)
-        × (a.count ≡ length a.past.value.events % 18446744073709551616) };
+        × (a.count ≡ length a.past.value.events % 18446744073709551616)
+        × (IsTrue a.empty ↔ (a.past.value.events ≡ [])) };
 }
 
 impl Log for HeapLog {
@@ -56,6 +60,7 @@ impl Log for HeapLog {
         self.past = went_on(&self.past, event);
         self.ring.enter(event);
         self.count = self.count.wrapping_add(1);
+        self.empty = false;
     }
 }
 
@@ -69,6 +74,7 @@ impl HeapLog {
             past: no_past(),
             ring,
             count: 0,
+            empty: true,
         })
     }
 
@@ -85,6 +91,7 @@ impl HeapLog {
         self.past = went_on(&self.past, event);
         self.ring.enter_command(mutator, command, reply);
         self.count = self.count.wrapping_add(1);
+        self.empty = false;
     }
 
     /// Returns the length of the log, modulo 2^64.
@@ -93,6 +100,13 @@ impl HeapLog {
         ensures { result ≡ length self.now.past.events % 18446744073709551616 }
     {
         self.count
+    }
+
+    /// Returns whether no event was entered yet.
+    pub(crate) fn is_empty(&self) -> bool
+        ensures { IsTrue result ↔ (self.now.past.events ≡ []) }
+    {
+        self.empty
     }
 
     /// Returns the entry that was entered `ago` entries ago, 1 for the last, if the log keeps it.

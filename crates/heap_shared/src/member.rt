@@ -1,12 +1,10 @@
 //! Members of a shared heap.
 ghost use Rattle.std.specs.Prelude.{◌≡◌, ◌*◌, [], IfOk, IfSome, Ok, None};
 ghost use Rattle.std.specs.Fn.{FnOnceReturnsAt, FnOnceReturnsAtMut};
-ghost use Rattle.std.specs.Option.{option_map};
 ghost use Rattle.graph_heap.specs.declared.command.Command.TheVariants as commands;
 ghost use Rattle.heap_model.specs.Settings.{settings_by};
-ghost use Rattle.machine.specs.Recorded.{begin_done, quantum_done};
 ghost use Rattle.paced.specs.Pacing.{MakesNothing};
-ghost use Rattle.heap_shared.specs.Members.{Enters, Leaves, Places, Calls, DoesInTurn, FindsIn, Finds, FindsEntry, Adds, before_giving, Learns, IsPromised};
+ghost use Rattle.heap_shared.specs.Members.{Enters, Leaves, Places, Calls, FindsIn, Finds, FindsEntry, Adds, before_giving, Learns, IsPromised};
 ghost use Rattle.heap_shared.specs.Methods.{IsMethodOf};
 ghost use Rattle.heap_shared.specs.Ring.{figures_of};
 ghost use mathlib.Core.List.{IsPrefix};
@@ -20,12 +18,15 @@ use crate::rule::{
 use crate::shared_heap::{SharedConfig, SharedHeap};
 use atomic_table::{Refused, Seat, Table};
 use graph_heap::{Command, NoMemory, Reply, Shape};
-use machine::{BudgetOutOfRange, Busy, Heap, Spent};
+use machine::Heap;
 use paced::{AbovePlan, Cycle, Figures, Logged};
 use size_classes::Config;
 use std::alloc::Global;
 use std::marker::Model;
 use std::sync::Arc;
+
+mod collecting;
+mod lists;
 
 /// A member of a heap that threads share. It calls for the mutators from one number on and below another, and no other
 /// member calls for these. Contracts see the part of the log that it has seen and, in its turn, the heap with its history. Its
@@ -273,28 +274,6 @@ impl Member {
                 .slot_mut(&self.table.shared, 0)
                 .call_by(mutator, command, method),
         )
-    }
-
-    /// Begins a cycle of the collector in the turn, unless one is running.
-    pub fn begin(&mut self) -> Option<Result<(), Busy>>
-        ensures does { DoesInTurn begin_done self.old result self.new }
-        ensures figures { option_map figures_of self.new.turn ≡ option_map figures_of self.old.turn }
-    {
-        if !self.inside {
-            return None;
-        }
-        Some(self.seat.slot_mut(&self.table.shared, 0).begin())
-    }
-
-    /// Spends units of a budget, in the turn, on the cycle that is running.
-    pub fn quantum(&mut self, budget: u32) -> Option<Result<Spent, BudgetOutOfRange>>
-        ensures does { DoesInTurn (quantum_done budget) self.old result self.new }
-        ensures figures { option_map figures_of self.new.turn ≡ option_map figures_of self.old.turn }
-    {
-        if !self.inside {
-            return None;
-        }
-        Some(self.seat.slot_mut(&self.table.shared, 0).quantum(budget))
     }
 
     /// Returns what `look` finds in the heap, in the turn.

@@ -12,8 +12,9 @@ ghost use Rattle.paced.specs.Pacing.{MakesNothing};
 ghost use Rattle.paced.specs.Rooms.{no_figures};
 ghost use Rattle.heap_shared.specs.Methods.{IsMethodOf};
 ghost use Rattle.heap_shared.specs.Past.{IsLed};
-ghost use Rattle.heap_shared.specs.Ring.{IsAsAsked, GoesBy, Makes, figures_of, entry_ago};
+ghost use Rattle.heap_shared.specs.Ring.{IsAsAsked, GoesBy, Makes, PreparesBy, TouchesBy, figures_of, entry_ago};
 
+use crate::fault::NotPrepared;
 use crate::log::HeapLog;
 use crate::pacing;
 use graph_heap::{Command, NoMemory, Reply, Shape};
@@ -148,6 +149,32 @@ impl SharedHeap {
         self.log
             .enter_command(mutator, Command::New { dst, shape }, reply);
         reply
+    }
+
+    /// Does at most one piece of the work that the plan requires for `words` words, and returns how many are left. If the heap
+    /// keeps no plan, or the words are more than the plan has for a whole cycle, it does nothing.
+    pub fn prepare(&mut self, words: u64) -> Result<u64, NotPrepared>
+        ensures { PreparesBy self.old words result self.new }
+    {
+        let Some(pacer) = &mut self.pacer else {
+            return Err(NotPrepared::NoPlan);
+        };
+        match pacer.prepare(&mut self.heap, &mut self.cycles, &mut self.log, words) {
+            Ok(left) => Ok(left),
+            Err(AbovePlan) => Err(NotPrepared::AbovePlan),
+        }
+    }
+
+    /// Touches the first `pages` pages, or all if there are fewer, if no event was done yet. Else it returns false, and does
+    /// nothing.
+    pub fn touch(&mut self, pages: usize) -> bool
+        ensures { TouchesBy pages self.old result self.new }
+    {
+        if !self.log.is_empty() {
+            return false;
+        }
+        self.heap.touch(pages);
+        true
     }
 
     /// Returns the length of the log, modulo 2^64.

@@ -1,35 +1,41 @@
--- A cycle begins, or goes on, in what C holds.
-use Rattle.std.proofs.Common.{◌≡◌, ◌∙◌, ℕ, ap}
-use Rattle.std.specs.Prelude.{Result, Ok, Err}
+-- A cycle begins, or goes on, in the heap that C holds.
+use Rattle.std.proofs.Common.{◌≡◌, ◌∙◌, ℕ, refl, ap, subst}
+use Rattle.std.specs.Prelude.{Some, Result, Ok, Err}
 use Rattle.machine.specs.declared.collector.Busy.{Busy}
 use Rattle.machine.specs.declared.collector.BudgetOutOfRange.{BudgetOutOfRange}
 use Rattle.machine.specs.declared.collector.Spent.{Spent}
 use Rattle.metronome_c.specs.declared.collector.QuantumSpent.{QuantumSpent}
-use Rattle.metronome_c.specs.declared.held.Held.{Held}
+use Rattle.metronome_c.specs.declared.own_heap.OwnHeap.{OwnHeap}
 use Rattle.metronome_c.specs.declared.status.Status.{Status}
 use Rattle.metronome_c.specs.Status.{status_number}
-use Rattle.metronome_c.specs.Asking.{Asks}
-use Rattle.metronome_c.specs.Collecting.{begin_status, BeginsHeld, BeginsOpen, quantum_status, spent_of, SpendsHeld, SpendsOpen}
+use Rattle.metronome_c.specs.Asking.{Asks, status_of}
+use Rattle.metronome_c.specs.Either.{flat}
+use Rattle.metronome_c.specs.Figures.{IsTold}
+use Rattle.metronome_c.specs.Collecting.{begin_status, begun_told, BeginsTold, BeginsOpen, quantum_status, spent_of, spent_told, SpendsTold, SpendsOpen}
 
-abbrev pub begun_status : Result (Result (Unit {0}) Busy) Status → ℕ
-begun_status (Ok answer) = begin_status answer
-begun_status (Err why) = status_number why
+-- the status of what was asked
+abbrev pub status_found : {A : Type 0} → Result (Result A Status) Status → ℕ
+status_found answer = status_number (status_of (flat answer))
 
-pub begins_open : (old : Result Held Status) (answer : Result (Result (Unit {0}) Busy) Status) (new : Result Held Status) (n : ℕ)
-    → Asks BeginsHeld old answer new → n ≡ begun_status answer → BeginsOpen old new n
-begins_open (Err why) answer new n asks told = (asks.1, told ∙ ap begun_status asks.0)
-begins_open (Ok h) answer new n asks told = (asks.1, asks.0, asks.3, asks.4, told ∙ ap begun_status asks.2)
+begun_so : (t : Result (Unit {0}) Busy) → status_number (status_of (begun_told (Some t))) ≡ begin_status t
+begun_so (Ok done) = refl
+begun_so (Err busy) = refl
 
-abbrev pub spent_status : Result (Result Spent BudgetOutOfRange) Status → ℕ
-spent_status (Ok answer) = quantum_status answer
-spent_status (Err why) = status_number why
+pub begins_open : (answer : Result (Result (Unit {0}) Status) Status) (n : ℕ) → n ≡ status_found answer
+    → (h k : Result OwnHeap Status) → Asks BeginsTold h answer k → BeginsOpen h k n
+begins_open answer n told (Err why) k asks = (asks.1, told ∙ ap status_found asks.0)
+begins_open answer n told (Ok h) k asks =
+    let b = asks.4 in (asks.1, b.told, asks.3, b.does, told ∙ ap status_found asks.2 ∙ ap (λ (x : Result (Unit {0}) Status). status_number (status_of x)) b.is ∙ begun_so b.told)
 
-abbrev pub spent_told : QuantumSpent → Result (Result Spent BudgetOutOfRange) Status → QuantumSpent
-spent_told before (Ok answer) = spent_of before answer
-spent_told before (Err why) = before
+spent_so : (t : Result Spent BudgetOutOfRange) (before after : QuantumSpent) (n : ℕ) → IsTold (spent_told (Some t)) before after n → (after ≡ spent_of before t) × (n ≡ quantum_status t)
+spent_so (Ok spent) before after n told = told
+spent_so (Err refused) before after n told = told
 
-pub spends_open : (budget : ℕ) (old : Result Held Status) (answer : Result (Result Spent BudgetOutOfRange) Status) (new : Result Held Status) (before after : QuantumSpent) (n : ℕ)
-    → Asks (λ h a k. SpendsHeld h budget a k) old answer new → after ≡ spent_told before answer → n ≡ spent_status answer → SpendsOpen old budget new before after n
-spends_open budget (Err why) answer new before after n asks spent told = (asks.1, spent ∙ ap (spent_told before) asks.0, told ∙ ap spent_status asks.0)
-spends_open budget (Ok h) answer new before after n asks spent told =
-    (asks.1, asks.0, asks.3, asks.4, spent ∙ ap (spent_told before) asks.2, told ∙ ap spent_status asks.2)
+pub spends_open : (budget : ℕ) (answer : Result (Result QuantumSpent Status) Status) (before after : QuantumSpent) (n : ℕ) → IsTold (flat answer) before after n
+    → (h k : Result OwnHeap Status) → Asks (λ x a y. SpendsTold x budget a y) h answer k → SpendsOpen h budget k before after n
+spends_open budget answer before after n told (Err why) k asks =
+    let now : IsTold (Err why) before after n = subst (λ (x : Result QuantumSpent Status). IsTold x before after n) (ap flat asks.0) told in (asks.1, now.0, now.1)
+spends_open budget answer before after n told (Ok h) k asks =
+    let now : IsTold (spent_told (Some asks.4.0)) before after n = subst (λ (x : Result QuantumSpent Status). IsTold x before after n) (ap flat asks.2 ∙ asks.4.2) told in
+    let so = spent_so asks.4.0 before after n now in
+    (asks.1, asks.4.0, asks.3, asks.4.1, so.0, so.1)

@@ -1,6 +1,6 @@
 -- A slot is checked by what the heap would answer.
 use Rattle.std.proofs.Common.{◌≡◌, ◌∙◌, ℕ, Bool, true, false, refl, ap, sym, subst}
-use Rattle.std.specs.Prelude.{nat_lt, if◌then◌else◌, slice_index_or, Result, Ok, Err}
+use Rattle.std.specs.Prelude.{nat_lt, if◌then◌else◌, slice_index_or, Option, Some, None, Result, Ok, Err}
 use Rattle.graph_heap.specs.Graph.{Graph}
 use Rattle.graph_heap.specs.declared.command.Change.TheVariants as changes
 use Rattle.graph_heap.specs.declared.command.Command.TheVariants as commands
@@ -13,24 +13,27 @@ use Rattle.heap_model.specs.Agreement.{Agrees}
 use Rattle.metronome_c.specs.declared.held.Held.{Held}
 use Rattle.metronome_c.specs.declared.status.Status.{Status}
 use Rattle.metronome_c.specs.declared.status.Status.TheVariants.{NoMutator}
-use Rattle.metronome_c.specs.Asking.{AsksHeap}
-use Rattle.metronome_c.specs.Checking.{is_bad_slot, reply_status, slot_status, ChecksSlot}
+use Rattle.metronome_c.specs.Checking.{is_bad_slot, reply_status, slot_status, TellsSlot, ChecksSlot}
+use Rattle.metronome_c.specs.Either.{heap_of, LooksAt, Looks}
 use Rattle.metronome_c.specs.Status.{status_number}
 use Rattle.metronome_c.specs.Steps.{reply_to}
 
--- what a heap says whose slot is checked
-abbrev pub FindsStatus : ℕ → ℕ → HeapState → Status → HeapState → Type 0
-FindsStatus m slot h status k = (k ≡ h) × ((g : Graph) → Agrees h g → status ≡ slot_status h g m slot)
-
-abbrev pub checked_status : Result Status Status → ℕ
+abbrev checked_status : Result Status Status → ℕ
 checked_status (Ok status) = status_number status
 checked_status (Err why) = status_number why
 
-pub checks_slot : (m slot : ℕ) (old : Result Held Status) (found : Result Status Status) (new : Result Held Status) (n : ℕ)
-    → AsksHeap (FindsStatus m slot) old found new → n ≡ checked_status found → ChecksSlot old m slot new n
-checks_slot m slot (Err why) found new n asks told = (asks.1, told ∙ ap checked_status asks.0)
-checks_slot m slot (Ok h) found new n asks told =
-    (asks.3 ∙ ap Ok (asks.4.0 ∙ ap (λ (x : HeapState). record h { heap = x }) asks.4.1.0), λ g agrees. told ∙ ap checked_status asks.2 ∙ ap status_number (asks.4.1.1 g agrees))
+checks_at : (m slot : ℕ) (look : HeapState → Status → Type 0) (heap : Option HeapState) (found : Result Status Status) (n : ℕ)
+    → ((h : HeapState) (a : Status) → look h a → (g : Graph) → Agrees h g → a ≡ slot_status h g m slot)
+    → LooksAt look heap found → n ≡ checked_status found → TellsSlot heap m slot n
+checks_at m slot look None found n so looks told = told ∙ ap checked_status looks
+checks_at m slot look (Some h) found n so looks told = λ g agrees. told ∙ ap checked_status looks.1 ∙ ap status_number (so h looks.0 looks.2 g agrees)
+
+-- the status that each look finds, told
+pub checks_slot : (m slot : ℕ) (look : HeapState → Status → Type 0) (old new : Result Held Status) (found : Result Status Status) (n : ℕ)
+    → ((h : HeapState) (a : Status) → look h a → (g : Graph) → Agrees h g → a ≡ slot_status h g m slot)
+    → new ≡ old → Looks look old found → n ≡ checked_status found → ChecksSlot old m slot new n
+checks_slot m slot look (Err why) new found n so same looks told = (same, told ∙ ap checked_status looks)
+checks_slot m slot look (Ok held) new found n so same looks told = (same, checks_at m slot look (heap_of held) found n so looks told)
 
 -- the reply to a join, by whether there is such a mutator, and whether it is live
 abbrev joined : ℕ → Bool → Bool → Reply

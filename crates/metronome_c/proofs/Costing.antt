@@ -1,5 +1,5 @@
 -- What the calls of a program cost on a handle whose heap keeps a plan.
-use Rattle.std.proofs.Common.{◌≡◌, ◌∙◌, ℕ, ◌+◌, ◌≤◌, List, [], ◌∷◌, ◌++◌, Ok, Err, Result, ap, sym, subst, arith}
+use Rattle.std.proofs.Common.{◌≡◌, ◌∙◌, ℕ, ◌≤◌, List, [], ◌∷◌, ◌++◌, Ok, Err, Result, ap, sym, subst, arith}
 use Rattle.std.specs.List.{AllByRecursion}
 use Rattle.size_classes.specs.declared.settings.Settings.{Settings}
 use Rattle.heap_model.specs.Event.{Event}
@@ -10,13 +10,13 @@ use Rattle.paced.proofs.Deeds.{idle_deed, deeds_path}
 use Rattle.paced.proofs.Paths.{path_then, work_paces}
 use Rattle.paced.proofs.Single.{small_one, each_short}
 use Rattle.paced.proofs.Stretches.{stretches_keep}
-use Rattle.metronome_c.specs.declared.held.Held.{Held}
+use Rattle.metronome_c.specs.declared.own_heap.OwnHeap.{OwnHeap}
 use Rattle.metronome_c.specs.declared.planning.MetronomeFlow.{MetronomeFlow}
 use Rattle.metronome_c.specs.declared.status.Status.{Status}
 use Rattle.metronome_c.specs.declared.status.Status.TheVariants.{Done}
 use Rattle.metronome_c.specs.Costs.{WorksForWords, IsCheap, CostsFew, KeepsCosts, AreFree}
 use Rattle.metronome_c.specs.Figures.{IsTold}
-use Rattle.metronome_c.specs.Keeping.{kept, CanKeep, Keeps}
+use Rattle.metronome_c.specs.Keeping.{kept, CanKeep, KeepsOwn}
 use Rattle.metronome_c.specs.KeptCalls.{KeptCall, KeptCalls}
 use Rattle.metronome_c.specs.Lifetime.{IsMadeOf}
 use Rattle.metronome_c.specs.Planning.{plan_in}
@@ -37,7 +37,7 @@ are_cheap flow (d ∷ ds) some short = (
   are_cheap flow ds some short.1,
 )
 
-module _ (s : Settings) (h : Held) (made : IsMadeOf s h) (flow : MetronomeFlow) (can : CanKeep h flow) where
+module _ (s : Settings) (h : OwnHeap) (made : IsMadeOf s h) (flow : MetronomeFlow) (can : CanKeep h flow) where
   -- where the calls before a stretch led
   abbrev Led : PacedView → List Deed → Type 0
   Led v ds = AreDone (state_of (first_view h flow)) ds (state_of v)
@@ -56,10 +56,10 @@ module _ (s : Settings) (h : Held) (made : IsMadeOf s h) (flow : MetronomeFlow) 
         only = only_words ds (state_of mid) (state_of new) done;
       }
 
-  costs_kept : (before stretch : List KeptCall) (mid new : Result Held Status) → KeptCalls (Ok (kept h flow)) before mid → KeptCalls mid stretch new → KeepsCosts h flow before stretch
+  costs_kept : (before stretch : List KeptCall) (mid new : Result OwnHeap Status) → KeptCalls (Ok (kept h flow)) before mid → KeptCalls mid stretch new → KeepsCosts h flow before stretch
   costs_kept before stretch mid new d e =
       let first = were_kept h.config before (first_view h flow) mid d in
-      let second = were_kept h.config stretch first.view new (subst (λ (x : Result Held Status). KeptCalls x stretch new) first.left e) in
+      let second = were_kept h.config stretch first.view new (subst (λ (x : Result OwnHeap Status). KeptCalls x stretch new) first.left e) in
       record {
         earlier = deed_events first.deeds;
         deeds = second.deeds;
@@ -69,7 +69,7 @@ module _ (s : Settings) (h : Held) (made : IsMadeOf s h) (flow : MetronomeFlow) 
       }
 
   -- words that were prepared for are free
-  free_from : (before : List Deed) (v : PacedView) (work : List Event) (w : PacedView) (words : ℕ) (stretch : List KeptCall) (new : Result Held Status) → Led v before → Path (WorksFor words) (state_of v) work (state_of w) → MayAsk (state_of w) words
+  free_from : (before : List Deed) (v : PacedView) (work : List Event) (w : PacedView) (words : ℕ) (stretch : List KeptCall) (new : Result OwnHeap Status) → Led v before → Path (WorksFor words) (state_of v) work (state_of w) → MayAsk (state_of w) words
       → KeptCalls (Ok (held h.config w)) stretch new → AreFree words stretch
   free_from before v work w words stretch new led works may d =
       let first = state_of (first_view h flow) in
@@ -81,29 +81,29 @@ module _ (s : Settings) (h : Held) (made : IsMadeOf s h) (flow : MetronomeFlow) 
         free = λ none few. ahead_free h.config (plan_in flow) first (just_paced s h made flow can) (deed_events before ++ work) (state_of w) (state_of second.view) words second.deeds path may second.done none few;
       }
 
-  by_answer : (before : List Deed) (v : PacedView) (words was left told : ℕ) (stretch : List KeptCall) (ready new : Result Held Status) (k : Held) (answer : Result ℕ Status) → Led v before → ready ≡ Ok k → PreparesHeld (held h.config v) words answer k → IsTold answer was left told
+  by_answer : (before : List Deed) (v : PacedView) (words was left told : ℕ) (stretch : List KeptCall) (ready new : Result OwnHeap Status) (k : OwnHeap) (answer : Result ℕ Status) → Led v before → ready ≡ Ok k → PreparesHeld (held h.config v) words answer k → IsTold answer was left told
       → told ≡ status_number Done → left ≡ 0 → KeptCalls ready stretch new → AreFree words stretch
   by_answer before v words was left told stretch ready new k (Err why) led at p tells done none d = absurd (let a = ap status_number p.0 in let b = tells.1 in omega (arith, a, b, done))
   by_answer before v words was left told stretch ready new k (Ok n) led at p tells done none d =
       let w : PacedView = paced_by p.0 k.heap k.cycles in
-      free_from before v p.3.work w words stretch new led p.3.works (p.3.ready (sym tells.0 ∙ none)) (subst (λ (x : Result Held Status). KeptCalls x stretch new) (at ∙ ap Ok p.1) d)
+      free_from before v p.3.work w words stretch new led p.3.works (p.3.ready (sym tells.0 ∙ none)) (subst (λ (x : Result OwnHeap Status). KeptCalls x stretch new) (at ∙ ap Ok p.1) d)
 
-  free_kept : (before stretch : List KeptCall) (mid ready new : Result Held Status) (words was left told : ℕ) → KeptCalls (Ok (kept h flow)) before mid → PreparesOpen mid words ready was left told → told ≡ status_number Done → left ≡ 0
+  free_kept : (before stretch : List KeptCall) (mid ready new : Result OwnHeap Status) (words was left told : ℕ) → KeptCalls (Ok (kept h flow)) before mid → PreparesOpen mid words ready was left told → told ≡ status_number Done → left ≡ 0
       → KeptCalls ready stretch new → AreFree words stretch
   free_kept before stretch mid ready new words was left told d p done none e =
       let first = were_kept h.config before (first_view h flow) mid d in
-      let q = subst (λ (x : Result Held Status). PreparesOpen x words ready was left told) first.left p in
+      let q = subst (λ (x : Result OwnHeap Status). PreparesOpen x words ready was left told) first.left p in
       by_answer first.deeds first.view words was left told stretch ready new q.0 q.1 first.done q.2 q.3 q.4 done none e
 
-module _ (s : Settings) (h : Held) (made : IsMadeOf s h) (flow : MetronomeFlow) (k : Held) (status : ℕ) (keeps : Keeps (Ok h) flow (Ok k) status) (done : status ≡ status_number Done) (before : List KeptCall) (mid : Result Held Status) (d : KeptCalls (Ok k) before mid) where
+module _ (s : Settings) (h : OwnHeap) (made : IsMadeOf s h) (flow : MetronomeFlow) (k : OwnHeap) (status : ℕ) (keeps : KeepsOwn (Ok h) flow (Ok k) status) (done : status ≡ status_number Done) (before : List KeptCall) (mid : Result OwnHeap Status) (d : KeptCalls (Ok k) before mid) where
   can : CanKeep h flow
   can = (keeps_done h flow k status keeps done).0
 
   from_kept : KeptCalls (Ok (kept h flow)) before mid
-  from_kept = subst (λ (x : Result Held Status). KeptCalls x before mid) (keeps_done h flow k status keeps done).1 d
+  from_kept = subst (λ (x : Result OwnHeap Status). KeptCalls x before mid) (keeps_done h flow k status keeps done).1 d
 
-  pub keeps_costs : (stretch : List KeptCall) (new : Result Held Status) → KeptCalls mid stretch new → KeepsCosts h flow before stretch
+  pub keeps_costs : (stretch : List KeptCall) (new : Result OwnHeap Status) → KeptCalls mid stretch new → KeepsCosts h flow before stretch
   keeps_costs stretch new e = costs_kept s h made flow can before stretch mid new from_kept e
 
-  pub are_free : (stretch : List KeptCall) (ready new : Result Held Status) (words was left told : ℕ) → PreparesOpen mid words ready was left told → told ≡ status_number Done → left ≡ 0 → KeptCalls ready stretch new → AreFree words stretch
+  pub are_free : (stretch : List KeptCall) (ready new : Result OwnHeap Status) (words was left told : ℕ) → PreparesOpen mid words ready was left told → told ≡ status_number Done → left ≡ 0 → KeptCalls ready stretch new → AreFree words stretch
   are_free stretch ready new words was left told p told_done none e = free_kept s h made flow can before stretch mid ready new words was left told from_kept p told_done none e

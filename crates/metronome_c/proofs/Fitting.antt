@@ -19,7 +19,7 @@ use Rattle.paced.specs.Bounds.{LastsWith}
 use Rattle.paced.specs.Planning.{IsLeastPages}
 use Rattle.paced.specs.Rooms.{planned_flow}
 use Rattle.paced.proofs.Planning.{fastest_lasts}
-use Rattle.metronome_c.specs.declared.held.Held.{Held}
+use Rattle.metronome_c.specs.declared.own_heap.OwnHeap.{OwnHeap}
 use Rattle.metronome_c.specs.declared.planning.MetronomeFlow.{MetronomeFlow}
 use Rattle.metronome_c.specs.declared.status.Status.TheVariants.{Done}
 use Rattle.metronome_c.specs.Keeping.{IsUnused, CanKeep}
@@ -117,14 +117,14 @@ module _ (s : Settings) (d : Config) (is : IsOf s d) (told live largest : ℕ) (
   plan_suits tells done = (plan_leaves tells done).0
 
 -- so it is kept by a heap that was just made
-pub plan_kept : (s : Settings) (h : Held) → IsMadeOf s h → (told live largest : ℕ) (before flow : MetronomeFlow) → TellsPlan s live largest before flow told → told ≡ status_number Done → CanKeep h flow
+pub plan_kept : (s : Settings) (h : OwnHeap) → IsMadeOf s h → (told live largest : ℕ) (before flow : MetronomeFlow) → TellsPlan s live largest before flow told → told ≡ status_number Done → CanKeep h flow
 plan_kept s h made told live largest before flow tells done = record {
   unused = unused h.heap made.0;
   suits = plan_suits s h.config made.1 told live largest before flow tells done;
 }
 
 -- and it lasts there with room for the object
-pub plan_lasts : (s : Settings) (h : Held) → IsMadeOf s h → (told live largest : ℕ) (before flow : MetronomeFlow) → TellsPlan s live largest before flow told → told ≡ status_number Done → LastsWith h.config (plan_in flow) flow.live_words largest
+pub plan_lasts : (s : Settings) (h : OwnHeap) → IsMadeOf s h → (told live largest : ℕ) (before flow : MetronomeFlow) → TellsPlan s live largest before flow told → told ≡ status_number Done → LastsWith h.config (plan_in flow) flow.live_words largest
 plan_lasts s h made told live largest before flow tells done = (plan_leaves s h.config made.1 told live largest before flow tells done).1
 
 -- a flow that suits one configuration of settings suits each

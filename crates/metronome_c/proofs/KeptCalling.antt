@@ -31,7 +31,7 @@ use Rattle.bulk.specs.InOrder.{InOrder, DoesFront, events_of, with_refusal}
 use Rattle.metronome_c.specs.declared.answer.Answer.{Answer}
 use Rattle.metronome_c.specs.declared.bulk_calls.MetronomeProgress.{MetronomeProgress}
 use Rattle.metronome_c.specs.declared.collector.QuantumSpent.{QuantumSpent}
-use Rattle.metronome_c.specs.declared.held.Held.{Held}
+use Rattle.metronome_c.specs.declared.own_heap.OwnHeap.{OwnHeap}
 use Rattle.metronome_c.specs.declared.planning.MetronomeFlow.{MetronomeFlow}
 use Rattle.metronome_c.specs.declared.status.Status.{Status}
 use Rattle.metronome_c.specs.declared.status.Status.TheVariants.{Done}
@@ -40,7 +40,7 @@ use Rattle.metronome_c.specs.Asking.{AsksPaying}
 use Rattle.metronome_c.specs.BulkCalls.{progress_told, DoesList}
 use Rattle.metronome_c.specs.Calls.{Call, Command_called, Begin_called, Quantum_called, TellsEvent}
 use Rattle.metronome_c.specs.Collecting.{BeginsOpen, SpendsOpen}
-use Rattle.metronome_c.specs.Keeping.{kept, CanKeep, KeepsHeld, keep_status, Keeps}
+use Rattle.metronome_c.specs.Keeping.{kept, CanKeep, KeepsHeld, keep_status, KeepsOwn}
 use Rattle.metronome_c.specs.Costs.{paid_first, WasDeeds, WereDeeds}
 use Rattle.metronome_c.specs.KeptCalls.{KeptCall, Called, List_called, Prepare_called, MakeNothing, DoesCommands, DoesKept, KeptCalls, AreWork, WasPiece, WasEvents, WereEvents, KeepsRoom}
 use Rattle.metronome_c.specs.Preparing.{PreparesHeld}
@@ -121,11 +121,11 @@ are_work words (Quantum_refused budget ∷ es) old new p = absurd p.1
 
 module _ (config : Config) where
   -- a heap that keeps a plan
-  abbrev pub held : PacedView → Held
+  abbrev pub held : PacedView → OwnHeap
   held v = record { heap = v.heap; config = config; pacer = Some v.pacer; cycles = v.cycles }
 
   -- what was done is deeds, which count for the cycles, and of which something holds
-  pub record KeptBy (v : PacedView) (Tells : List Deed → Type 0) (next : Result Held Status) : Type 0 where
+  pub record KeptBy (v : PacedView) (Tells : List Deed → Type 0) (next : Result OwnHeap Status) : Type 0 where
     pub deeds : List Deed
     pub view : PacedView
     pub left : next ≡ Ok (held view)
@@ -134,26 +134,26 @@ module _ (config : Config) where
     pub tells : Tells deeds
 
   -- nothing was done
-  none_kept : (v : PacedView) (Tells : List Deed → Type 0) (next : Result Held Status) → next ≡ Ok (held v) → Tells [] → KeptBy v Tells next
+  none_kept : (v : PacedView) (Tells : List Deed → Type 0) (next : Result OwnHeap Status) → next ≡ Ok (held v) → Tells [] → KeptBy v Tells next
   none_kept v Tells next left tells = record { deeds = []; view = v; left = left; done = refl; counts = (refl, refl); tells = tells }
 
   -- a call is deeds
-  abbrev WasKept : PacedView → KeptCall → Result Held Status → Type 0
+  abbrev WasKept : PacedView → KeptCall → Result OwnHeap Status → Type 0
   WasKept v call next = KeptBy v (λ deeds. WasDeeds deeds call) next
 
   -- one event alone
-  one_kept : (v w : PacedView) (e : Event) (call : Call) (next : Result Held Status) → next ≡ Ok (held w) → Path KeepsPlan (state_of v) (e ∷ []) (state_of w) → DoesOn v.heap e w.heap → w.cycles ≡ cycles_after e v.heap w.heap v.cycles → TellsEvent e call
+  one_kept : (v w : PacedView) (e : Event) (call : Call) (next : Result OwnHeap Status) → next ≡ Ok (held w) → Path KeepsPlan (state_of v) (e ∷ []) (state_of w) → DoesOn v.heap e w.heap → w.cycles ≡ cycles_after e v.heap w.heap v.cycles → TellsEvent e call
       → WasKept v (Called call) next
   one_kept v w e call next left path does cycles told =
       let d : Deed = record { work = []; event = e } in
       record { deeds = d ∷ []; view = w; left = left; done = (state_of w, alone_deed (state_of v) (state_of w) e path, refl); counts = (w.heap, does, (refl, cycles)); tells = inr (d, refl, tt, told) }
 
-  step_kept : (v : PacedView) (m : ℕ) (c : Command) (answer : Answer) (next : Result Held Status) → MakesNothing c → Steps (Ok (held v)) m c next answer → WasKept v (Called (Command_called m c answer)) next
+  step_kept : (v : PacedView) (m : ℕ) (c : Command) (answer : Answer) (next : Result OwnHeap Status) → MakesNothing c → Steps (Ok (held v)) m c next answer → WasKept v (Called (Command_called m c answer)) next
   step_kept v m c answer next none s =
       let asked = s.1 in
       one_kept v (record v { heap = asked.1.heap }) (Command_done m c asked.0) (Command_called m c answer) next (asked.3 ∙ ap Ok asked.4.0) (other_path (state_of v) m c asked.0 asked.1.heap none asked.4.1) asked.4.1 refl (ap (Command_called m c) (s.2 ∙ ap answered asked.2))
 
-  make_kept : (v : PacedView) (m dst : ℕ) (shape : Shape) (answer : Answer) (next : Result Held Status) (reply : Result Reply Status)
+  make_kept : (v : PacedView) (m dst : ℕ) (shape : Shape) (answer : Answer) (next : Result OwnHeap Status) (reply : Result Reply Status)
       → AsksPaying (words_of (asks (commands.New dst shape))) (λ x a k. calls.Steps x m (commands.New dst shape) a k) (Ok (held v)) reply next → answer ≡ answered reply → WasKept v (Called (Command_called m (commands.New dst shape) answer)) next
   make_kept v m dst shape answer next (Err why) a told =
       let call = Command_called m (commands.New dst shape) in
@@ -169,29 +169,29 @@ module _ (config : Config) where
       record {
         deeds = d ∷ [];
         view = record mid { heap = a.0.heap };
-        left = a.1 ∙ ap Ok (a.2.2.0 ∙ ap (λ (x : Held). record x { heap = a.0.heap }) same);
+        left = a.1 ∙ ap Ok (a.2.2.0 ∙ ap (λ (x : OwnHeap). record x { heap = a.0.heap }) same);
         done = (record { heap = a.0.heap; counts = mid.pacer.counts }, paid_deed v mid m c reply a.0.heap paid.3 steps, refl);
         counts = cycles_then paid.3.work (e ∷ []) v.heap mid.heap a.0.heap v.cycles mid.cycles mid.cycles paid.3.cycles (a.0.heap, steps, (refl, refl));
         tells = inr (d, refl, are_work (words_of (asks c)) paid.3.work (state_of v) (record { heap = mid.heap; counts = paid.3.before }) paid.3.works, ap (Command_called m c) told);
       }
 
-  command_kept : (v : PacedView) (m : ℕ) (c : Command) (answer : Answer) (next : Result Held Status) → DoesCommand (Ok (held v)) m c next answer → WasKept v (Called (Command_called m c answer)) next
+  command_kept : (v : PacedView) (m : ℕ) (c : Command) (answer : Answer) (next : Result OwnHeap Status) → DoesCommand (Ok (held v)) m c next answer → WasKept v (Called (Command_called m c answer)) next
   command_kept v m (commands.New dst shape) answer next d = make_kept v m dst shape answer next d.0 d.1 d.2
   command_kept v m c answer next d = step_kept v m c answer next tt d
 
-  begin_kept : (v : PacedView) (status : ℕ) (next : Result Held Status) → BeginsOpen (Ok (held v)) next status → WasKept v (Called (Begin_called status)) next
+  begin_kept : (v : PacedView) (status : ℕ) (next : Result OwnHeap Status) → BeginsOpen (Ok (held v)) next status → WasKept v (Called (Begin_called status)) next
   begin_kept v status next d =
       let e = begin_done d.1 in
       let q : PacerView = record v.pacer { counts = counted v.pacer.counts e } in
       one_kept v (paced_by q d.0.heap (cycles_after e v.heap d.0.heap v.cycles)) e (Begin_called status) next (d.2 ∙ ap Ok d.3.0) (begin_path v.pacer q v.heap d.0.heap d.1 d.3.2 refl) (begin_on v.heap d.0.heap d.1 d.3.2) refl (begin_told d.1 status d.4)
 
-  quantum_kept : (v : PacedView) (budget : ℕ) (before after : QuantumSpent) (status : ℕ) (next : Result Held Status) → SpendsOpen (Ok (held v)) budget next before after status → WasKept v (Called (Quantum_called budget before after status)) next
+  quantum_kept : (v : PacedView) (budget : ℕ) (before after : QuantumSpent) (status : ℕ) (next : Result OwnHeap Status) → SpendsOpen (Ok (held v)) budget next before after status → WasKept v (Called (Quantum_called budget before after status)) next
   quantum_kept v budget before after status next d =
       let e = quantum_done budget d.1 in
       let q : PacerView = record v.pacer { counts = counted v.pacer.counts e } in
       one_kept v (paced_by q d.0.heap (cycles_after e v.heap d.0.heap v.cycles)) e (Quantum_called budget before after status) next (d.2 ∙ ap Ok d.3.0) (quantum_path v.pacer q v.heap d.0.heap budget d.1 d.3.2 refl) (quantum_on v.heap d.0.heap budget d.1 d.3.2) refl (quantum_told budget d.1 before after status d.4 d.5)
 
-  list_kept : (v : PacedView) (m : ℕ) (cs : List Command) (told : MetronomeProgress) (next : Result Held Status) → MakeNothing cs → DoesList (Ok (held v)) m cs next told → WasKept v (List_called m cs told) next
+  list_kept : (v : PacedView) (m : ℕ) (cs : List Command) (told : MetronomeProgress) (next : Result OwnHeap Status) → MakeNothing cs → DoesList (Ok (held v)) m cs next told → WasKept v (List_called m cs told) next
   list_kept v m cs told next none d =
       let asked = d.1 in
       let done = asked.4.1 in
@@ -206,7 +206,7 @@ module _ (config : Config) where
         tells = inr ([], done.0, asked.0, none_first es, tt, done.1.done, d.2 ∙ ap progress_told asked.2);
       }
 
-  made_kept : (v : PacedView) (m dst : ℕ) (shape : Shape) (cs : List Command) (told : MetronomeProgress) (next : Result Held Status) (progress : Result Progress Status) → MakeNothing cs
+  made_kept : (v : PacedView) (m dst : ℕ) (shape : Shape) (cs : List Command) (told : MetronomeProgress) (next : Result OwnHeap Status) (progress : Result Progress Status) → MakeNothing cs
       → AsksPaying (shape_words shape) (λ x a k. DoesFront x m (commands.New dst shape ∷ cs) a k) (Ok (held v)) progress next → told ≡ progress_told progress → WasKept v (List_called m (commands.New dst shape ∷ cs) told) next
   made_kept v m dst shape cs told next (Err why) none a is =
       none_kept v (λ deeds. WasDeeds deeds (List_called m (commands.New dst shape ∷ cs) told)) next (a.1 ∙ ap Ok a.2.1.1) (inl (refl, is ∙ ap (λ (w : Status). progress_told (Err w)) a.2.0))
@@ -220,18 +220,18 @@ module _ (config : Config) where
       record {
         deeds = paid_first paid.3.work es;
         view = record mid { heap = a.0.heap };
-        left = a.1 ∙ ap Ok (a.2.2.0 ∙ ap (λ (x : Held). record x { heap = a.0.heap }) same);
+        left = a.1 ∙ ap Ok (a.2.2.0 ∙ ap (λ (x : OwnHeap). record x { heap = a.0.heap }) same);
         done = first_deeds v mid m c cs done.0 progress.refused a.0.heap paid.3 none done.1.order;
         counts = subst (λ (z : List Event). CountsCycles v.heap v.cycles z a.0.heap mid.cycles) (sym (events_paid paid.3.work es))
             (cycles_then paid.3.work es v.heap mid.heap a.0.heap v.cycles mid.cycles mid.cycles paid.3.cycles (list_counts m (c ∷ cs) done.0 progress.refused mid.heap mid.cycles a.0.heap done.1.order));
         tells = inr (paid.3.work, done.0, progress, refl, are_work (words_of (asks c)) paid.3.work (state_of v) (record { heap = mid.heap; counts = paid.3.before }) paid.3.works, done.1.done, is);
       }
 
-  commands_kept : (v : PacedView) (m : ℕ) (cs : List Command) (told : MetronomeProgress) (next : Result Held Status) → DoesCommands (Ok (held v)) m cs next told → WasKept v (List_called m cs told) next
+  commands_kept : (v : PacedView) (m : ℕ) (cs : List Command) (told : MetronomeProgress) (next : Result OwnHeap Status) → DoesCommands (Ok (held v)) m cs next told → WasKept v (List_called m cs told) next
   commands_kept v m (commands.New dst shape ∷ cs) told next d = made_kept v m dst shape cs told next d.1.0 d.0 d.1.1 d.1.2
   commands_kept v m cs told next d = list_kept v m cs told next d.0 d.1
 
-  prepare_kept : (v : PacedView) (words before after status : ℕ) (next : Result Held Status) (k : Held) (answer : Result ℕ Status) → next ≡ Ok k → PreparesHeld (held v) words answer k → WasKept v (Prepare_called words before after status) next
+  prepare_kept : (v : PacedView) (words before after status : ℕ) (next : Result OwnHeap Status) (k : OwnHeap) (answer : Result ℕ Status) → next ≡ Ok k → PreparesHeld (held v) words answer k → WasKept v (Prepare_called words before after status) next
   prepare_kept v words before after status next k (Err why) at p = none_kept v (λ deeds. WasDeeds deeds (Prepare_called words before after status)) next (at ∙ ap Ok p.2) ([], refl, (tt, omega arith))
   prepare_kept v words before after status next k (Ok left) at p =
       let w : PacedView = paced_by p.0 k.heap k.cycles in
@@ -245,7 +245,7 @@ module _ (config : Config) where
         tells = (work, refl, (are_work words work (state_of v) (state_of w) p.3.works, p.3.most));
       }
 
-  call_kept : (v : PacedView) (call : KeptCall) (next : Result Held Status) → DoesKept (Ok (held v)) call next → WasKept v call next
+  call_kept : (v : PacedView) (call : KeptCall) (next : Result OwnHeap Status) → DoesKept (Ok (held v)) call next → WasKept v call next
   call_kept v (Called (Command_called m c answer)) next d = command_kept v m c answer next d
   call_kept v (Called (Begin_called status)) next d = begin_kept v status next d
   call_kept v (Called (Quantum_called budget before after status)) next d = quantum_kept v budget before after status next d
@@ -253,11 +253,11 @@ module _ (config : Config) where
   call_kept v (Prepare_called words before after status) next d = prepare_kept v words before after status next d.0 d.1 d.2 d.3
 
   -- calls are deeds, one call after the other
-  pub were_kept : (calls : List KeptCall) (v : PacedView) (new : Result Held Status) → KeptCalls (Ok (held v)) calls new → KeptBy v (λ deeds. WereDeeds deeds calls) new
+  pub were_kept : (calls : List KeptCall) (v : PacedView) (new : Result OwnHeap Status) → KeptCalls (Ok (held v)) calls new → KeptBy v (λ deeds. WereDeeds deeds calls) new
   were_kept [] v new d = none_kept v (λ deeds. WereDeeds deeds []) new d refl
   were_kept (call ∷ calls) v new d =
       let one = call_kept v call d.0 d.1 in
-      let rest = were_kept calls one.view new (subst (λ (x : Result Held Status). KeptCalls x calls new) one.left d.2) in
+      let rest = were_kept calls one.view new (subst (λ (x : Result OwnHeap Status). KeptCalls x calls new) one.left d.2) in
       record {
         deeds = one.deeds ++ rest.deeds;
         view = rest.view;
@@ -280,28 +280,28 @@ pub were_events : (calls : List KeptCall) (ds : List Deed) → WereDeeds ds call
 were_events [] ds w = ap deed_events w
 were_events (call ∷ calls) ds w = (deed_events w.0, deed_events w.1, ap deed_events w.2 ∙ events_then w.0 w.1, was_events call w.0 w.3, were_events calls w.1 w.4)
 
-module _ (h : Held) (flow : MetronomeFlow) where
-  by_keeping : (k now : Held) (is : Bool) (status : ℕ) → ◌≡◌ {A = Result Held Status} (Ok k) (Ok now) → KeepsHeld h flow is now → status ≡ status_number (keep_status is) → status ≡ status_number Done
-      → CanKeep h flow × ◌≡◌ {A = Result Held Status} (Ok k) (Ok (kept h flow))
+module _ (h : OwnHeap) (flow : MetronomeFlow) where
+  by_keeping : (k now : OwnHeap) (is : Bool) (status : ℕ) → ◌≡◌ {A = Result OwnHeap Status} (Ok k) (Ok now) → KeepsHeld h flow is now → status ≡ status_number (keep_status is) → status ≡ status_number Done
+      → CanKeep h flow × ◌≡◌ {A = Result OwnHeap Status} (Ok k) (Ok (kept h flow))
   by_keeping k now true status at keeps told done = (keeps.0, at ∙ ap Ok keeps.1)
   by_keeping k now false status at keeps told done = absurd (omega (arith, told, done))
 
   -- if C was told that the heap keeps a flow, it can keep it, and does
-  pub keeps_done : (k : Held) (status : ℕ) → Keeps (Ok h) flow (Ok k) status → status ≡ status_number Done → CanKeep h flow × ◌≡◌ {A = Result Held Status} (Ok k) (Ok (kept h flow))
+  pub keeps_done : (k : OwnHeap) (status : ℕ) → KeepsOwn (Ok h) flow (Ok k) status → status ≡ status_number Done → CanKeep h flow × ◌≡◌ {A = Result OwnHeap Status} (Ok k) (Ok (kept h flow))
   keeps_done k status keeps done = by_keeping k keeps.0 keeps.1 status keeps.2 keeps.3 keeps.4 done
 
 -- a heap that keeps a flow from here on, with its pacer
-abbrev pub first_view : Held → MetronomeFlow → PacedView
+abbrev pub first_view : OwnHeap → MetronomeFlow → PacedView
 first_view h flow = paced_by (first_pacer flow.budget (plan_in flow)) h.heap h.cycles
 
-pub just_paced : (s : Settings) (h : Held) → IsMadeOf s h → (flow : MetronomeFlow) → CanKeep h flow → IsJustPaced h.config (plan_in flow) (state_of (first_view h flow))
+pub just_paced : (s : Settings) (h : OwnHeap) → IsMadeOf s h → (flow : MetronomeFlow) → CanKeep h flow → IsJustPaced h.config (plan_in flow) (state_of (first_view h flow))
 just_paced s h made flow can = record {
   heap = made.0;
   settings = made.2;
   counts = ap (λ (b : ℕ). first_counts b (plan_in flow)) can.suits.budget;
 }
 
-module _ (s : Settings) (h : Held) (made : IsMadeOf s h) (flow : MetronomeFlow) (calls : List KeptCall) (new : Result Held Status) where
+module _ (s : Settings) (h : OwnHeap) (made : IsMadeOf s h) (flow : MetronomeFlow) (calls : List KeptCall) (new : Result OwnHeap Status) where
   -- with a plan that can be kept
   room_kept : CanKeep h flow → KeptCalls (Ok (kept h flow)) calls new → KeepsRoom h flow calls new
   room_kept can d =
@@ -320,7 +320,7 @@ module _ (s : Settings) (h : Held) (made : IsMadeOf s h) (flow : MetronomeFlow) 
         holds = course_holds found.course (runs_course events (opened h.heap) found.course (is_course s h made) found.runs);
       }
 
-  pub keeps_room : (k : Held) (status : ℕ) → Keeps (Ok h) flow (Ok k) status → status ≡ status_number Done → KeptCalls (Ok k) calls new → KeepsRoom h flow calls new
+  pub keeps_room : (k : OwnHeap) (status : ℕ) → KeepsOwn (Ok h) flow (Ok k) status → status ≡ status_number Done → KeptCalls (Ok k) calls new → KeepsRoom h flow calls new
   keeps_room k status keeps done d =
       let can = keeps_done h flow k status keeps done in
-      room_kept can.0 (subst (λ (x : Result Held Status). KeptCalls x calls new) can.1 d)
+      room_kept can.0 (subst (λ (x : Result OwnHeap Status). KeptCalls x calls new) can.1 d)

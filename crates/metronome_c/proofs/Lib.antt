@@ -1,16 +1,17 @@
 pub mod Asking
 pub mod Holding
+pub mod Handles
 pub mod Stepping
-pub mod Seating
+pub mod Members
 pub mod Telling
 pub mod Values
-pub mod SeatValues
 pub mod Crossing
 pub mod Moving
 pub mod Making
 pub mod Beginning
 pub mod TouchedPages
 pub mod Kept
+pub mod Listing
 pub mod Preparations
 pub mod Paying
 pub mod Outcomes
@@ -20,5 +21,6 @@ pub mod KeptCalling
 pub mod Costing
 pub mod Soon
 pub mod Fitting
-pub mod SeatPlans
+pub mod Rooms
+pub mod Staying
 pub mod Limits

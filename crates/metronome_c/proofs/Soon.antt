@@ -1,5 +1,5 @@
 -- Calls that prepare for words end soon.
-use Rattle.std.proofs.Common.{◌≡◌, ◌∙◌, ℕ, zero, suc, ◌+◌, ◌<◌, ◌≤◌, List, [], ◌∷◌, ◌++◌, length, Ok, Err, Result, refl, ap, sym, subst, arith, append_assoc, length-append}
+use Rattle.std.proofs.Common.{◌≡◌, ◌∙◌, ℕ, zero, suc, ◌<◌, ◌≤◌, List, [], ◌∷◌, ◌++◌, length, Ok, Err, Result, refl, ap, sym, subst, arith, append_assoc, length-append}
 use Rattle.size_classes.specs.declared.config.Config.{Config}
 use Rattle.size_classes.specs.declared.settings.Settings.{Settings}
 use Rattle.heap_model.specs.Event.{Event}
@@ -9,13 +9,13 @@ use Rattle.paced.specs.Pacing.{Counts, PacedState, PacedView, paced_by, state_of
 use Rattle.paced.proofs.Deeds.{none_works, deeds_path}
 use Rattle.paced.proofs.Paths.{path_then, work_paces, same_plan}
 use Rattle.paced.proofs.Remaining.{pieces_fewer}
-use Rattle.metronome_c.specs.declared.held.Held.{Held}
+use Rattle.metronome_c.specs.declared.own_heap.OwnHeap.{OwnHeap}
 use Rattle.metronome_c.specs.declared.planning.MetronomeFlow.{MetronomeFlow}
 use Rattle.metronome_c.specs.declared.status.Status.{Status}
 use Rattle.metronome_c.specs.declared.status.Status.TheVariants.{Done}
 use Rattle.metronome_c.specs.Costs.{PrepareFor, last_left, EndsSoon}
 use Rattle.metronome_c.specs.Figures.{IsTold}
-use Rattle.metronome_c.specs.Keeping.{CanKeep, Keeps}
+use Rattle.metronome_c.specs.Keeping.{CanKeep, KeepsOwn}
 use Rattle.metronome_c.specs.KeptCalls.{KeptCall, Called, List_called, Prepare_called, KeptCalls, WereEvents}
 use Rattle.metronome_c.specs.Lifetime.{IsMadeOf}
 use Rattle.metronome_c.specs.Planning.{plan_in}
@@ -48,9 +48,9 @@ module _ (config : Config) (words : ℕ) where
     pub none : 0 < last_left left row → MayAsk (state_of view) words → ⊥
 
   abbrev From : List KeptCall → Type 0
-  From calls = (v : PacedView) (left : ℕ) (new : Result Held Status) → Knows v left → PrepareFor words calls → KeptCalls (Ok (held config v)) calls new → Goes v left calls
+  From calls = (v : PacedView) (left : ℕ) (new : Result OwnHeap Status) → Knows v left → PrepareFor words calls → KeptCalls (Ok (held config v)) calls new → Goes v left calls
 
-  one_more : (n before after status : ℕ) (calls : List KeptCall) → From calls → (v : PacedView) (left : ℕ) (next new : Result Held Status) (k : Held) (answer : Result ℕ Status) → Knows v left → PrepareFor words calls → next ≡ Ok k
+  one_more : (n before after status : ℕ) (calls : List KeptCall) → From calls → (v : PacedView) (left : ℕ) (next new : Result OwnHeap Status) (k : OwnHeap) (answer : Result ℕ Status) → Knows v left → PrepareFor words calls → next ≡ Ok k
       → PreparesHeld (held config v) words answer k → IsTold answer before after status → KeptCalls next calls new → Goes v left (Prepare_called n before after status ∷ calls)
   one_more n before after status calls from v left next new k (Err why) i row at p told d = absurd (let a = p.1 in let b = i.enough in omega (arith, a, b))
   one_more n before after status calls from v left next new k (Ok l) i row at p told d =
@@ -81,7 +81,7 @@ module _ (config : Config) (words : ℕ) where
         ready = λ none. piece.ready (sym same ∙ none);
         due = λ some. piece.due (let e = same in omega (arith, e, some));
         enough = (let e = ap (λ (z : Plan). z.cycle_words) (path_plan (WorksFor words) piece.work (state_of v) (state_of w) piece.works) in let b = i.enough in omega (arith, e, b));
-      }) row (subst (λ (x : Result Held Status). KeptCalls x calls new) (at ∙ ap Ok p.1) d)
+      }) row (subst (λ (x : Result OwnHeap Status). KeptCalls x calls new) (at ∙ ap Ok p.1) d)
 
   row_goes : (calls : List KeptCall) → From calls
   row_goes [] v left new i row d = record { view = v; work = []; works = refl; some = λ more. omega arith; none = i.due }
@@ -96,7 +96,7 @@ nothing_left : (n : ℕ) → (0 < n → ⊥) → n ≡ 0
 nothing_left zero none = refl
 nothing_left (suc n) none = absurd (none (omega arith))
 
-module _ (s : Settings) (h : Held) (made : IsMadeOf s h) (flow : MetronomeFlow) (can : CanKeep h flow) (words : ℕ) where
+module _ (s : Settings) (h : OwnHeap) (made : IsMadeOf s h) (flow : MetronomeFlow) (can : CanKeep h flow) (words : ℕ) where
   abbrev first : PacedState
   first = state_of (first_view h flow)
 
@@ -123,7 +123,7 @@ module _ (s : Settings) (h : Held) (made : IsMadeOf s h) (flow : MetronomeFlow) 
           let b = g.some more in
           omega (arith, told, a, b, few)
 
-  by_answer : (before : List KeptCall) (ds : List Deed) (v : PacedView) (was left told : ℕ) (row : List KeptCall) (ready new : Result Held Status) (k : Held) (answer : Result ℕ Status) → AreDone first ds (state_of v) → WereEvents (deed_events ds) before
+  by_answer : (before : List KeptCall) (ds : List Deed) (v : PacedView) (was left told : ℕ) (row : List KeptCall) (ready new : Result OwnHeap Status) (k : OwnHeap) (answer : Result ℕ Status) → AreDone first ds (state_of v) → WereEvents (deed_events ds) before
       → ready ≡ Ok k → PreparesHeld (held h.config v) words answer k → IsTold answer was left told → told ≡ status_number Done → PrepareFor words row → left ≤ length row → KeptCalls ready row new → EndsSoon h flow before words left row
   by_answer before ds v was left told row ready new k (Err why) led were at p tells done are few d = absurd (let a = ap status_number p.0 in let b = tells.1 in omega (arith, a, b, done))
   by_answer before ds v was left told row ready new k (Ok n) led were at p tells done are few d = record {
@@ -145,13 +145,13 @@ module _ (s : Settings) (h : Held) (made : IsMadeOf s h) (flow : MetronomeFlow) 
         ready = piece.ready;
         due = piece.due;
         enough = (let e = ap (λ (z : Plan). z.cycle_words) (path_plan (WorksFor words) piece.work (state_of v) (state_of w) piece.works) in let b = p.2 in omega (arith, e, b));
-      }) are (subst (λ (x : Result Held Status). KeptCalls x row new) (at ∙ ap Ok p.1) d)
+      }) are (subst (λ (x : Result OwnHeap Status). KeptCalls x row new) (at ∙ ap Ok p.1) d)
 
-pub ends_soon : (s : Settings) (h : Held) (made : IsMadeOf s h) (flow : MetronomeFlow) (k : Held) (status : ℕ) → Keeps (Ok h) flow (Ok k) status → status ≡ status_number Done
-    → (before row : List KeptCall) (mid ready new : Result Held Status) (words was left told : ℕ) → KeptCalls (Ok k) before mid → PreparesOpen mid words ready was left told → told ≡ status_number Done
+pub ends_soon : (s : Settings) (h : OwnHeap) (made : IsMadeOf s h) (flow : MetronomeFlow) (k : OwnHeap) (status : ℕ) → KeepsOwn (Ok h) flow (Ok k) status → status ≡ status_number Done
+    → (before row : List KeptCall) (mid ready new : Result OwnHeap Status) (words was left told : ℕ) → KeptCalls (Ok k) before mid → PreparesOpen mid words ready was left told → told ≡ status_number Done
     → PrepareFor words row → left ≤ length row → KeptCalls ready row new → EndsSoon h flow before words left row
 ends_soon s h made flow k status keeps done before row mid ready new words was left told d p told_done are few e =
     let can = keeps_done h flow k status keeps done in
-    let first = were_kept h.config before (first_view h flow) mid (subst (λ (x : Result Held Status). KeptCalls x before mid) can.1 d) in
-    let q = subst (λ (x : Result Held Status). PreparesOpen x words ready was left told) first.left p in
+    let first = were_kept h.config before (first_view h flow) mid (subst (λ (x : Result OwnHeap Status). KeptCalls x before mid) can.1 d) in
+    let q = subst (λ (x : Result OwnHeap Status). PreparesOpen x words ready was left told) first.left p in
     by_answer s h made flow can.0 words before first.deeds first.view was left told row ready new q.0 q.1 first.done (were_events before first.deeds first.tells) q.2 q.3 q.4 told_done are few e

@@ -13,7 +13,7 @@ use Rattle.paced.specs.declared.cycles.Cycles.{Cycles}
 use Rattle.paced.specs.Cycles.{CountsCycles}
 use Rattle.metronome_c.specs.declared.answer.Answer.{Answer}
 use Rattle.metronome_c.specs.declared.collector.QuantumSpent.{QuantumSpent}
-use Rattle.metronome_c.specs.declared.held.Held.{Held}
+use Rattle.metronome_c.specs.declared.own_heap.OwnHeap.{OwnHeap}
 use Rattle.metronome_c.specs.declared.status.Status.{Status}
 use Rattle.metronome_c.specs.declared.status.Status.TheVariants.{Done, Busy, BudgetOutOfRange}
 use Rattle.metronome_c.specs.Answer.{answer_of}
@@ -29,15 +29,15 @@ pub data Call : Type 0 where
   Quantum_called : ℕ → QuantumSpent → QuantumSpent → ℕ → Call
 
 -- what a call does to what the handle holds, as the contract of its export says
-abbrev pub DoesCall : Result Held Status → Call → Result Held Status → Type 0
+abbrev pub DoesCall : Result OwnHeap Status → Call → Result OwnHeap Status → Type 0
 DoesCall old (Command_called m c answer) new = DoesCommand old m c new answer
 DoesCall old (Begin_called status) new = BeginsOpen old new status
 DoesCall old (Quantum_called budget before after status) new = SpendsOpen old budget new before after status
 
 -- calls one after the other
-abbrev pub Calls : Result Held Status → List Call → Result Held Status → Type 0
+abbrev pub Calls : Result OwnHeap Status → List Call → Result OwnHeap Status → Type 0
 Calls old [] new = new ≡ old
-Calls old (call ∷ calls) new = (next : Result Held Status) × DoesCall old call next × Calls next calls new
+Calls old (call ∷ calls) new = (next : Result OwnHeap Status) × DoesCall old call next × Calls next calls new
 
 -- the program is told the outcome of the event by the call
 abbrev pub TellsEvent : Event → Call → Type 0
@@ -57,7 +57,7 @@ AllTellEvents (e ∷ es) (call ∷ calls) = TellsEvent e call × AllTellEvents e
 
 -- The calls are events. They lead from the heap that was made to the one that the handle holds, with the history of the
 -- commands, and to its cycles. Each told the program its outcome. All that is promised of a heap with its history holds there.
-pub record AreEvents (h : Held) (calls : List Call) (new : Result Held Status) : Type 0 where
+pub record AreEvents (h : OwnHeap) (calls : List Call) (new : Result OwnHeap Status) : Type 0 where
   pub events : List Event
   pub course : Course
   pub cycles : Cycles

@@ -1,5 +1,5 @@
 -- Whether a mutator and its slot are there.
-use Rattle.std.specs.Prelude.{◌≡◌, ℕ, Bool, true, false, nat_lt, if◌then◌else◌, Result, Ok, Err}
+use Rattle.std.specs.Prelude.{◌≡◌, ℕ, Bool, true, false, nat_lt, if◌then◌else◌, Option, Some, None, Result, Ok, Err}
 use Rattle.graph_heap.specs.Graph.{Graph}
 use Rattle.graph_heap.specs.declared.command.Command.TheVariants as commands
 use Rattle.graph_heap.specs.declared.command.Refusal.TheVariants.{BadSlot}
@@ -9,8 +9,9 @@ use Rattle.heap_model.specs.State.{HeapState}
 use Rattle.heap_model.specs.Agreement.{Agrees}
 use Rattle.metronome_c.specs.declared.held.Held.{Held}
 use Rattle.metronome_c.specs.declared.status.Status.{Status}
-use Rattle.metronome_c.specs.declared.status.Status.TheVariants.{Done, Refused, NoMutator}
+use Rattle.metronome_c.specs.declared.status.Status.TheVariants.{Done, Refused, NoMutator, Outside}
 use Rattle.metronome_c.specs.Status.{status_number}
+use Rattle.metronome_c.specs.Either.{heap_of}
 use Rattle.metronome_c.specs.Steps.{reply_to}
 
 -- the reply to a command that names a mutator or a slot that isn't there
@@ -29,9 +30,12 @@ abbrev pub slot_status : HeapState → Graph → ℕ → ℕ → Status
 slot_status h g m slot =
     if nat_lt m g.limits.mutators then reply_status (reply_to h g m (commands.Clear slot)) else NoMutator
 
--- C is told the status of a slot, for each graph heap with which the heap agrees, and nothing changes. Without a heap it is
--- told why there is none.
+-- the status of a slot is told, for each graph heap with which the heap agrees; or that the handle doesn't have the turn
+abbrev pub TellsSlot : Option HeapState → ℕ → ℕ → ℕ → Type 0
+TellsSlot None m slot status = status ≡ status_number Outside
+TellsSlot (Some h) m slot status = (g : Graph) → Agrees h g → status ≡ status_number (slot_status h g m slot)
+
+-- C is told the status of a slot of the heap that a handle holds, in its turn, or why it holds none. Nothing changes.
 abbrev pub ChecksSlot : Result Held Status → ℕ → ℕ → Result Held Status → ℕ → Type 0
 ChecksSlot (Err why) m slot new status = (new ≡ Err why) × (status ≡ status_number why)
-ChecksSlot (Ok h) m slot new status =
-    (new ≡ Ok h) × ((g : Graph) → Agrees h.heap g → status ≡ status_number (slot_status h.heap g m slot))
+ChecksSlot (Ok held) m slot new status = (new ≡ Ok held) × TellsSlot (heap_of held) m slot status

@@ -8,7 +8,7 @@ use Rattle.paced.specs.Bounds.{words_in, Deed, without_work, events_of, words_as
 use Rattle.bulk.specs.declared.progress.Progress.{Progress}
 use Rattle.bulk.specs.InOrder.{events_of as commands_done, with_refusal}
 use Rattle.metronome_c.specs.declared.bulk_calls.MetronomeProgress.{MetronomeProgress}
-use Rattle.metronome_c.specs.declared.held.Held.{Held}
+use Rattle.metronome_c.specs.declared.own_heap.OwnHeap.{OwnHeap}
 use Rattle.metronome_c.specs.declared.planning.MetronomeFlow.{MetronomeFlow}
 use Rattle.metronome_c.specs.declared.status.Status.TheVariants.{AbovePlan}
 use Rattle.metronome_c.specs.BulkCalls.{progress_told}
@@ -57,7 +57,7 @@ IsCheap flow d = words_in d.event ≤ flow.quantum_words → quanta_in d.work �
 
 -- Live objects keep to the plan whenever a cycle began, before or in the stretch. Then the collector's work keeps to the words
 -- of the stretch, if the plan leaves room for the largest object. Each object costs few quanta, whether it does or not.
-pub record CostsFew (h : Held) (flow : MetronomeFlow) (earlier : List Event) (ds : List Deed) : Type 0 where
+pub record CostsFew (h : OwnHeap) (flow : MetronomeFlow) (earlier : List Event) (ds : List Deed) : Type 0 where
   pub keeps : (largest : ℕ) → LastsWith h.config (plan_in flow) flow.live_words largest
       → AllByRecursion (AsksWithin largest) ds
       → LiveWithinPlan h.config (plan_in flow) flow.live_words (earlier ++ events_of ds)
@@ -69,7 +69,7 @@ pub record CostsFew (h : Held) (flow : MetronomeFlow) (earlier : List Event) (ds
   pub only : AllByRecursion WorksForWords ds
 
 -- The calls before a stretch were events, and those of the stretch were deeds, which cost few quanta.
-pub record KeepsCosts (h : Held) (flow : MetronomeFlow) (before stretch : List KeptCall) : Type 0 where
+pub record KeepsCosts (h : OwnHeap) (flow : MetronomeFlow) (before stretch : List KeptCall) : Type 0 where
   pub earlier : List Event
   pub deeds : List Deed
   pub were_before : WereEvents earlier before
@@ -97,7 +97,7 @@ last_left left (call ∷ calls) = last_left left calls
 
 -- The calls before were events, and those that prepare were the collector's own work. None is left at last, if the plan leaves
 -- room for the words, and live objects keep to the plan whenever a cycle began.
-pub record EndsSoon (h : Held) (flow : MetronomeFlow) (before : List KeptCall) (words left : ℕ) (row : List KeptCall)
+pub record EndsSoon (h : OwnHeap) (flow : MetronomeFlow) (before : List KeptCall) (words left : ℕ) (row : List KeptCall)
     : Type 0 where
   pub earlier : List Event
   pub work : List Event

@@ -1,5 +1,6 @@
 -- Figures of a heap as a whole, as C sees them.
 use Rattle.std.specs.Prelude.{◌≡◌, ℕ, if◌then◌else◌, length, Option, Some, None, Result, Ok, Err}
+use Rattle.std.specs.Option.{option_map}
 use Rattle.graph_heap.specs.Graph.{Graph}
 use Rattle.size_classes.specs.Sizes.{size_of}
 use Rattle.heap_model.specs.Pages.{free_pages, page_at}
@@ -15,10 +16,13 @@ use Rattle.roots.specs.Used.{used_in}
 use Rattle.metronome_c.specs.declared.block.MetronomeBlock.{MetronomeBlock}
 use Rattle.metronome_c.specs.declared.figures.Counts.{Counts}
 use Rattle.metronome_c.specs.declared.held.Held.{Held}
+use Rattle.metronome_c.specs.declared.held.Held.TheVariants as holds
 use Rattle.metronome_c.specs.declared.page.MetronomePage.{MetronomePage}
 use Rattle.metronome_c.specs.declared.status.Status.{Status}
-use Rattle.metronome_c.specs.declared.status.Status.TheVariants.{Done}
+use Rattle.metronome_c.specs.declared.status.Status.TheVariants.{Done, Outside}
 use Rattle.metronome_c.specs.Answer.{sized, shape_of}
+use Rattle.metronome_c.specs.Asking.{told_or}
+use Rattle.metronome_c.specs.Either.{heap_of, found_of}
 use Rattle.metronome_c.specs.Status.{status_number}
 
 -- C is told what was found of a heap, or why there is none
@@ -26,21 +30,23 @@ abbrev pub IsTold : {A : Type 0} → Result A Status → A → A → ℕ → Typ
 IsTold (Err why) before after status = (after ≡ before) × (status ≡ status_number why)
 IsTold (Ok a) before after status = (after ≡ a) × (status ≡ status_number Done)
 
--- C is told something of a heap, which stays as it is. If the handle holds none, C is only told why.
-abbrev pub Tells : {A : Type 0} → (HeapState → A) → Result Held Status → Result Held Status → A → A → ℕ
-    → Type 0
-Tells tell (Err why) new before after status = (new ≡ Err why) × (after ≡ before) × (status ≡ status_number why)
-Tells tell (Ok h) new before after status = (new ≡ Ok h) × (after ≡ tell h.heap) × (status ≡ status_number Done)
+-- C is told what is found of what a handle holds, or why there is nothing to tell, and nothing changes. The value that C had before
+-- stands first.
+abbrev pub TellsFound : {A : Type 0} → (Held → Result A Status) → Result Held Status → Result Held Status → A × A → ℕ → Type 0
+TellsFound find old new values status = (new ≡ old) × IsTold (found_of find old) values.0 values.1 status
 
--- C is told what is found of what it holds, or why there is none, and nothing changes
-abbrev pub TellsFound : {A : Type 0} → (Result Held Status → Result A Status) → Result Held Status → Result Held Status → A → A
-    → ℕ → Type 0
-TellsFound find old new before after status = (new ≡ old) × IsTold (find old) before after status
+-- the figure of the heap that is held, in the turn
+abbrev pub seen : {A : Type 0} → (HeapState → A) → Held → Result A Status
+seen figure held = told_or Outside (option_map figure (heap_of held))
 
--- the last cycle that ended in the heap that C holds
-abbrev pub ended_in : Result Held Status → Result Cycle Status
-ended_in (Ok h) = Ok h.cycles.ended
-ended_in (Err why) = Err why
+-- C is told something of the heap that a handle holds, in its turn
+abbrev pub Tells : {A : Type 0} → (HeapState → A) → Result Held Status → Result Held Status → A × A → ℕ → Type 0
+Tells figure old new values status = TellsFound (seen figure) old new values status
+
+-- the last cycle that ended in the heap that is held, in the turn
+abbrev pub last_ended : Held → Result Cycle Status
+last_ended (holds.Own h) = Ok h.cycles.ended
+last_ended (holds.Shared v) = told_or Outside (option_map (λ r. r.cycles.ended) v.turn)
 
 -- a heap represents some graph heap at present, and one when the last cycle began
 abbrev pub RepresentsSome : HeapState → Type 0

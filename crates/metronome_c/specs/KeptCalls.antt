@@ -12,7 +12,7 @@ use Rattle.paced.specs.Rooms.{FindsRoom}
 use Rattle.bulk.specs.declared.progress.Progress.{Progress}
 use Rattle.bulk.specs.InOrder.{events_of, with_refusal}
 use Rattle.metronome_c.specs.declared.bulk_calls.MetronomeProgress.{MetronomeProgress}
-use Rattle.metronome_c.specs.declared.held.Held.{Held}
+use Rattle.metronome_c.specs.declared.own_heap.OwnHeap.{OwnHeap}
 use Rattle.metronome_c.specs.declared.planning.MetronomeFlow.{MetronomeFlow}
 use Rattle.metronome_c.specs.declared.status.Status.{Status}
 use Rattle.metronome_c.specs.declared.status.Status.TheVariants.{AbovePlan}
@@ -36,21 +36,21 @@ MakeNothing [] = Unit {0}
 MakeNothing (c ∷ cs) = MakesNothing c × MakeNothing cs
 
 -- A list of commands is done as the contract of an export says: it makes an object first, or none.
-abbrev pub DoesCommands : Result Held Status → ℕ → List Command → Result Held Status → MetronomeProgress → Type 0
+abbrev pub DoesCommands : Result OwnHeap Status → ℕ → List Command → Result OwnHeap Status → MetronomeProgress → Type 0
 DoesCommands old m (commands.New dst shape ∷ cs) new told =
     MakeNothing cs × MakesList old (shape_words shape) m (commands.New dst shape ∷ cs) new told
 DoesCommands old m cs new told = MakeNothing cs × DoesList old m cs new told
 
 -- what a call does to what the handle holds, as the contract of its export says
-abbrev pub DoesKept : Result Held Status → KeptCall → Result Held Status → Type 0
+abbrev pub DoesKept : Result OwnHeap Status → KeptCall → Result OwnHeap Status → Type 0
 DoesKept old (Called call) new = DoesCall old call new
 DoesKept old (List_called m cs told) new = DoesCommands old m cs new told
 DoesKept old (Prepare_called words before after status) new = PreparesOpen old words new before after status
 
 -- such calls one after the other
-abbrev pub KeptCalls : Result Held Status → List KeptCall → Result Held Status → Type 0
+abbrev pub KeptCalls : Result OwnHeap Status → List KeptCall → Result OwnHeap Status → Type 0
 KeptCalls old [] new = new ≡ old
-KeptCalls old (call ∷ calls) new = (next : Result Held Status) × DoesKept old call next × KeptCalls next calls new
+KeptCalls old (call ∷ calls) new = (next : Result OwnHeap Status) × DoesKept old call next × KeptCalls next calls new
 
 -- what the collector does of itself: a cycle begins, or a quantum is done
 abbrev pub IsWork : Event → Type 0
@@ -100,9 +100,9 @@ WereEvents es (call ∷ calls) = (first : List Event) × (rest : List Event) × 
 -- The calls were events, which lead from the heap that keeps a plan to the one that the handle holds, and to its cycles. If
 -- live objects are within the plan whenever one of them begins a cycle, no reply is the refusal for lack of space. All that is
 -- promised of a heap with its history holds there.
-pub record KeepsRoom (h : Held) (flow : MetronomeFlow) (calls : List KeptCall) (new : Result Held Status) : Type 0 where
+pub record KeepsRoom (h : OwnHeap) (flow : MetronomeFlow) (calls : List KeptCall) (new : Result OwnHeap Status) : Type 0 where
   pub events : List Event
-  pub left : Held
+  pub left : OwnHeap
   pub is_left : new ≡ Ok left
   pub were : WereEvents events calls
   pub room : FindsRoom h.config (flow_of flow) h.heap left.heap events

@@ -8,15 +8,22 @@ use Rattle.heap_model.specs.Opening.{IsOpening}
 use Rattle.heap_model.specs.Settings.{settings_of, settings_by}
 use Rattle.paced.specs.Cycles.{no_cycles}
 use Rattle.metronome_c.specs.declared.held.Held.{Held}
+use Rattle.metronome_c.specs.declared.held.Held.TheVariants as holds
+use Rattle.metronome_c.specs.declared.own_heap.OwnHeap.{OwnHeap}
 use Rattle.metronome_c.specs.declared.status.Status.{Status}
 use Rattle.metronome_c.specs.declared.status.Status.TheVariants.{Done, NoMemory, Open, Closed}
 use Rattle.metronome_c.specs.Status.{status_number, fault_status}
 
 -- a heap from which histories start, of a configuration with the numbers of these settings; no plan is kept, and no cycle has
 -- begun
-abbrev pub IsMadeOf : Settings → Held → Type 0
+abbrev pub IsMadeOf : Settings → OwnHeap → Type 0
 IsMadeOf s h = IsOpening h.heap × IsOf s h.config × (settings_of h.heap ≡ settings_by h.config) × (h.pacer ≡ None)
     × (h.cycles ≡ no_cycles)
+
+-- a handle holds such a heap of its own
+abbrev pub IsOwnOf : Settings → Held → Type 0
+IsOwnOf s (holds.Own h) = IsMadeOf s h
+IsOwnOf s (holds.Shared m) = ⊥
 
 -- such a thing is made; or there was no memory for it, and the handle is closed
 abbrev pub IsMade : {S : Type 0} → (S → Type 0) → Result S Status → ℕ → Type 0

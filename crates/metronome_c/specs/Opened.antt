@@ -1,9 +1,7 @@
 -- The content of a handle, if it has any.
 use Rattle.std.specs.Prelude.{ℕ, ◌==◌, Bool, true, false, Option, Some, None, Result, Ok, Err}
-use Rattle.heap_shared.specs.Members.{MemberView}
 use Rattle.metronome_c.specs.declared.held.Held.{Held}
 use Rattle.metronome_c.specs.declared.metronome.Metronome.{Metronome}
-use Rattle.metronome_c.specs.declared.seats.seat.MetronomeSeat.{MetronomeSeat}
 use Rattle.metronome_c.specs.declared.status.Status.{Status}
 use Rattle.metronome_c.specs.declared.status.Status.TheVariants.{Closed, BadHandle}
 
@@ -17,10 +15,6 @@ abbrev pub held_by : {S : Type 0} → ℕ → Option S → Result S Status
 held_by check (Some s) = Ok s
 held_by check None = Err (absence (check == 0))
 
--- what a handle holds: a heap, with its pacer if a plan is kept, or the status that says why it holds none
+-- what a handle holds: a heap of its own or a member of a shared one, or the status that says why it holds neither
 abbrev pub held_in : Metronome → Result Held Status
 held_in m = held_by m.check m.handle.value
-
--- what a handle holds: a seat, or the status that says why it holds none
-abbrev pub seat_in : MetronomeSeat → Result MemberView Status
-seat_in m = held_by m.check m.handle.value

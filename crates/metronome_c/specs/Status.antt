@@ -45,6 +45,9 @@ status_number statuses.AbovePlan = 47
 status_number statuses.NoMutator = 48
 status_number statuses.SlotsUsed = 49
 status_number statuses.OtherMutator = 50
+status_number statuses.NotShared = 51
+status_number statuses.IsShared = 52
+status_number statuses.InUse = 53
 
 -- all statuses, in the order of their numbers: one for each setting, in the order of `Key::ALL`
 abbrev pub all_statuses : List Status
@@ -102,15 +105,18 @@ status_text statuses.ScheduleOutOfRange = codes "collector_ticks times rate is o
 status_text statuses.BadHandle = codes "this is no handle"
 status_text (statuses.SettingOutOfRange key) = setting_text key
 status_text statuses.OtherVersion = codes "the program was built for another version"
-status_text statuses.Taken = codes "another seat has the turn"
-status_text statuses.Inside = codes "the seat has the turn"
-status_text statuses.Outside = codes "the seat hasn't the turn"
-status_text statuses.NotYours = codes "the mutator isn't the seat's"
+status_text statuses.Taken = codes "another handle has the turn"
+status_text statuses.Inside = codes "the handle has the turn"
+status_text statuses.Outside = codes "the handle doesn't have the turn"
+status_text statuses.NotYours = codes "the mutator is another handle's"
 status_text statuses.NoPlan = codes "no plan fits"
 status_text statuses.AbovePlan = codes "the object is above the plan"
 status_text statuses.NoMutator = codes "no such mutator"
 status_text statuses.SlotsUsed = codes "all slots are used"
 status_text statuses.OtherMutator = codes "the root is another mutator's"
+status_text statuses.NotShared = codes "the heap isn't shared"
+status_text statuses.IsShared = codes "the heap is shared"
+status_text statuses.InUse = codes "the heap is in use"
 
 -- the text of a number, which may be that of no status
 abbrev pub text_or_none : Option Status → List ℕ

@@ -13,24 +13,31 @@ use Rattle.fragmentation.specs.Flow.{words_of}
 use Rattle.machine.specs.Plan as calls
 use Rattle.metronome_c.specs.declared.answer.Answer.{Answer}
 use Rattle.metronome_c.specs.declared.answer.MetronomeShape.{MetronomeShape}
-use Rattle.metronome_c.specs.declared.held.Held.{Held}
+use Rattle.metronome_c.specs.declared.own_heap.OwnHeap.{OwnHeap}
 use Rattle.metronome_c.specs.declared.status.Status.{Status}
 use Rattle.metronome_c.specs.Answer.{answered, shape_in}
 use Rattle.metronome_c.specs.Asking.{AsksTold, AsksPaying}
+use Rattle.metronome_c.specs.OwnHeap.{OnHeap}
 
 -- A command is a step of the heap, as the heap's method for it says, and the answer tells its reply. Without a heap there is
 -- none, and the answer says why.
-abbrev pub Steps : Result Held Status → ℕ → Command → Result Held Status → Answer → Type 0
+abbrev pub Steps : Result OwnHeap Status → ℕ → Command → Result OwnHeap Status → Answer → Type 0
 Steps old m c new a = AsksTold (λ h r k. calls.Steps h m c r k) old new a
 
 -- A command that makes an object is such a step once its words were paid for, if a plan is kept. If they are more than the plan
 -- has for a whole cycle, the answer says so, and nothing is done.
-abbrev pub Makes : Result Held Status → ℕ → Command → Result Held Status → Answer → Type 0
+abbrev pub Makes : Result OwnHeap Status → ℕ → Command → Result OwnHeap Status → Answer → Type 0
 Makes old m c new a = (reply : Result Reply Status)
     × AsksPaying (words_of (asks c)) (λ h r k. calls.Steps h m c r k) old reply new × (a ≡ answered reply)
 
+-- a command is such a step of a heap of its own, and its reply is told
+pub record StepsTold (old : OwnHeap) (m : ℕ) (c : Command) (answer : Result Reply Status) (new : OwnHeap) : Type 0 where
+  pub reply : Reply
+  pub does : OnHeap (λ h r k. calls.Steps h m c r k) old reply new
+  pub is : answer ≡ Ok reply
+
 -- a command, whether it makes an object or not
-abbrev pub DoesCommand : Result Held Status → ℕ → Command → Result Held Status → Answer → Type 0
+abbrev pub DoesCommand : Result OwnHeap Status → ℕ → Command → Result OwnHeap Status → Answer → Type 0
 DoesCommand old m (commands.New dst shape) new a = Makes old m (commands.New dst shape) new a
 DoesCommand old m c new a = Steps old m c new a
 
@@ -39,6 +46,6 @@ abbrev pub reply_to : HeapState → Graph → ℕ → Command → Reply
 reply_to h g m c = reply_of (room_for h c) g m c
 
 -- The shape that Describe tells, or the one from before if it is refused.
-abbrev pub TellsShape : Result Held Status → ℕ → Command → MetronomeShape → MetronomeShape → Type 0
+abbrev pub TellsShape : Result OwnHeap Status → ℕ → Command → MetronomeShape → MetronomeShape → Type 0
 TellsShape (Err why) m c before after = after ≡ before
 TellsShape (Ok h) m c before after = (g : Graph) → Agrees h.heap g → after ≡ shape_in before (reply_to h.heap g m c)

@@ -56,10 +56,10 @@ pub extern "C" fn metronome_block(
     number: usize,
     block: &mut MetronomeBlock,
 ) -> u32
-    ensures { Tells (block_of page number) (held_in heap.old) (held_in heap.new) block.entry.now block.exit.now result }
+    ensures { Tells (block_of page number) (held_in heap.old) (held_in heap.new) (block.entry.now, block.exit.now) result }
 {
     tell(
         block,
-        heap.ask(|inner| MetronomeBlock::from_heap(inner, page, number)),
+        heap.inspect(|inner| MetronomeBlock::from_heap(inner, page, number)),
     )
 }

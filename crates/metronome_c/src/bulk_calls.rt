@@ -4,10 +4,13 @@ ghost use Rattle.graph_heap.specs.declared.command.TheConstants.{PLAIN_CELLS as 
 ghost use Rattle.graph_heap.specs.declared.command.Shape.TheVariants as shapes;
 ghost use Rattle.paced.specs.Pacing.{shape_words};
 ghost use Rattle.bulk.specs.Lists.{clears, moves, gets, puts, copies, makes};
-ghost use Rattle.metronome_c.specs.BulkCalls.{progress_told, too_many, DoesList, MakesList, ReadsList};
+ghost use Rattle.metronome_c.specs.BulkCalls.{progress_told, too_many, DoesEach, MakesEach, ReadsEach, ReadsWords};
 ghost use Rattle.metronome_c.specs.Opened.{held_in};
 
+use crate::figures::found_in;
+use crate::held::Held;
 use crate::metronome::Metronome;
+use crate::replying::told;
 use crate::status::Status;
 use bulk::Progress;
 use graph_heap::{PLAIN_CELLS, Refusal, Shape};
@@ -57,10 +60,11 @@ pub extern "C" fn metronome_clear_slots(
     first: u32,
     count: u32,
 ) -> MetronomeProgress
-    ensures { DoesList (held_in heap.old) mutator (clears first count) (held_in heap.new) result }
+    ensures { DoesEach (held_in heap.old) mutator (clears first count) (held_in heap.new) result }
 {
-    MetronomeProgress::from_outcome(heap.ask(|inner| bulk::clear_slots(
-        inner, mutator, first, count,
+    MetronomeProgress::from_outcome(found_in(heap.ask(
+        |own| own.clear_slots(mutator, first, count),
+        |member| told(member.clear_slots(mutator, first, count)),
     )))
 }
 
@@ -72,9 +76,12 @@ pub extern "C" fn metronome_move(
     dst: u32,
     src: u32,
 ) -> MetronomeProgress
-    ensures { DoesList (held_in heap.old) mutator (moves dst src) (held_in heap.new) result }
+    ensures { DoesEach (held_in heap.old) mutator (moves dst src) (held_in heap.new) result }
 {
-    MetronomeProgress::from_outcome(heap.ask(|inner| bulk::move_slot(inner, mutator, dst, src)))
+    MetronomeProgress::from_outcome(found_in(heap.ask(
+        |own| own.move_slot(mutator, dst, src),
+        |member| told(member.move_slot(mutator, dst, src)),
+    )))
 }
 
 /// Writes at most 252 words into as many word cells of an object, from the first on. If there are more, none is written.
@@ -87,14 +94,15 @@ pub extern "C" fn metronome_put_words_from(
     words: &[u64],
 ) -> MetronomeProgress
     ensures few { length words.now ≤ most_cells
-        → DoesList (held_in heap.old) mutator (puts obj first words.now) (held_in heap.new) result }
+        → DoesEach (held_in heap.old) mutator (puts obj first words.now) (held_in heap.new) result }
     ensures many { most_cells < length words.now → (held_in heap.new ≡ held_in heap.old) × (result ≡ too_many) }
 {
     if words.len() > PLAIN_CELLS as usize {
         return MetronomeProgress::too_many();
     }
-    MetronomeProgress::from_outcome(heap.ask(|inner| bulk::put_words(
-        inner, mutator, obj, first, words,
+    MetronomeProgress::from_outcome(found_in(heap.ask(
+        |own| own.put_words(mutator, obj, first, words),
+        |member| told(member.put_words(mutator, obj, first, words)),
     )))
 }
 
@@ -108,7 +116,7 @@ pub extern "C" fn metronome_get_words_into(
     first: u32,
     words: &mut [u64],
 ) -> MetronomeProgress
-    ensures few { length words.old ≤ most_cells → ReadsList (held_in heap.old) mutator
+    ensures few { length words.old ≤ most_cells → ReadsEach (held_in heap.old) mutator
         (gets obj first (length words.old)) (held_in heap.new) (words.old, words.new) result }
     ensures many { most_cells < length words.old
         → (held_in heap.new ≡ held_in heap.old) × (words.new ≡ words.old) × (result ≡ too_many) }
@@ -133,18 +141,17 @@ pub extern "C" fn metronome_copy_refs(
     to_first: u32,
     count: u32,
 ) -> MetronomeProgress
-    ensures few { count ≤ most_cells → DoesList (held_in heap.old) mutator
+    ensures few { count ≤ most_cells → DoesEach (held_in heap.old) mutator
         (copies through from from_first to to_first count) (held_in heap.new) result }
     ensures many { most_cells < count → (held_in heap.new ≡ held_in heap.old) × (result ≡ too_many) }
 {
     if count > PLAIN_CELLS {
         return MetronomeProgress::too_many();
     }
-    MetronomeProgress::from_outcome(heap.ask(|inner| {
-        bulk::copy_refs(
-            inner, mutator, through, from, from_first, to, to_first, count,
-        )
-    }))
+    MetronomeProgress::from_outcome(found_in(heap.ask(
+        |own| own.copy_refs(mutator, through, from, from_first, to, to_first, count),
+        |member| told(member.copy_refs(mutator, through, from, from_first, to, to_first, count)),
+    )))
 }
 
 /// Makes an object of reference cells and word cells in slot dst. Then it stores what slots hold in its first reference cells,
@@ -160,7 +167,7 @@ pub extern "C" fn metronome_new_from(
     contents: &[u64],
 ) -> MetronomeProgress
     ensures few { length slots.now + length contents.now ≤ most_cells
-        → MakesList (held_in heap.old) (shape_words (shapes.Plain refs words)) mutator
+        → MakesEach (held_in heap.old) (shape_words (shapes.Plain refs words)) mutator
         (makes dst (shapes.Plain refs words) slots.now contents.now) (held_in heap.new) result }
     ensures many { most_cells < length slots.now + length contents.now
         → (held_in heap.new ≡ held_in heap.old) × (result ≡ too_many) }
@@ -170,7 +177,38 @@ pub extern "C" fn metronome_new_from(
         return MetronomeProgress::too_many();
     }
     let shape = Shape::Plain { refs, words };
-    MetronomeProgress::from_outcome(heap.ask_paying(shape, |inner| {
-        bulk::new_with(inner, mutator, dst, shape, slots, contents)
-    }))
+    MetronomeProgress::from_outcome(found_in(heap.ask(
+        |own| own.new_with(mutator, dst, shape, slots, contents),
+        |member| told(member.new_with(mutator, dst, shape, slots, contents)),
+    )))
+}
+
+impl Metronome {
+    /// Reads words of an object of the heap, if there is one, as `bulk::get_words` does.
+    #[inline(always)]
+    fn read_words(
+        &mut self,
+        mutator: u32,
+        obj: u32,
+        first: u32,
+        words: &mut [u64],
+    ) -> Result<Progress, Status>
+        requires { length words.old ≤ most_cells }
+        ensures { ReadsWords (held_in self.old) mutator (gets obj first (length words.old)) (held_in self.new)
+            (words.old, words.new) result }
+    {
+        if self.is_own() {
+            return match self.handle.lend() {
+                Held::Own(own) => Ok(bulk::get_words(&mut own.heap, mutator, obj, first, words)),
+                Held::Shared(_) => unreachable!(),
+            };
+        }
+        if !self.is_shared() {
+            return Err(self.why_empty());
+        }
+        match self.handle.lend() {
+            Held::Own(_) => unreachable!(),
+            Held::Shared(seated) => told(seated.member().get_words(mutator, obj, first, words)),
+        }
+    }
 }

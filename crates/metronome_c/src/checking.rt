@@ -44,7 +44,7 @@ fn status_of_reply(reply: Reply) -> Status
 pub extern "C" fn metronome_check_slot(heap: &mut Metronome, mutator: u32, slot: u32) -> u32
     ensures { ChecksSlot (held_in heap.old) mutator slot (held_in heap.new) result }
 {
-    let status = match heap.ask(|inner| status_of_slot(inner, mutator, slot)) {
+    let status = match heap.inspect(|inner| status_of_slot(inner, mutator, slot)) {
         Ok(status) => status,
         Err(why) => why,
     };

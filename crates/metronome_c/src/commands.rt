@@ -2,11 +2,11 @@
 ghost use Rattle.graph_heap.specs.declared.command.Command.TheVariants as commands;
 ghost use Rattle.graph_heap.specs.declared.command.Shape.TheVariants as shapes;
 ghost use Rattle.metronome_c.specs.Opened.{held_in};
-ghost use Rattle.metronome_c.specs.Steps.{Makes, Steps, TellsShape};
+ghost use Rattle.metronome_c.specs.Commands.{Answers, Describes};
 
 use crate::answer::{Answer, MetronomeShape};
 use crate::metronome::Metronome;
-use graph_heap::Shape;
+use graph_heap::{Command, Shape};
 
 /// Makes an object of reference cells and word cells in slot dst.
 #[unsafe(no_mangle)]
@@ -17,7 +17,7 @@ pub extern "C" fn metronome_new_plain(
     refs: u32,
     words: u32,
 ) -> Answer
-    ensures { Makes (held_in heap.old) mutator (commands.New dst (shapes.Plain refs words)) (held_in heap.new) result }
+    ensures { Answers (held_in heap.old) mutator (commands.New dst (shapes.Plain refs words)) (held_in heap.new) result }
 {
     heap.make(mutator, dst, Shape::Plain { refs, words })
 }
@@ -30,7 +30,7 @@ pub extern "C" fn metronome_new_refs(
     dst: u32,
     refs: u32,
 ) -> Answer
-    ensures { Makes (held_in heap.old) mutator (commands.New dst (shapes.RefArray refs)) (held_in heap.new) result }
+    ensures { Answers (held_in heap.old) mutator (commands.New dst (shapes.RefArray refs)) (held_in heap.new) result }
 {
     heap.make(mutator, dst, Shape::RefArray(refs))
 }
@@ -43,7 +43,7 @@ pub extern "C" fn metronome_new_words(
     dst: u32,
     words: u32,
 ) -> Answer
-    ensures { Makes (held_in heap.old) mutator (commands.New dst (shapes.WordArray words)) (held_in heap.new) result }
+    ensures { Answers (held_in heap.old) mutator (commands.New dst (shapes.WordArray words)) (held_in heap.new) result }
 {
     heap.make(mutator, dst, Shape::WordArray(words))
 }
@@ -57,9 +57,14 @@ pub extern "C" fn metronome_load(
     obj: u32,
     i: u32,
 ) -> Answer
-    ensures { Steps (held_in heap.old) mutator (commands.Load dst obj i) (held_in heap.new) result }
+    ensures { Answers (held_in heap.old) mutator (commands.Load dst obj i) (held_in heap.new) result }
 {
-    heap.answer(|inner| inner.load(mutator, dst, obj, i))
+    heap.answer(
+        mutator,
+        move || Command::Load { dst, obj, i },
+        move |own| own.load(mutator, dst, obj, i),
+        move |shared| shared.load(mutator, dst, obj, i),
+    )
 }
 
 /// Stores slot src in a reference cell.
@@ -71,9 +76,14 @@ pub extern "C" fn metronome_store(
     i: u32,
     src: u32,
 ) -> Answer
-    ensures { Steps (held_in heap.old) mutator (commands.Store obj i src) (held_in heap.new) result }
+    ensures { Answers (held_in heap.old) mutator (commands.Store obj i src) (held_in heap.new) result }
 {
-    heap.answer(|inner| inner.store(mutator, obj, i, src))
+    heap.answer(
+        mutator,
+        move || Command::Store { obj, i, src },
+        move |own| own.store(mutator, obj, i, src),
+        move |shared| shared.store(mutator, obj, i, src),
+    )
 }
 
 /// Stores slot new in a reference cell, if the cell holds the object of slot expect.
@@ -86,17 +96,32 @@ pub extern "C" fn metronome_compare_store(
     expect: u32,
     new: u32,
 ) -> Answer
-    ensures { Steps (held_in heap.old) mutator (commands.CompareStore obj i expect new) (held_in heap.new) result }
+    ensures { Answers (held_in heap.old) mutator (commands.CompareStore obj i expect new) (held_in heap.new) result }
 {
-    heap.answer(|inner| inner.compare_store(mutator, obj, i, expect, new))
+    heap.answer(
+        mutator,
+        move || Command::CompareStore {
+            obj,
+            i,
+            expect,
+            new,
+        },
+        move |own| own.compare_store(mutator, obj, i, expect, new),
+        move |shared| shared.compare_store(mutator, obj, i, expect, new),
+    )
 }
 
 /// Reads a word cell.
 #[unsafe(no_mangle)]
 pub extern "C" fn metronome_get(heap: &mut Metronome, mutator: u32, obj: u32, i: u32) -> Answer
-    ensures { Steps (held_in heap.old) mutator (commands.Get obj i) (held_in heap.new) result }
+    ensures { Answers (held_in heap.old) mutator (commands.Get obj i) (held_in heap.new) result }
 {
-    heap.answer(|inner| inner.get(mutator, obj, i))
+    heap.answer(
+        mutator,
+        move || Command::Get { obj, i },
+        move |own| own.get(mutator, obj, i),
+        move |shared| shared.get(mutator, obj, i),
+    )
 }
 
 /// Writes a word cell.
@@ -108,9 +133,14 @@ pub extern "C" fn metronome_put(
     i: u32,
     word: u64,
 ) -> Answer
-    ensures { Steps (held_in heap.old) mutator (commands.Put obj i word) (held_in heap.new) result }
+    ensures { Answers (held_in heap.old) mutator (commands.Put obj i word) (held_in heap.new) result }
 {
-    heap.answer(|inner| inner.put(mutator, obj, i, word))
+    heap.answer(
+        mutator,
+        move || Command::Put { obj, i, word },
+        move |own| own.put(mutator, obj, i, word),
+        move |shared| shared.put(mutator, obj, i, word),
+    )
 }
 
 /// Writes a word cell, if that is old.
@@ -123,25 +153,40 @@ pub extern "C" fn metronome_compare_put(
     old: u64,
     new: u64,
 ) -> Answer
-    ensures { Steps (held_in heap.old) mutator (commands.ComparePut obj i old new) (held_in heap.new) result }
+    ensures { Answers (held_in heap.old) mutator (commands.ComparePut obj i old new) (held_in heap.new) result }
 {
-    heap.answer(|inner| inner.compare_put(mutator, obj, i, old, new))
+    heap.answer(
+        mutator,
+        move || Command::ComparePut { obj, i, old, new },
+        move |own| own.compare_put(mutator, obj, i, old, new),
+        move |shared| shared.compare_put(mutator, obj, i, old, new),
+    )
 }
 
 /// Copies slot src to slot dst.
 #[unsafe(no_mangle)]
 pub extern "C" fn metronome_copy(heap: &mut Metronome, mutator: u32, dst: u32, src: u32) -> Answer
-    ensures { Steps (held_in heap.old) mutator (commands.Copy dst src) (held_in heap.new) result }
+    ensures { Answers (held_in heap.old) mutator (commands.Copy dst src) (held_in heap.new) result }
 {
-    heap.answer(|inner| inner.copy(mutator, dst, src))
+    heap.answer(
+        mutator,
+        move || Command::Copy { dst, src },
+        move |own| own.copy(mutator, dst, src),
+        move |shared| shared.copy(mutator, dst, src),
+    )
 }
 
 /// Sets slot dst to null.
 #[unsafe(no_mangle)]
 pub extern "C" fn metronome_clear(heap: &mut Metronome, mutator: u32, dst: u32) -> Answer
-    ensures { Steps (held_in heap.old) mutator (commands.Clear dst) (held_in heap.new) result }
+    ensures { Answers (held_in heap.old) mutator (commands.Clear dst) (held_in heap.new) result }
 {
-    heap.answer(|inner| inner.clear(mutator, dst))
+    heap.answer(
+        mutator,
+        move || Command::Clear { dst },
+        move |own| own.clear(mutator, dst),
+        move |shared| shared.clear(mutator, dst),
+    )
 }
 
 /// Loads static k into slot dst.
@@ -152,9 +197,14 @@ pub extern "C" fn metronome_load_static(
     dst: u32,
     k: u32,
 ) -> Answer
-    ensures { Steps (held_in heap.old) mutator (commands.LoadStatic dst k) (held_in heap.new) result }
+    ensures { Answers (held_in heap.old) mutator (commands.LoadStatic dst k) (held_in heap.new) result }
 {
-    heap.answer(|inner| inner.load_static(mutator, dst, k))
+    heap.answer(
+        mutator,
+        move || Command::LoadStatic { dst, k },
+        move |own| own.load_static(mutator, dst, k),
+        move |shared| shared.load_static(mutator, dst, k),
+    )
 }
 
 /// Stores slot src in static k.
@@ -165,9 +215,14 @@ pub extern "C" fn metronome_store_static(
     k: u32,
     src: u32,
 ) -> Answer
-    ensures { Steps (held_in heap.old) mutator (commands.StoreStatic k src) (held_in heap.new) result }
+    ensures { Answers (held_in heap.old) mutator (commands.StoreStatic k src) (held_in heap.new) result }
 {
-    heap.answer(|inner| inner.store_static(mutator, k, src))
+    heap.answer(
+        mutator,
+        move || Command::StoreStatic { k, src },
+        move |own| own.store_static(mutator, k, src),
+        move |shared| shared.store_static(mutator, k, src),
+    )
 }
 
 /// Stores slot new in static k, if the static holds the object of slot expect.
@@ -179,17 +234,27 @@ pub extern "C" fn metronome_compare_static(
     expect: u32,
     new: u32,
 ) -> Answer
-    ensures { Steps (held_in heap.old) mutator (commands.CompareStatic k expect new) (held_in heap.new) result }
+    ensures { Answers (held_in heap.old) mutator (commands.CompareStatic k expect new) (held_in heap.new) result }
 {
-    heap.answer(|inner| inner.compare_static(mutator, k, expect, new))
+    heap.answer(
+        mutator,
+        move || Command::CompareStatic { k, expect, new },
+        move |own| own.compare_static(mutator, k, expect, new),
+        move |shared| shared.compare_static(mutator, k, expect, new),
+    )
 }
 
 /// Returns whether slots a and b hold the same object, or both null.
 #[unsafe(no_mangle)]
 pub extern "C" fn metronome_same(heap: &mut Metronome, mutator: u32, a: u32, b: u32) -> Answer
-    ensures { Steps (held_in heap.old) mutator (commands.Same a b) (held_in heap.new) result }
+    ensures { Answers (held_in heap.old) mutator (commands.Same a b) (held_in heap.new) result }
 {
-    heap.answer(|inner| inner.same(mutator, a, b))
+    heap.answer(
+        mutator,
+        move || Command::Same { a, b },
+        move |own| own.same(mutator, a, b),
+        move |shared| shared.same(mutator, a, b),
+    )
 }
 
 /// Returns the identity of slot a's object, and stores its shape.
@@ -200,24 +265,33 @@ pub extern "C" fn metronome_describe(
     a: u32,
     shape: &mut MetronomeShape,
 ) -> Answer
-    ensures steps { Steps (held_in heap.old) mutator (commands.Describe a) (held_in heap.new) result }
-    ensures shape { TellsShape (held_in heap.old) mutator (commands.Describe a) shape.old shape.new }
+    ensures { Describes (held_in heap.old) mutator (commands.Describe a) (held_in heap.new) (shape.old, shape.new) result }
 {
-    heap.told_with_shape(shape, |inner| inner.describe(mutator, a))
+    heap.describe(mutator, a, shape)
 }
 
 /// Makes the mutator live.
 #[unsafe(no_mangle)]
 pub extern "C" fn metronome_join(heap: &mut Metronome, mutator: u32) -> Answer
-    ensures { Steps (held_in heap.old) mutator commands.Join (held_in heap.new) result }
+    ensures { Answers (held_in heap.old) mutator commands.Join (held_in heap.new) result }
 {
-    heap.answer(|inner| inner.join(mutator))
+    heap.answer(
+        mutator,
+        move || Command::Join,
+        move |own| own.join(mutator),
+        move |shared| shared.join(mutator),
+    )
 }
 
 /// Sets each slot of the mutator to null. It is then no longer live.
 #[unsafe(no_mangle)]
 pub extern "C" fn metronome_leave(heap: &mut Metronome, mutator: u32) -> Answer
-    ensures { Steps (held_in heap.old) mutator commands.Leave (held_in heap.new) result }
+    ensures { Answers (held_in heap.old) mutator commands.Leave (held_in heap.new) result }
 {
-    heap.answer(|inner| inner.leave(mutator))
+    heap.answer(
+        mutator,
+        move || Command::Leave,
+        move |own| own.leave(mutator),
+        move |shared| shared.leave(mutator),
+    )
 }

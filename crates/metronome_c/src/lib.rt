@@ -1,4 +1,4 @@
-//! The heap for C: a handle that C holds, and one function for each thing that can be asked of a heap.
+//! The heap for C: a handle of a heap of its own or of a member of a shared one, and one function for each call on it.
 #![tactic(auto)]
 
 mod answer;
@@ -7,6 +7,7 @@ mod bulk_calls;
 mod checking;
 mod collector;
 mod commands;
+mod entry;
 mod figures;
 mod handle;
 mod held;
@@ -16,11 +17,16 @@ mod lifetime;
 mod limit;
 mod metronome;
 mod object_words;
+mod own_heap;
+mod own_lists;
 mod page;
 mod phase;
 mod planning;
 mod preparing;
-mod seats;
+mod replying;
+mod seated;
+mod sharing;
+mod sharing_laws;
 mod status;
 mod text;
 mod touching;

@@ -2,11 +2,11 @@
 ghost use Rattle.std.specs.Prelude.{◌≡◌, ◌≢◌};
 ghost use Rattle.metronome_c.specs.declared.status.Status.TheVariants.{OtherVersion};
 ghost use Rattle.metronome_c.specs.Opened.{held_in};
-ghost use Rattle.metronome_c.specs.Lifetime.{IsMadeOf, Creates, Destroys};
+ghost use Rattle.metronome_c.specs.Lifetime.{IsOwnOf, Creates, Destroys};
 ghost use Rattle.metronome_c.specs.Status.{status_number};
 
-use crate::held::Held;
 use crate::metronome::Metronome;
+use crate::own_heap::OwnHeap;
 use crate::status::Status;
 use crate::text::VERSION;
 use machine::Heap;
@@ -21,8 +21,8 @@ pub extern "C" fn metronome_create_for(
     settings: &Settings,
     version: u32,
 ) -> u32
-    ensures same { version ≡ 2 → Creates IsMadeOf (held_in heap.old) settings.now (held_in heap.new) result }
-    ensures other { version ≢ 2 → (held_in heap.new ≡ held_in heap.old) × (result ≡ status_number OtherVersion) }
+    ensures same { version ≡ 3 → Creates IsOwnOf (held_in heap.old) settings.now (held_in heap.new) result }
+    ensures other { version ≢ 3 → (held_in heap.new ≡ held_in heap.old) × (result ≡ status_number OtherVersion) }
 {
     if version != VERSION {
         return Status::OtherVersion.number();
@@ -30,9 +30,9 @@ pub extern "C" fn metronome_create_for(
     create(heap, settings)
 }
 
-/// Makes a heap of these settings, if the handle is closed.
+/// Makes a heap of its own of these settings, if the handle is closed.
 fn create(heap: &mut Metronome, settings: &Settings) -> u32
-    ensures { Creates IsMadeOf (held_in heap.old) settings.now (held_in heap.new) result }
+    ensures { Creates IsOwnOf (held_in heap.old) settings.now (held_in heap.new) result }
 {
     if heap.is_open() {
         return Status::Open.number();
@@ -44,29 +44,28 @@ fn create(heap: &mut Metronome, settings: &Settings) -> u32
         Ok(config) => config,
         Err(fault) => return Status::of_fault(fault).number(),
     };
-    let alloc = heap.alloc;
-    let Ok(made) = Heap::new(alloc, &config) else {
+    let Ok(made) = Heap::new(heap.alloc, &config) else {
         return Status::NoMemory.number();
     };
-    let held = Held {
+    let own = OwnHeap {
         heap: made,
         config,
         pacer: None,
         cycles: Cycles::NONE,
     };
-    let Ok(boxed) = Box::new(alloc, held) else {
-        return Status::NoMemory.number();
-    };
-    heap.put(boxed);
-    Status::Done.number()
+    match heap.hold_own(own) {
+        Ok(()) => Status::Done.number(),
+        Err(_) => Status::NoMemory.number(),
+    }
 }
 
-/// Gives the memory of a heap back. If the handle holds none, nothing is done.
+/// Gives up the heap, or the member with its turn. The memory of a shared heap is given back with its last member. If the handle
+/// holds nothing, nothing is done.
 #[unsafe(no_mangle)]
 pub extern "C" fn metronome_destroy(heap: &mut Metronome)
     ensures { Destroys (held_in heap.old) (held_in heap.new) }
 {
     if heap.is_open() {
-        drop(heap.take());
+        heap.take().end();
     }
 }

@@ -1,45 +1,45 @@
-//! The struct that C holds: a heap, or none.
-ghost use Rattle.std.specs.Prelude.{◌≡◌, ◌==◌, Some, None, IsSome};
+//! The struct that C holds: a heap of its own, a member of a heap that threads share, or nothing.
+ghost use Rattle.std.specs.Prelude.{◌≡◌, ◌==◌, Some, None, IsSome, MatchResult, Ok};
 ghost use Rattle.std.specs.Option.{is_some};
-ghost use Rattle.std.specs.Fn.{FnOnceReturnsAtMut};
-ghost use Rattle.metronome_c.specs.declared.metronome.TheConstants.{CHECK_WORD};
-ghost use Rattle.std.specs.Prelude.{◌≤◌, length, take, drop, IfOk, IfErr};
-ghost use Rattle.graph_heap.specs.declared.command.TheConstants.{PLAIN_CELLS};
-ghost use Rattle.bulk.specs.InOrder.{DoesWith, words_told};
-ghost use Rattle.bulk.specs.Lists.{gets};
-ghost use Rattle.paced.specs.Pacing.{shape_words};
-ghost use Rattle.metronome_c.specs.Held.{is_kept};
-ghost use Rattle.graph_heap.specs.declared.command.Command.TheVariants as commands;
-ghost use Rattle.metronome_c.specs.Steps.{Makes, Steps};
-ghost use Rattle.metronome_c.specs.Asking.{Asks, AsksHeap, AsksPaying, AsksTold, AsksToldWithShape};
+ghost use Rattle.std.specs.Fn.{FnOnceReturnsAt, FnOnceReturnsAtMut};
+ghost use Rattle.metronome_c.specs.declared.held.Held.TheVariants as holds;
+ghost use Rattle.metronome_c.specs.declared.metronome.TheConstants.{OWN_CHECK_WORD, SHARED_CHECK_WORD};
+ghost use Rattle.metronome_c.specs.Either.{AsksEither, Looks};
+ghost use Rattle.metronome_c.specs.Either.{holds_own, holds_shared};
 
-use crate::answer::{Answer, MetronomeShape};
 use crate::handle::{Handle, Loose};
 use crate::held::Held;
+use crate::own_heap::OwnHeap;
+use crate::seated::Seated;
 use crate::status::Status;
-use bulk::Progress;
-use graph_heap::{Reply, Shape};
+use graph_heap::NoMemory;
+use heap_shared::Member;
 use machine::Heap;
-use std::alloc::Global;
+use std::alloc::{AllocFailed, Global};
 use std::mem::replace;
 
-/// The check word of a handle that holds a heap. That of a closed one is 0, and a struct with another one is no handle.
-const CHECK_WORD: u64 = 5_567_949_226_808_069_965;
+/// The check word of a handle that holds a heap of its own. That of a closed one is 0, and a struct with any other word is no
+/// handle, unless it is that of a member.
+pub(crate) const OWN_CHECK_WORD: u64 = 5_567_949_226_808_069_965;
 
-/// A heap, or none, as C holds it. All zeros hold none.
+/// The check word of a handle that holds a member of a shared heap.
+pub(crate) const SHARED_CHECK_WORD: u64 = 5_567_949_226_874_585_428;
+
+/// A heap of its own, a member of a shared heap, or nothing, as C holds it. The check word tells which. All zeros hold nothing.
 #[repr(C)]
 #[derive(Drop)]
 pub struct Metronome {
     pub handle: Handle,
     pub(crate) alloc: Global,
     pub check: u64,
-    ghost tied: { (check == CHECK_WORD) ≡ is_some handle.value },
+    ghost own: { (check == OWN_CHECK_WORD) ≡ holds_own handle.value },
+    ghost shared: { (check == SHARED_CHECK_WORD) ≡ holds_shared handle.value },
 }
 
 impl Metronome {
     ghost use Rattle.metronome_c.specs.Opened.{absence, held_in};
 
-    /// Returns a struct that holds no heap.
+    /// Returns a struct that holds nothing.
     pub(crate) fn closed(alloc: Global) -> Metronome
         ensures value { result.handle.value ≡ None }
         ensures check { result.check ≡ 0 }
@@ -51,12 +51,28 @@ impl Metronome {
         }
     }
 
-    /// Returns whether it holds a heap.
+    /// Returns whether it holds a heap of its own.
+    #[inline(always)]
+    pub(crate) fn is_own(&self) -> bool
+        ensures { result ≡ holds_own self.now.handle.value }
+    {
+        self.check == OWN_CHECK_WORD
+    }
+
+    /// Returns whether it holds a member of a shared heap.
+    #[inline(always)]
+    pub(crate) fn is_shared(&self) -> bool
+        ensures { result ≡ holds_shared self.now.handle.value }
+    {
+        self.check == SHARED_CHECK_WORD
+    }
+
+    /// Returns whether it holds either.
     #[inline(always)]
     pub(crate) fn is_open(&self) -> bool
         ensures { result ≡ is_some self.now.handle.value }
     {
-        self.check == CHECK_WORD
+        self.is_own() || self.is_shared()
     }
 
     /// Returns whether its check word is that of a closed handle.
@@ -66,8 +82,8 @@ impl Metronome {
         self.check == 0
     }
 
-    /// Returns why it holds no heap, if it holds none.
-    fn why_empty(&self) -> Status
+    /// Returns why it holds nothing, if it holds nothing.
+    pub(crate) fn why_empty(&self) -> Status
         ensures { result ≡ absence (self.now.check == 0) }
     {
         if self.check == 0 {
@@ -77,167 +93,98 @@ impl Metronome {
         }
     }
 
-    /// Holds this heap.
-    #[inline(always)]
-    pub(crate) fn put(&mut self, held: Box<Held>)
-        ensures { self.new.handle.value ≡ Some held.value }
+    /// Holds this heap. If there is no memory for its box, nothing changes.
+    pub(crate) fn hold_own(&mut self, own: OwnHeap) -> Result<(), NoMemory>
+        ensures { MatchResult result (λ _. self.new.handle.value ≡ Some (holds.Own own)) (λ _. self.new ≡ self.old) }
     {
-        *self = Metronome {
-            handle: Handle::shut(Loose::from_box(held)),
-            alloc: self.alloc,
-            check: CHECK_WORD,
+        let Ok(boxed) = Box::new(self.alloc, Held::Own(own)) else {
+            return Err(NoMemory);
         };
+        *self = Metronome {
+            handle: Handle::shut(Loose::from_box(boxed)),
+            alloc: self.alloc,
+            check: OWN_CHECK_WORD,
+        };
+        Ok(())
     }
 
-    /// Returns the heap. None is left.
-    #[inline(always)]
-    pub(crate) fn take(&mut self) -> Box<Held>
+    /// Holds this member. If there is no memory for its box, the member comes back, and nothing changes.
+    pub(crate) fn hold_shared(&mut self, member: Member) -> Result<(), Member>
+        ensures { MatchResult result (λ _. self.new.handle.value ≡ Some (holds.Shared member))
+            (λ back. (back ≡ member) × (self.new ≡ self.old)) }
+    {
+        let boxed = match Box::new(self.alloc, Held::Shared(Seated::new(member))) {
+            Ok(boxed) => boxed,
+            Err(AllocFailed { value }) => return Err(value.into_member()),
+        };
+        *self = Metronome {
+            handle: Handle::shut(Loose::from_box(boxed)),
+            alloc: self.alloc,
+            check: SHARED_CHECK_WORD,
+        };
+        Ok(())
+    }
+
+    /// Returns its content. Nothing is left.
+    pub(crate) fn take(&mut self) -> Held
         requires { IsSome self.old.handle.value }
-        ensures value { self.old.handle.value ≡ Some result.value }
+        ensures value { self.old.handle.value ≡ Some result }
         ensures left { self.new.handle.value ≡ None }
         ensures check { self.new.check ≡ 0 }
     {
         let closed = Metronome::closed(self.alloc);
         let Metronome { handle, .. } = replace(self, closed);
-        handle.open().into_box()
+        Box::into_inner(handle.open().into_box())
     }
 
-    /// Asks the heap, if there is one.
+    /// Asks the heap of its own, or the member, if there is either.
     #[inline(always)]
-    pub(crate) fn ask<T, F: FnOnce(&mut Heap) -> T + Drop>(&mut self, call: F) -> Result<T, Status>
-        requires { F.IsAlwaysCallable call }
-        ensures { AsksHeap (FnOnceReturnsAtMut F.FnOnce call) (held_in self.old) result (held_in self.new) }
-    {
-        if !self.is_open() {
-            return Err(self.why_empty());
-        }
-        Ok(call(&mut self.handle.lend().heap))
-    }
-
-    /// Asks the holder of the heap, which has its plan too, if there is one.
-    pub(crate) fn ask_held<T, F: FnOnce(&mut Held) -> T + Drop>(
+    pub(crate) fn ask<T, F: FnOnce(&mut OwnHeap) -> T + Drop, G: FnOnce(&mut Member) -> T + Drop>(
         &mut self,
-        call: F,
+        own: F,
+        shared: G,
     ) -> Result<T, Status>
-        requires { F.IsAlwaysCallable call }
-        ensures { Asks (FnOnceReturnsAtMut F.FnOnce call) (held_in self.old) result (held_in self.new) }
-    {
-        if !self.is_open() {
-            return Err(self.why_empty());
-        }
-        Ok(call(self.handle.lend()))
-    }
-
-    /// Asks the heap, if there is one, with a call that makes an object of a shape. If a plan is kept, its words are paid for first.
-    #[inline(always)]
-    pub(crate) fn ask_paying<T, F: FnOnce(&mut Heap) -> T + Drop>(
-        &mut self,
-        shape: Shape,
-        call: F,
-    ) -> Result<T, Status>
-        requires { F.IsAlwaysCallable call }
-        ensures { AsksPaying (shape_words shape) (FnOnceReturnsAtMut F.FnOnce call) (held_in self.old) result
+        requires own { F.IsAlwaysCallable own }
+        requires shared { G.IsAlwaysCallable shared }
+        ensures { AsksEither (FnOnceReturnsAtMut F.FnOnce own) (FnOnceReturnsAtMut G.FnOnce shared) (held_in self.old) result
             (held_in self.new) }
     {
-        if !self.is_open() {
+        if self.is_own() {
+            return match self.handle.lend() {
+                Held::Own(heap) => Ok(own(heap)),
+                Held::Shared(_) => unreachable!(),
+            };
+        }
+        if !self.is_shared() {
             return Err(self.why_empty());
         }
-        let held = self.handle.lend();
-        if !held.pays(shape) {
-            return Err(Status::AbovePlan);
+        match self.handle.lend() {
+            Held::Own(_) => unreachable!(),
+            Held::Shared(seated) => Ok(shared(seated.member())),
         }
-        Ok(call(&mut held.heap))
     }
 
-    /// Returns whether it holds a heap that keeps a plan.
-    #[inline(always)]
-    pub(crate) fn keeps_plan(&mut self) -> bool
-        ensures keeps { result ≡ is_kept (held_in self.old) }
+    /// Looks at the heap, if it has the turn.
+    pub(crate) fn inspect<T, F: FnOnce(&Heap) -> T + Drop>(&mut self, look: F) -> Result<T, Status>
+        requires { F.IsAlwaysCallable look }
         ensures same { held_in self.new ≡ held_in self.old }
+        ensures looks { Looks (FnOnceReturnsAt F.FnOnce look) (held_in self.old) result }
     {
-        if !self.is_open() {
-            return false;
+        if self.is_own() {
+            return match self.handle.lend() {
+                Held::Own(own) => Ok(look(&own.heap)),
+                Held::Shared(_) => unreachable!(),
+            };
         }
-        self.handle.lend().pacer.is_some()
-    }
-
-    /// Makes an object of a shape in the heap, if there is one, once its words were paid for, if a plan is kept. It is out of
-    /// the way of heaps that keep none.
-    #[cold]
-    #[inline(never)]
-    pub(crate) fn make_kept(&mut self, mutator: u32, dst: u32, shape: Shape) -> Answer
-        ensures { Makes (held_in self.old) mutator (commands.New dst shape) (held_in self.new) result }
-    {
-        Answer::from_outcome(self.ask_paying(shape, |inner| inner.make(mutator, dst, shape)))
-    }
-
-    /// Makes an object of a shape in the heap, if there is one, and nothing is paid for. It is no closure's call, so that it is
-    /// written into each function that makes objects of one kind.
-    #[inline(always)]
-    fn make_unpaid(&mut self, mutator: u32, dst: u32, shape: Shape) -> Answer
-        ensures { Steps (held_in self.old) mutator (commands.New dst shape) (held_in self.new) result }
-    {
-        if !self.is_open() {
-            return Answer::from_outcome(Err(self.why_empty()));
-        }
-        let reply = self.handle.lend().heap.make(mutator, dst, shape);
-        Answer::from_outcome(Ok(reply))
-    }
-
-    /// Makes an object of a shape in the heap, if there is one. If a plan is kept, its words are paid for first.
-    #[inline(always)]
-    pub(crate) fn make(&mut self, mutator: u32, dst: u32, shape: Shape) -> Answer
-        ensures { Makes (held_in self.old) mutator (commands.New dst shape) (held_in self.new) result }
-    {
-        if self.keeps_plan() {
-            return self.make_kept(mutator, dst, shape);
-        }
-        self.make_unpaid(mutator, dst, shape)
-    }
-
-    /// Asks the heap for a reply, if there is one, and tells it.
-    #[inline(always)]
-    pub(crate) fn answer<F: FnOnce(&mut Heap) -> Reply + Drop>(&mut self, call: F) -> Answer
-        requires { F.IsAlwaysCallable call }
-        ensures { AsksTold (FnOnceReturnsAtMut F.FnOnce call) (held_in self.old) (held_in self.new) result }
-    {
-        Answer::from_outcome(self.ask(call))
-    }
-
-    /// Does the same, and stores the shape that the reply tells.
-    pub(crate) fn told_with_shape<F: FnOnce(&mut Heap) -> Reply + Drop>(
-        &mut self,
-        shape: &mut MetronomeShape,
-        call: F,
-    ) -> Answer
-        requires { F.IsAlwaysCallable call }
-        ensures { AsksToldWithShape (FnOnceReturnsAtMut F.FnOnce call) (held_in self.old)
-            (held_in self.new) result shape.old
-            shape.new }
-    {
-        let reply = self.ask(call);
-        *shape = shape.told_by(reply);
-        Answer::from_outcome(reply)
-    }
-
-    /// Reads words of an object of the heap, if there is one, as `bulk::get_words` does.
-    #[inline(always)]
-    pub(crate) fn read_words(
-        &mut self,
-        mutator: u32,
-        obj: u32,
-        first: u32,
-        words: &mut [u64],
-    ) -> Result<Progress, Status>
-        requires { length words.old ≤ PLAIN_CELLS }
-        ensures asks { AsksHeap (λ h p k. DoesWith h mutator (gets obj first (length words.old))
-            (words_told (take p.done words.new)) p k) (held_in self.old) result (held_in self.new) }
-        ensures rest { IfOk result (λ p. drop p.done words.new ≡ drop p.done words.old) }
-        ensures same { IfErr result (λ why. words.new ≡ words.old) }
-    {
-        if !self.is_open() {
+        if !self.is_shared() {
             return Err(self.why_empty());
         }
-        Ok(bulk::get_words(&mut self.handle.lend().heap, mutator, obj, first, words))
+        match self.handle.lend() {
+            Held::Own(_) => unreachable!(),
+            Held::Shared(seated) => match seated.member().inspect(look) {
+                Some(found) => Ok(found),
+                None => Err(Status::Outside),
+            },
+        }
     }
 }

@@ -47,10 +47,10 @@ pub extern "C" fn metronome_page(
     number: usize,
     page: &mut MetronomePage,
 ) -> u32
-    ensures { Tells (page_of number) (held_in heap.old) (held_in heap.new) page.old page.new result }
+    ensures { Tells (page_of number) (held_in heap.old) (held_in heap.new) (page.old, page.new) result }
 {
     tell(
         page,
-        heap.ask(|inner| MetronomePage::from_heap(inner, number)),
+        heap.inspect(|inner| MetronomePage::from_heap(inner, number)),
     )
 }

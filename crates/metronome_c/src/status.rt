@@ -1,5 +1,6 @@
 //! The outcomes of calls, and their numbers.
 ghost use Rattle.std.specs.Prelude.{◌≡◌};
+ghost use Rattle.metronome_c.specs.Asking.{status_of};
 ghost use Rattle.metronome_c.specs.Status as statuses;
 ghost use Rattle.metronome_c.specs.Status.{status_number, status_numbered, fault_status};
 ghost use Rattle.metronome_c.specs.Status.{no_turn_status, not_done_status, no_member_status};
@@ -29,13 +30,13 @@ pub enum Status {
     SettingOutOfRange(Key),
     /// The program was built for another version of this interface.
     OtherVersion,
-    /// Another seat has the turn.
+    /// Another handle has the turn.
     Taken,
-    /// The seat has the turn already.
+    /// The handle has the turn already.
     Inside,
-    /// The seat doesn't have the turn.
+    /// The handle doesn't have the turn.
     Outside,
-    /// The mutator isn't one of the seat's.
+    /// The mutator is another handle's.
     NotYours,
     /// No plan fits in a heap of the settings, or in this heap as it is.
     NoPlan,
@@ -47,6 +48,12 @@ pub enum Status {
     SlotsUsed,
     /// The root is one of another mutator. No call returns it, but code over the calls does.
     OtherMutator,
+    /// The call is for shared heaps, and this one isn't shared.
+    NotShared,
+    /// The call is for heaps that aren't shared, and this one is.
+    IsShared,
+    /// The call is for shared heaps at which no event was done yet.
+    InUse,
 }
 
 /// Returns the place of a key among the settings, from 0.
@@ -80,7 +87,7 @@ impl Status {
     ];
 
     /// Those behind the settings out of their ranges, in the order of their numbers.
-    pub const BEHIND_SETTINGS: [Status; 10] = [
+    pub const BEHIND_SETTINGS: [Status; 13] = [
         Status::OtherVersion,
         Status::Taken,
         Status::Inside,
@@ -91,6 +98,9 @@ impl Status {
         Status::NoMutator,
         Status::SlotsUsed,
         Status::OtherMutator,
+        Status::NotShared,
+        Status::IsShared,
+        Status::InUse,
     ];
 
     /// Returns the number by which C is told.
@@ -118,6 +128,9 @@ impl Status {
             Status::NoMutator => 48,
             Status::SlotsUsed => 49,
             Status::OtherMutator => 50,
+            Status::NotShared => 51,
+            Status::IsShared => 52,
+            Status::InUse => 53,
         }
     }
 
@@ -132,6 +145,16 @@ impl Status {
             .chain(settings)
             .chain(Status::BEHIND_SETTINGS.iter().copied())
             .find(|status| status.number() == number)
+    }
+
+    /// Returns the status of success, or why there is none.
+    pub(crate) fn of_outcome(outcome: Result<(), Status>) -> Status
+        ensures { result ≡ status_of outcome }
+    {
+        match outcome {
+            Ok(()) => Status::Done,
+            Err(why) => why,
+        }
     }
 
     /// Returns the status of a fault of a configuration.
@@ -201,15 +224,18 @@ impl Status {
             Status::BadHandle => "this is no handle",
             Status::SettingOutOfRange(key) => setting_text(key),
             Status::OtherVersion => "the program was built for another version",
-            Status::Taken => "another seat has the turn",
-            Status::Inside => "the seat has the turn",
-            Status::Outside => "the seat hasn't the turn",
-            Status::NotYours => "the mutator isn't the seat's",
+            Status::Taken => "another handle has the turn",
+            Status::Inside => "the handle has the turn",
+            Status::Outside => "the handle doesn't have the turn",
+            Status::NotYours => "the mutator is another handle's",
             Status::NoPlan => "no plan fits",
             Status::AbovePlan => "the object is above the plan",
             Status::NoMutator => "no such mutator",
             Status::SlotsUsed => "all slots are used",
             Status::OtherMutator => "the root is another mutator's",
+            Status::NotShared => "the heap isn't shared",
+            Status::IsShared => "the heap is shared",
+            Status::InUse => "the heap is in use",
         }
     }
 }

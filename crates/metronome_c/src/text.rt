@@ -6,7 +6,7 @@ ghost use Rattle.metronome_c.specs.Text.{with_text};
 use crate::status::Status;
 
 /// The version of this interface. Another number means that programs have to be compiled anew.
-pub(crate) const VERSION: u32 = 2;
+pub(crate) const VERSION: u32 = 3;
 
 /// Returns the text of a number.
 fn text_of_number(number: u32) -> &'static str
@@ -44,7 +44,7 @@ pub extern "C" fn metronome_text_into(status: u32, text: &mut [u8]) -> usize
 /// The version of this interface.
 #[unsafe(no_mangle)]
 pub extern "C" fn metronome_version() -> u32
-    ensures { result ≡ 2 }
+    ensures { result ≡ 3 }
 {
     VERSION
 }

@@ -1,6 +1,6 @@
 /*
- * heap_planned.h: the memory of the Lisp on this heap, which keeps a plan. heap.h includes it. A recorded heap goes by a pace
- * instead, since the work for a plan isn't recorded.
+ * heap_planned.h: the memory of the Lisp on this heap, which keeps a plan. heap.h includes it. If the program is built with
+ * -DRECORDED, its heap is a shared one, whose turn it keeps, and which is recorded into lisp.toml, lisp.trace and lisp.history.
  */
 #ifndef HEAP_PLANNED_H
 #define HEAP_PLANNED_H
@@ -9,16 +9,13 @@
 #define RECORDED 0
 #endif
 
-#if RECORDED
 #include "metronome_record.h"
-#else
-#include "metronome.h"
-#endif
 
 enum { IS_RECORDED = RECORDED };
 
-/* LIVE is the most words that may be live when a cycle begins. The last slot of each mutator is for an object that is made. */
-enum { PAGES = 256, LIVE = 60000, MUTATORS = 32, BUDGET = 1000, OF_ROW = 255, NEW = OF_ROW, SLOTS };
+/* LIVE is the most words that may be live when a cycle begins. The last slot of each mutator is for an object that is made. From
+ * one new object to the next there are at most LOG events. */
+enum { PAGES = 256, LIVE = 60000, MUTATORS = 32, OF_ROW = 255, NEW = OF_ROW, SLOTS, LOG = 1 << 16 };
 
 static const char *const MEMORY = "this heap";
 
@@ -27,6 +24,7 @@ typedef metronome_frame frame;
 typedef metronome_row root_row;
 
 extern metronome heap;
+extern metronome_recording recording;
 
 /* The row of slots that is used now, of one mutator. Deeper evaluations use those of the next mutator. */
 extern metronome_row row;
@@ -53,13 +51,26 @@ static inline void open_heap(void) {
     metronome_settings settings = METRONOME_SETTINGS_MOVING(PAGES, MUTATORS, SLOTS);
     metronome_flow plan;
     settings.statics = STATICS;
-    need(metronome_create(&heap, &settings));
-    if (IS_RECORDED) return;
     need(metronome_plan(&settings, LIVE, &plan));
-    need(metronome_keep(&heap, &plan));
+    if (IS_RECORDED) {
+        metronome_record_begin(&recording, &settings, fopen("lisp.toml", "w"), fopen("lisp.trace", "w"), fopen("lisp.history", "w"));
+        need(metronome_create_shared_kept(&heap, &settings, LOG, &plan));
+        need(metronome_enter(&heap));
+    } else {
+        need(metronome_create(&heap, &settings));
+        need(metronome_keep(&heap, &plan));
+    }
 }
 
-static inline void close_heap(void) { metronome_destroy(&heap); }
+/* Records the events that are new, if the heap is recorded. */
+static inline void record(void) {
+    if (IS_RECORDED && (!metronome_record(&recording, &heap) || recording.lost > 0)) fail("the heap isn't recorded");
+}
+
+static inline void close_heap(void) {
+    record();
+    metronome_destroy(&heap);
+}
 
 /* ---- Roots: slots of a row ---- */
 
@@ -116,25 +127,19 @@ static inline void store(root to, uint32_t i, root from) {
     ask(metronome_store(&heap, row.mutator, to, i, from), METRONOME_DONE);
 }
 
-/* Lets the collector of a recorded heap work before an object of `cells` cells. */
-static inline void pace(uint64_t cells) {
-    static metronome_pacing pacing = METRONOME_PACING(PAGES, (BUDGET - 255) / 20, BUDGET);
-    if (IS_RECORDED) need(metronome_pace(&heap, &pacing, cells + 4));
-}
-
 /* Makes an object with `refs` references; the first ones lead to what `count` roots name. *to may be one of these: then the
  * object is made in another slot. */
 static inline void new_object(root *to, enum kind kind, uint64_t number, uint32_t refs, const root *first, uint32_t count) {
     const uint64_t words[] = { kind, number };
     root new = count == 0 ? *to : NEW;
-    pace(refs + 2);
+    record();
     need(metronome_new_with(&heap, row.mutator, new, refs, 2, first, count, words, 2).status);
     if (new != *to) need(metronome_move(&heap, row.mutator, *to, new).status);
 }
 
 /* Makes an object that has only references, as many as are asked for. */
 static inline void new_array(root *to, uint32_t refs) {
-    pace(refs);
+    record();
     ask(metronome_new_refs(&heap, row.mutator, *to, refs), METRONOME_MADE);
 }
 

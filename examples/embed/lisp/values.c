@@ -13,6 +13,7 @@ int are_calls_timed;
 root statics[STATICS];
 #else
 metronome heap = METRONOME_CLOSED;
+metronome_recording recording;
 metronome_row row = METRONOME_ROW(0, 0, OF_ROW);
 #endif
 

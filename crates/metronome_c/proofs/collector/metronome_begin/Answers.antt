@@ -1,7 +1,18 @@
-use Rattle.std.proofs.Common.{rules}
+use Rattle.std.proofs.Common.{rules, ◌≡◌}
+use Rattle.machine.specs.Recorded.{begin_done}
+use Rattle.heap_shared.specs.Members.{DoesInTurn}
+use Rattle.metronome_c.specs.Asking.{status_of}
+use Rattle.metronome_c.specs.Collecting.{BeginsTold, begun_told}
+use Rattle.metronome_c.specs.Status.{status_number}
 use Rattle.metronome_c.proofs.Asking.{asks_so}
 use Rattle.metronome_c.proofs.Beginning.{begins_open}
+use Rattle.metronome_c.proofs.Handles.{asked_either}
+use Rattle.metronome_c.proofs.Members.{member_told}
 use Rattle.metronome_c.proofs.collector.metronome_begin.Goals as goal
 
 pub returns : goal.returns
-returns c = begins_open _ _ _ _ (asks_so _ _ (λ h a k met. search rules) _ _ _ c.ask_held.ensures) (search rules)
+returns c =
+    asked_either _ _ _ _ _ c.ask-found.result _
+    (λ h k asked. begins_open c.ask-found.result c.number.result (search rules) h k (asks_so _ BeginsTold (λ x a y met. search rules) h _ k asked))
+    (λ v w asked. member_told (DoesInTurn begin_done) begun_told (λ found. c.number.result ≡ status_number (status_of found)) c.ask-found.result (search rules) v w (asks_so _ _ (λ x a y met. search rules) v _ w asked))
+    c.ask-found.ensures

@@ -5,7 +5,7 @@ use Rattle.paced.specs.declared.logged.Logged.{Logged}
 use Rattle.paced.specs.declared.logged.Logged.TheVariants as logged
 use Rattle.heap_shared.specs.Past.{PastView, LogView, with_event}
 use Rattle.heap_shared.proofs.Pasts.{next_event}
-use Rattle.heap_shared.proofs.Rings.{kept_on, more_by_one}
+use Rattle.heap_shared.proofs.Rings.{kept_on, more_by_one, never_empty}
 use Rattle.heap_shared.proofs.log.HeapLog.enter_command.Goals as goal
 
 pub invariant_of-self : goal.invariant_of-self
@@ -17,6 +17,7 @@ invariant_of-self c =
     let es = ap (λ (x : PastView). x.events) c.went_on-self-inside.ensures ∙ next_event p e in (
       kept_on c.self.inside.ring.entries ring p.events (logged.Command c.args.mutator c.args.command c.args.reply) c.enter_command.ensures c.self.invariant.0 ∙ ap (keep_last ring.capacity) (sym es),
       more_by_one p.events now.events e _ _ c.self.invariant.1 refl es,
+      never_empty _ _ _ es,
     )
 
 pub returns : goal.returns

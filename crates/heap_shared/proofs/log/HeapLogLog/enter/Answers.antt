@@ -4,7 +4,7 @@ use Rattle.paced.specs.declared.logged.Logged.{Logged}
 use Rattle.paced.specs.Logged.{event_of}
 use Rattle.heap_shared.specs.Past.{PastView, LogView, with_event}
 use Rattle.heap_shared.proofs.Pasts.{next_event}
-use Rattle.heap_shared.proofs.Rings.{kept_on, more_by_one}
+use Rattle.heap_shared.proofs.Rings.{kept_on, more_by_one, never_empty}
 use Rattle.heap_shared.proofs.log.HeapLogLog.enter.Goals as goal
 
 pub invariant_of-self : goal.invariant_of-self
@@ -15,6 +15,7 @@ invariant_of-self c =
     let es = ap (λ (x : PastView). x.events) c.went_on-self-inside.ensures ∙ next_event p (event_of c.args.event) in (
       kept_on c.self.inside.ring.entries ring p.events c.args.event c.enter.ensures c.self.invariant.0 ∙ ap (keep_last ring.capacity) (sym es),
       more_by_one p.events now.events (event_of c.args.event) _ _ c.self.invariant.1 refl es,
+      never_empty _ _ _ es,
     )
 
 pub returns : goal.returns

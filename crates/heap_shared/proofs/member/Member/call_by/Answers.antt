@@ -14,7 +14,7 @@ invariant_of-self g c =
     let high : c.args.mutator < c.self.inside.to = search rules in
     let within : IsWithin known.from known.to c.args.mutator = (omega (arith, i.3, low), omega (arith, i.4, high)) in
     let e = Command_done c.args.mutator c.args.command c.call_by.result in
-    with_last i (gone_by _ _ _ _ _ has i.5 c.slot_mut.ensures.value (e ∷ []) (omega arith) (all_one _ _ e (command_allowed _ _ c.args.mutator c.args.command c.call_by.result within)) c.call_by.ensures.goes)
+    with_last i (gone_by _ _ _ _ _ has i.5 c.slot_mut.ensures.value (e ∷ []) (all_one _ _ e (command_allowed _ _ c.args.mutator c.args.command c.call_by.result within)) c.call_by.ensures.goes)
 
 pub returns : goal.returns
 returns g c =

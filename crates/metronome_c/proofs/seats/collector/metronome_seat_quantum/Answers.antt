@@ -1,9 +1,0 @@
-use Rattle.std.proofs.Common.{rules}
-use Rattle.metronome_c.specs.Figures.{IsTold}
-use Rattle.metronome_c.specs.Seats.{spent_told}
-use Rattle.metronome_c.proofs.Asking.{asks_so}
-use Rattle.metronome_c.proofs.Seating.{asks_seat}
-use Rattle.metronome_c.proofs.seats.collector.metronome_seat_quantum.Goals as goal
-
-pub returns : goal.returns
-returns c = asks_seat _ spent_told (λ found. IsTold found _ _ _) _ _ _ (asks_so _ _ (λ s r k met. search rules) _ _ _ c.ask.ensures) (search rules)

@@ -1,5 +1,0 @@
-use Rattle.metronome_c.proofs.Fitting.{plan_suits}
-use Rattle.metronome_c.proofs.seats.laws.plans_suit_seats.Goals as goal
-
-pub returns : goal.returns
-returns c = λ s live largest told before flow tells done none config is. plan_suits s config is told live largest before flow tells done
